@@ -1,0 +1,67 @@
+-- Demand 3 of the definition's own states: what `Within` says of words, said of instructions, constants and models as lists. Assumes nothing.
+use Prim.Native.Nat.{ℕ, _≤_, _<_}
+use mathlib.Core.Path.{_≡_}
+use mathlib.Core.List.{List}
+use lib.ListN.{length, getD}
+use Rattle.words.specs.Object.{Constant, modelKind, functionKind}
+use Rattle.words.specs.Opcode.{Instruction, toInstruction, nothing, Jump, JumpIf}
+use Rattle.definition.specs.FunctionState.{FunctionState, Entry}
+use Rattle.definition.specs.Compiler.{Work}
+use Rattle.definition.specs.Book.{Context, Function, Model, Method, Assembly}
+use Rattle.definition.specs.Within.{All, InLoop, Loop, loopsOf, breaksOf, Counts, Fits, EntryWithin}
+
+abbrev pub at : List Instruction → ℕ → Instruction
+at l i = getD l i nothing
+
+-- each instruction, with its index
+abbrev pub Each : (ℕ → Instruction → Type 0) → List Instruction → Type 0
+Each P l = (i : ℕ) → i < length l → P i (at l i)
+
+-- a loop that is left: its exit and its breaks land just after it, which is not at 0
+pub record Landed (l : List Instruction) (e : Loop) : Type 0 where
+  pub after-positive : 0 < e .after
+  pub exit-lands : (e .exit < length l) × (at l (e .exit) ≡ toInstruction JumpIf (e .after))
+  pub breaks-land : All (λ b. (b < length l) × (at l b ≡ toInstruction Jump (e .after))) (e .breaks)
+
+-- the counts over a function whose jumps go up to `top`, in a program of K constants and C context locals
+abbrev pub counts : ℕ → ℕ → ℕ → FunctionState → Counts
+counts top K C f = record { top = top; locals = f .localCount; constants = K; context = C; this = f .thisReads }
+
+abbrev pub countsOf : Work → Counts
+countsOf w = counts (length (w .function .instructions)) (length (w .context .constants)) (w .context .localCount) (w .function)
+
+-- one function
+pub record FunctionSafe (K C : ℕ) (f : FunctionState) : Type 0 where
+  pub sized : length (f .positions) ≡ length (f .instructions)
+  pub fits : Each (Fits (counts (length (f .instructions)) K C f)) (f .instructions)
+  pub rescue : f .rescuePosition ≤ length (f .instructions)
+  pub loops : All (Landed (f .instructions)) (loopsOf (f .trace))
+  pub breaks : All (λ b. InLoop b (loopsOf (f .trace))) (breaksOf (f .trace))
+
+abbrev pub Safe : Work → Type 0
+Safe w = FunctionSafe (length (w .context .constants)) (w .context .localCount) (w .function)
+
+-- a model's or a function's constant
+abbrev pub Named : ℕ → ℕ → Constant → Type 0
+Named M F c = (c .kind ≡ modelKind → c .value < M) × (c .kind ≡ functionKind → c .value < F)
+
+-- a context over K constants, C context locals, M models, F functions and A books
+pub record Parts (K C M F A : ℕ) (c : Context) : Type 0 where
+  pub functions : All (λ (f : Function). FunctionSafe K C (f .state) × (f .file < A)) (c .functions)
+  pub constants : All (Named M F) (c .pool .constants)
+  pub globals : All (λ n. n < K) (c .pool .globals)
+  pub models : All (λ (m : Model). m .file < A) (c .models)
+  pub values : All (λ (e : Entry). (e .name < C) × (e .index < K)) (c .localValues)
+  pub names : All (λ (e : Entry). e .index < A) (c .localNames)
+  pub methods : All (λ (m : Method). (m .model < M) × (m .function < F)) (c .methods)
+  pub publics : All (λ (a : Assembly). (a .index < A) × All (λ (e : Entry). e .index < K) (a .publics)) (c .assemblies)
+  pub entry : EntryWithin F (c .entryPoint)
+
+abbrev pub PartsOf : ℕ → Context → Type 0
+PartsOf A c = Parts (length (c .pool .constants)) (c .pool .localCount) (length (c .models)) (length (c .functions)) A c
+
+-- a context that keeps within itself
+pub record ProgramSafe (c : Context) : Type 0 where
+  pub parts : PartsOf (length (c .assemblies)) c
+  pub pool : 3 ≤ length (c .pool .constants)
+  pub counted : length (c .localNames) ≡ c .pool .localCount

@@ -1,0 +1,321 @@
+-- `backend/function_state.rs`: the state of the function under compilation, and its methods under the Rust's names. A method takes the state and gives it back
+use Prim.Native.Nat.{ℕ, zero, suc, _+_, _-_}
+use mathlib.Core.Bool.{Bool, true, false, cond}
+use mathlib.Core.Option.{Option, none, some}
+use mathlib.Core.List.{List, [], _∷_, _++_}
+use lib.ListN.{length, getD, take, set}
+use lib.Dec.{eqb}
+use Rattle.words.specs.Opcode.{Instruction, toInstruction, nothing, Pop, PushConstant, ReturnOp, Jump}
+use Rattle.words.specs.Object.{NULL}
+
+-- a name and its number: an entry of the Rust's `Scope`
+pub record Entry : Type 0 where
+  pub name : ℕ
+  pub index : ℕ
+
+-- ghost: what happened to loops, for demand 3. A 24 was entered; a break's Jump was emitted at an index; the innermost 24 was left, with its exit's
+-- index and the number just after it (01, 'Emission': loop, exit, just after it)
+pub data Event : Type 0 where
+  Entered : Event
+  Broke : ℕ → Event
+  Left : ℕ → ℕ → Event
+
+-- scopes and breakScopes: the innermost first, and in a scope the newest name first. Ghosts: `trace`, the newest event first; `thisReads`, the indices
+-- of the reads of `this`
+pub record FunctionState : Type 0 where
+  pub isInstance : Bool
+  pub parameterCount : ℕ
+  pub localCount : ℕ
+  pub depth : ℕ
+  pub rescuePosition : ℕ
+  pub scopes : List (List Entry)
+  pub breakScopes : List (List ℕ)
+  pub instructions : List Instruction
+  pub positions : List ℕ
+  pub trace : List Event
+  pub thisReads : List ℕ
+
+-- `FunctionState::new`, with its first scope
+abbrev pub newFunctionState : FunctionState
+newFunctionState = record {
+    isInstance = false;
+    parameterCount = 0;
+    localCount = 0;
+    depth = 0;
+    rescuePosition = 0;
+    scopes = [] ∷ [];
+    breakScopes = [];
+    instructions = [];
+    positions = [];
+    trace = [];
+    thisReads = [];
+  }
+
+-- one field anew
+abbrev pub withParameters : Bool → ℕ → FunctionState → FunctionState
+withParameters b n f = record {
+    isInstance = b;
+    parameterCount = n;
+    localCount = f .localCount;
+    depth = f .depth;
+    rescuePosition = f .rescuePosition;
+    scopes = f .scopes;
+    breakScopes = f .breakScopes;
+    instructions = f .instructions;
+    positions = f .positions;
+    trace = f .trace;
+    thisReads = f .thisReads;
+  }
+
+abbrev pub withLocalCount : ℕ → FunctionState → FunctionState
+withLocalCount n f = record {
+    isInstance = f .isInstance;
+    parameterCount = f .parameterCount;
+    localCount = n;
+    depth = f .depth;
+    rescuePosition = f .rescuePosition;
+    scopes = f .scopes;
+    breakScopes = f .breakScopes;
+    instructions = f .instructions;
+    positions = f .positions;
+    trace = f .trace;
+    thisReads = f .thisReads;
+  }
+
+abbrev pub withDepth : ℕ → FunctionState → FunctionState
+withDepth n f = record {
+    isInstance = f .isInstance;
+    parameterCount = f .parameterCount;
+    localCount = f .localCount;
+    depth = n;
+    rescuePosition = f .rescuePosition;
+    scopes = f .scopes;
+    breakScopes = f .breakScopes;
+    instructions = f .instructions;
+    positions = f .positions;
+    trace = f .trace;
+    thisReads = f .thisReads;
+  }
+
+abbrev pub withRescue : ℕ → FunctionState → FunctionState
+withRescue n f = record {
+    isInstance = f .isInstance;
+    parameterCount = f .parameterCount;
+    localCount = f .localCount;
+    depth = f .depth;
+    rescuePosition = n;
+    scopes = f .scopes;
+    breakScopes = f .breakScopes;
+    instructions = f .instructions;
+    positions = f .positions;
+    trace = f .trace;
+    thisReads = f .thisReads;
+  }
+
+abbrev pub withScopes : List (List Entry) → FunctionState → FunctionState
+withScopes s f = record {
+    isInstance = f .isInstance;
+    parameterCount = f .parameterCount;
+    localCount = f .localCount;
+    depth = f .depth;
+    rescuePosition = f .rescuePosition;
+    scopes = s;
+    breakScopes = f .breakScopes;
+    instructions = f .instructions;
+    positions = f .positions;
+    trace = f .trace;
+    thisReads = f .thisReads;
+  }
+
+abbrev pub withBreakScopes : List (List ℕ) → FunctionState → FunctionState
+withBreakScopes s f = record {
+    isInstance = f .isInstance;
+    parameterCount = f .parameterCount;
+    localCount = f .localCount;
+    depth = f .depth;
+    rescuePosition = f .rescuePosition;
+    scopes = f .scopes;
+    breakScopes = s;
+    instructions = f .instructions;
+    positions = f .positions;
+    trace = f .trace;
+    thisReads = f .thisReads;
+  }
+
+abbrev pub withCode : List Instruction → List ℕ → FunctionState → FunctionState
+withCode is ps f = record {
+    isInstance = f .isInstance;
+    parameterCount = f .parameterCount;
+    localCount = f .localCount;
+    depth = f .depth;
+    rescuePosition = f .rescuePosition;
+    scopes = f .scopes;
+    breakScopes = f .breakScopes;
+    instructions = is;
+    positions = ps;
+    trace = f .trace;
+    thisReads = f .thisReads;
+  }
+
+abbrev pub withTrace : List Event → FunctionState → FunctionState
+withTrace t f = record {
+    isInstance = f .isInstance;
+    parameterCount = f .parameterCount;
+    localCount = f .localCount;
+    depth = f .depth;
+    rescuePosition = f .rescuePosition;
+    scopes = f .scopes;
+    breakScopes = f .breakScopes;
+    instructions = f .instructions;
+    positions = f .positions;
+    trace = t;
+    thisReads = f .thisReads;
+  }
+
+abbrev pub withThisReads : List ℕ → FunctionState → FunctionState
+withThisReads l f = record {
+    isInstance = f .isInstance;
+    parameterCount = f .parameterCount;
+    localCount = f .localCount;
+    depth = f .depth;
+    rescuePosition = f .rescuePosition;
+    scopes = f .scopes;
+    breakScopes = f .breakScopes;
+    instructions = f .instructions;
+    positions = f .positions;
+    trace = f .trace;
+    thisReads = l;
+  }
+
+-- the last of a list, and a list without its last
+abbrev pub last : {A : Type 0} → List A → A → A
+last l d = getD l (length l - 1) d
+
+abbrev pub init : {A : Type 0} → List A → List A
+init l = take (length l - 1) l
+
+-- `get_last_position`: `Position::none()` is 0
+abbrev pub getLastPosition : FunctionState → ℕ
+getLastPosition f = last (f .positions) 0
+
+-- `get_next_instruction_index`
+abbrev pub getNextInstructionIndex : FunctionState → ℕ
+getNextInstructionIndex f = length (f .instructions)
+
+-- `emit`, `emit_opcode`, `emit_opcode_without_position`
+abbrev pub emit : Instruction → ℕ → FunctionState → FunctionState
+emit i p f = withCode (f .instructions ++ (i ∷ [])) (f .positions ++ (p ∷ [])) f
+
+abbrev pub emitOpcode : ℕ → ℕ → FunctionState → FunctionState
+emitOpcode o p f = emit (toInstruction o 0) p f
+
+abbrev pub emitOpcodeWithoutPosition : ℕ → FunctionState → FunctionState
+emitOpcodeWithoutPosition o f = emitOpcode o (getLastPosition f) f
+
+-- null at the last position, as three places of the Rust emit it
+abbrev pub emitNull : FunctionState → FunctionState
+emitNull f = emit (toInstruction PushConstant NULL) (getLastPosition f) f
+
+abbrev pub lastOpcode : FunctionState → ℕ
+lastOpcode f = last (f .instructions) nothing .opcode
+
+abbrev pub popLast : FunctionState → FunctionState
+popLast f = withCode (init (f .instructions)) (init (f .positions)) f
+
+-- `remove_pop_or_push_null`: an empty list has no last opcode, and gets null too
+unfoldable pub removePopOrPushNull : FunctionState → FunctionState
+removePopOrPushNull f = cond (eqb (lastOpcode f) Pop) (popLast f) (cond (eqb (lastOpcode f) ReturnOp) f (emitNull f))
+
+-- `emit_return`: on a list emptied of its only Pop the Rust panics, and this emits Return (01, 'Emission'; docs/DIFFERENCES.md)
+unfoldable pub emitReturn : ℕ → FunctionState → FunctionState
+emitReturn p f = let g = removePopOrPushNull f in cond (eqb (lastOpcode g) ReturnOp) g (emitOpcode ReturnOp p g)
+
+-- indices pushed to the innermost break scope
+abbrev pub pushBreaks : List ℕ → List (List ℕ) → List (List ℕ)
+pushBreaks is [] = []
+pushBreaks is (s ∷ ss) = (s ++ is) ∷ ss
+
+-- `emit_break`: outside of a loop nothing
+abbrev pub emitBreakIn : List (List ℕ) → ℕ → FunctionState → FunctionState
+emitBreakIn [] p f = f
+emitBreakIn (s ∷ ss) p f =
+    let index = getNextInstructionIndex f in
+    withTrace (Broke index ∷ f .trace) (withBreakScopes (pushBreaks (index ∷ []) (f .breakScopes)) (emitOpcode Jump p f))
+
+unfoldable pub emitBreak : ℕ → FunctionState → FunctionState
+emitBreak p f = emitBreakIn (f .breakScopes) p f
+
+-- `replace_instruction`
+abbrev pub replaceInstruction : ℕ → Instruction → FunctionState → FunctionState
+replaceInstruction j i f = withCode (set (f .instructions) j i) (f .positions) f
+
+-- a scope's `get`
+abbrev pub findName : ℕ → List Entry → Option ℕ
+findName n [] = none
+findName n (e ∷ es) = cond (eqb (e .name) n) (some (e .index)) (findName n es)
+
+abbrev pub orElse : Option ℕ → Option ℕ → Option ℕ
+orElse (some i) o = some i
+orElse none o = o
+
+-- `find_local`: from the innermost scope outwards
+abbrev pub findScopes : ℕ → List (List Entry) → Option ℕ
+findScopes n [] = none
+findScopes n (s ∷ ss) = orElse (findName n s) (findScopes n ss)
+
+abbrev pub findLocal : ℕ → FunctionState → Option ℕ
+findLocal n f = findScopes n (f .scopes)
+
+-- `enter_scope`, `exit_scope`
+abbrev pub enterScope : FunctionState → FunctionState
+enterScope f = withScopes ([] ∷ f .scopes) f
+
+abbrev pub tail : {A : Type 0} → List A → List A
+tail [] = []
+tail (x ∷ xs) = xs
+
+abbrev pub exitScope : FunctionState → FunctionState
+exitScope f = withScopes (tail (f .scopes)) f
+
+-- `enter_break_scope`: a loop is entered
+abbrev pub enterBreakScope : FunctionState → FunctionState
+enterBreakScope f = withTrace (Entered ∷ f .trace) (withBreakScopes ([] ∷ f .breakScopes) f)
+
+abbrev pub patchAll : List ℕ → ℕ → List Instruction → List Instruction
+patchAll [] t is = is
+patchAll (b ∷ bs) t is = patchAll bs t (set is b (toInstruction Jump t))
+
+abbrev pub innermost : {A : Type 0} → List (List A) → List A
+innermost [] = []
+innermost (s ∷ ss) = s
+
+-- `exit_break_scope`: the loop whose exit is at `exit` is left
+unfoldable pub exitBreakScope : ℕ → FunctionState → FunctionState
+exitBreakScope exit f =
+    let target = getNextInstructionIndex f in
+    withTrace (Left exit target ∷ f .trace)
+    (withBreakScopes (tail (f .breakScopes)) (withCode (patchAll (innermost (f .breakScopes)) target (f .instructions)) (f .positions) f))
+
+abbrev pub insertName : Entry → List (List Entry) → List (List Entry)
+insertName e [] = []
+insertName e (s ∷ ss) = (e ∷ s) ∷ ss
+
+-- what `define_local` returns, with the state
+pub record Defined : Type 0 where
+  pub found : Option ℕ
+  pub state : FunctionState
+
+abbrev pub defineLocalBy : Option ℕ → ℕ → FunctionState → Defined
+defineLocalBy (some i) n f = record { found = none; state = f }
+defineLocalBy none n f = record {
+    found = some (f .localCount);
+    state = withScopes (insertName (record { name = n; index = f .localCount }) (f .scopes)) (withLocalCount (f .localCount + 1) f);
+  }
+
+-- `define_local`: a name that the innermost scope has is not defined again; a function has its outermost scope always
+unfoldable pub defineLocal : ℕ → FunctionState → Defined
+defineLocal n f = defineLocalBy (findName n (innermost (f .scopes))) n f
+
+-- `define_anonymous_local`
+abbrev pub defineAnonymousLocal : FunctionState → FunctionState
+defineAnonymousLocal f = withLocalCount (f .localCount + 1) f
