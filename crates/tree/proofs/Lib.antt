@@ -1,0 +1,9 @@
+pub mod Tables
+pub mod Spans
+pub mod Walks
+pub mod Ways
+pub mod Kids
+pub mod This
+pub mod Spells
+pub mod Bundle
+pub mod View
