@@ -9,99 +9,14 @@ use lib.Dec.{eqb}
 use borrow.Author.Tests.{lt-ltb, le-ltb, eq-eqb, ne-eqb}
 use Rattle.words.specs.Ast.{Expression, Expressions, Variables, Statement, Statements, Identifier, This, Null, Integer, Float, Text, Boolean, Array}
 use Rattle.words.specs.Ast.{Prefix, Infix, If, IfElse, Call, InstanceGet, IndexGet, Local, Return, For, Break, Rescue, Expr}
-use Rattle.tree.specs.Rules.{has, expressions, statements, mayStand, goesOn, slotAfter, isDue, firstSlot}
+use Rattle.tree.specs.Rules.{has, expressions, statements, isDue, firstSlot}
 use Rattle.words.specs.Record.{kindAt, spanAt, tokenAt, mostLevels}
 use Rattle.tree.specs.At.{Head, Leaf, sizeE, sizeEs, sizeVs, sizeS, sizeSs, depthE, depthEs, depthVs, depthS, depthSs, ExpressionAt}
 use Rattle.tree.specs.At.{ExpressionsAt, VariablesAt, StatementAt, StatementsAt}
 use Rattle.tree.specs.Reading.{next, formOf, expressionBy, actOf, statementBy, variableBy, expressionOf, expressionsOf, variablesOf}
 use Rattle.tree.specs.Reading.{statementOf, statementsOf}
-use Rattle.tree.proofs.Kids.{Kids, Child, child, due-child, no-child, any, Node, node, node-as}
-
--- what a slot takes, and the slot after it
-pub record Takes (s : ℕ) (ks : List ℕ) (s′ : ℕ) : Type 0 where
-  pub only : (k : ℕ) → mayStand s k ≡ true → has k ks ≡ true
-  pub after : (k : ℕ) → slotAfter s k ≡ s′
-
--- the first child at a slot that takes ks
-pub record First (w : List ℕ) (ks : List ℕ) (s′ l i e : ℕ) : Type 0 where
-  pub is : has (kindAt w i) ks ≡ true
-  pub node : Node w l i (kindAt w i)
-  pub fits : next w i ≤ e
-  pub rest : Kids w s′ l (next w i) e
-
-first-of : {w : List ℕ} {ks : List ℕ} {s s′ l i e : ℕ} → Takes s ks s′ → Child w s l i e → First w ks s′ l i e
-first-of {w} {ks} {s} {s′} {l} {i} {e} t c =
-    record { is = t .only (kindAt w i) (c .may); node = node c; fits = c .fits; rest = subst (λ x. Kids w x l (next w i) e) (t .after (kindAt w i)) (c .rest) }
-
-pub first : {w : List ℕ} {ks : List ℕ} {s s′ l i e : ℕ} → Takes s ks s′ → isDue s ≡ true → Kids w s l i e → First w ks s′ l i e
-first t d k = first-of t (due-child d k)
-
-pub first-if : {w : List ℕ} {ks : List ℕ} {s s′ l i e : ℕ} → Takes s ks s′ → i < e → Kids w s l i e → First w ks s′ l i e
-first-if t h k = first-of t (child k h)
-
-pub only-one : (j k : ℕ) → has j (k ∷ []) ≡ true → j ≡ k
-only-one j k h = any (λ x. x ≡ k) j (k ∷ []) h (refl, tt)
-
--- a record whose kind takes no children
-pub alone : {w : List ℕ} {l i k : ℕ} → firstSlot k ≡ 0 → Node w l i k → Head w i k 1
-alone {w} {l} {i} f n =
-    let e = no-child (subst (λ s. Kids w s (l + 1) (i + 1) (i + spanAt w i)) f (n .inner)) in
-    record { kind-is = n .kind-is; span-is = omega arith }
-
-pub leaf : {w : List ℕ} {l i k : ℕ} → firstSlot k ≡ 0 → Node w l i k → Leaf w i k (tokenAt w i)
-leaf f n = record { head = alone f n; token = refl }
-
--- a child that is a record of one kind, without children
-pub leaf-first : {w : List ℕ} {s′ l i e : ℕ} (k : ℕ) → firstSlot k ≡ 0 → First w (k ∷ []) s′ l i e → Leaf w i k (tokenAt w i)
-leaf-first {w} {i = i} k f x = leaf f (node-as (x .node) (only-one (kindAt w i) k (x .is)))
-
-takes-13 : Takes 13 (40 ∷ []) 14
-unfolding mayStand slotAfter goesOn
-takes-13 = record { only = λ k h. h; after = λ k. refl }
-
-takes-14 : Takes 14 (49 ∷ expressions) 13
-unfolding mayStand slotAfter goesOn
-takes-14 = record { only = λ k h. h; after = λ k. refl }
-
-takes-15 : Takes 15 (40 ∷ []) 16
-unfolding mayStand slotAfter goesOn
-takes-15 = record { only = λ k h. h; after = λ k. refl }
-
-takes-16 : Takes 16 expressions 9
-unfolding mayStand slotAfter goesOn
-takes-16 = record { only = λ k h. h; after = λ k. refl }
-
-takes-17 : Takes 17 expressions 0
-unfolding mayStand slotAfter goesOn
-takes-17 = record { only = λ k h. h; after = λ k. refl }
-
-takes-18 : Takes 18 expressions 18
-unfolding mayStand slotAfter goesOn
-takes-18 = record { only = λ k h. h; after = λ k. refl }
-
-takes-19 : Takes 19 expressions 17
-unfolding mayStand slotAfter goesOn
-takes-19 = record { only = λ k h. h; after = λ k. refl }
-
-takes-20 : Takes 20 expressions 21
-unfolding mayStand slotAfter goesOn
-takes-20 = record { only = λ k h. h; after = λ k. refl }
-
-takes-21 : Takes 21 (43 ∷ []) 22
-unfolding mayStand slotAfter goesOn
-takes-21 = record { only = λ k h. h; after = λ k. refl }
-
-takes-22 : Takes 22 (43 ∷ []) 0
-unfolding mayStand slotAfter goesOn
-takes-22 = record { only = λ k h. h; after = λ k. refl }
-
-takes-23 : Takes 23 expressions 18
-unfolding mayStand slotAfter goesOn
-takes-23 = record { only = λ k h. h; after = λ k. refl }
-
-takes-9 : Takes 9 statements 9
-unfolding mayStand slotAfter goesOn
-takes-9 = record { only = λ k h. h; after = λ k. refl }
+use Rattle.tree.proofs.Children.{takes, First, first, first-if, only-one, alone, leaf, leaf-first, children-as, Children, no-child, any}
+use Rattle.tree.proofs.Children.{no-more, _&_, Node, node, node-as}
 
 -- what is read at a place is what stands there, it fills the record's span, and no level of it is past 64
 pub record ReadsE (w : List ℕ) (l i : ℕ) (x : Expression) : Type 0 where
@@ -132,14 +47,10 @@ pub record ReadsSs (w : List ℕ) (l i e : ℕ) (x : Statements) : Type 0 where
 
 pub record Laws (w : List ℕ) (n : ℕ) : Type 0 where
   pub e : (l i k : ℕ) → has k expressions ≡ true → Node w l i k → 2 * spanAt w i ≤ suc n → ReadsE w l i (expressionOf n w i)
-  pub es : (l i e : ℕ) → l ≤ mostLevels + 1 → Kids w 18 l i e → 2 * (e - i) ≤ n → ReadsEs w l i e (expressionsOf n w i e)
-  pub vs : (l i e : ℕ) → l ≤ mostLevels + 1 → Kids w 13 l i e → 2 * (e - i) ≤ n → ReadsVs w l i e (variablesOf n w i e)
+  pub es : (l i e : ℕ) → l ≤ mostLevels + 1 → Children w 18 l i e → 2 * (e - i) ≤ n → ReadsEs w l i e (expressionsOf n w i e)
+  pub vs : (l i e : ℕ) → l ≤ mostLevels + 1 → Children w 13 l i e → 2 * (e - i) ≤ n → ReadsVs w l i e (variablesOf n w i e)
   pub s : (l i k : ℕ) → has k statements ≡ true → Node w l i k → 2 * spanAt w i ≤ suc n → ReadsS w l i (statementOf n w i)
-  pub ss : (l i e : ℕ) → l ≤ mostLevels + 1 → Kids w 9 l i e → 2 * (e - i) ≤ n → ReadsSs w l i e (statementsOf n w i e)
-
--- a record's children, by its kind
-pub kids-as : {w : List ℕ} {l i k s : ℕ} → firstSlot k ≡ s → Node w l i k → Kids w s (l + 1) (i + 1) (next w i)
-kids-as {w} {l} {i} f n = subst (λ s. Kids w s (l + 1) (i + 1) (i + spanAt w i)) f (n .inner)
+  pub ss : (l i e : ℕ) → l ≤ mostLevels + 1 → Children w 9 l i e → 2 * (e - i) ≤ n → ReadsSs w l i e (statementsOf n w i e)
 
 module _ {w : List ℕ} {n : ℕ} (L : Laws w n) where
   -- an expression among the children
@@ -167,11 +78,11 @@ module _ {w : List ℕ} {n : ℕ} (L : Laws w n) where
     b : ReadsE w l (next w i) (expressionOf n w (next w i))
     end : next w (next w i) ≡ e
 
-  two : {l i e : ℕ} → Kids w 19 l i e → 2 * (e - i) ≤ n → Two l i e
+  two : {l i e : ℕ} → Children w 19 l i e → 2 * (e - i) ≤ n → Two l i e
   unfolding isDue
   two {l} {i} {e} k h =
-      let f = first takes-19 refl k in
-      let g = first takes-17 refl (f .rest) in
+      let f = first (takes 19 refl) refl k in
+      let g = first (takes 17 refl) refl (f .rest) in
       let x = f .fits in
       let y = f .node .some in
       record { a = one f (omega arith); b = one g (omega arith); end = no-child (g .rest) }
@@ -195,7 +106,7 @@ module _ {w : List ℕ} {n : ℕ} (L : Laws w n) where
   e-array {l} {i} m b =
       let v = m .level in
       let o = m .some in
-      let r = L .es (l + 1) (i + 1) (next w i) (omega arith) (kids-as refl m) (omega arith) in
+      let r = L .es (l + 1) (i + 1) (next w i) (omega arith) (children-as refl m) (omega arith) in
       let z = r .size in
       let d = r .deep in
       let q : spanAt w i ≡ 1 + sizeEs (expressionsOf n w (i + 1) (next w i)) = omega arith in
@@ -206,7 +117,7 @@ module _ {w : List ℕ} {n : ℕ} (L : Laws w n) where
   e-prefix {l} {i} m b =
       let v = m .level in
       let o = m .some in
-      let f = first takes-17 refl (kids-as refl m) in
+      let f = first (takes 17 refl) refl (children-as refl m) in
       let r = one f (omega arith) in
       let z = r .size in
       let d = r .deep in
@@ -225,7 +136,7 @@ module _ {w : List ℕ} {n : ℕ} (L : Laws w n) where
   e-pair {l} {i} {k} f m b =
       let v = m .level in
       let o = m .some in
-      let t = two (kids-as f m) (omega arith) in
+      let t = two (children-as f m) (omega arith) in
       let x = t .a .size in
       let y = t .b .size in
       let z = t .end in
@@ -262,7 +173,7 @@ module _ {w : List ℕ} {n : ℕ} (L : Laws w n) where
   e-call {l} {i} m b =
       let v = m .level in
       let o = m .some in
-      let f = first takes-23 refl (kids-as refl m) in
+      let f = first (takes 23 refl) refl (children-as refl m) in
       let r = one f (omega arith) in
       let x = f .fits in
       let p = L .es (l + 1) (next w (i + 1)) (next w i) (omega arith) (f .rest) (omega arith) in
@@ -285,15 +196,15 @@ module _ {w : List ℕ} {n : ℕ} (L : Laws w n) where
   record Parts (l i : ℕ) : Type 0 where
     condition : ReadsE w (l + 1) (i + 1) (expressionOf n w (i + 1))
     true-part : Block (l + 1) (next w (i + 1))
-    rest : Kids w 22 (l + 1) (next w (next w (i + 1))) (next w i)
+    rest : Children w 22 (l + 1) (next w (next w (i + 1))) (next w i)
 
   e-parts : {l i : ℕ} → Node w l i 42 → 2 * spanAt w i ≤ suc (suc n) → Parts l i
   unfolding firstSlot isDue
   e-parts {l} {i} m b =
       let v = m .level in
       let o = m .some in
-      let f = first takes-20 refl (kids-as refl m) in
-      let g = first takes-21 refl (f .rest) in
+      let f = first (takes 20 refl) refl (children-as refl m) in
+      let g = first (takes 21 refl) refl (f .rest) in
       let x = f .fits in
       let y = f .node .some in
       record { condition = one f (omega arith); true-part = block g (omega arith); rest = g .rest }
@@ -359,7 +270,7 @@ module _ {w : List ℕ} {n : ℕ} (L : Laws w n) where
       go : Dec (next w (next w (i + 1)) < next w i) → Parts l i
           → ReadsE w l i (expressionBy (formOf 42) w i (λ j. expressionOf n w j) (λ j. expressionsOf n w j (next w i)) (λ j. statementsOf n w (j + 1) (next w j)))
       go (yes h) p =
-          let g = first-if takes-22 h (p .rest) in
+          let g = first-if (takes 22 refl) h (p .rest) in
           let x = p .condition .size in
           rw (lt-ltb _ _ h) (e-else m p (block g (omega arith)) (no-child (g .rest)))
       go (no h) p =
@@ -369,56 +280,33 @@ module _ {w : List ℕ} {n : ℕ} (L : Laws w n) where
   e-step : (l i k : ℕ) → has k expressions ≡ true → Node w l i k → 2 * spanAt w i ≤ suc (suc n) → ReadsE w l i (expressionOf (suc n) w i)
   unfolding ExpressionAt sizeE depthE firstSlot
   e-step l i k h m b = any (λ j. Node w l i j → ReadsE w l i (expressionOf (suc n) w i)) k expressions h (
-    (λ x. e-as 30 (x .kind-is) (e-leaf 30 (Identifier (tokenAt w i)) (λ y. y) refl refl refl x)),
-    (
-      (λ x. e-as 31 (x .kind-is) (e-leaf 31 (This (tokenAt w i)) (λ y. y) refl refl refl x)),
-      (
-        (λ x. e-as 32 (x .kind-is) (e-leaf 32 (Null (tokenAt w i)) (λ y. y) refl refl refl x)),
-        (
-          (λ x. e-as 33 (x .kind-is) (e-leaf 33 (Integer (tokenAt w i)) (λ y. y) refl refl refl x)),
-          (
-            (λ x. e-as 34 (x .kind-is) (e-leaf 34 (Float (tokenAt w i)) (λ y. y) refl refl refl x)),
-            (
-              (λ x. e-as 35 (x .kind-is) (e-leaf 35 (Text (tokenAt w i)) (λ y. y) refl refl refl x)),
-              (
-                (λ x. e-as 36 (x .kind-is) (e-leaf 36 (Boolean (tokenAt w i)) (λ y. y) refl refl refl x)),
-                (
-                  (λ x. e-as 37 (x .kind-is) (e-array x b)),
-                  (
-                    (λ x. e-as 38 (x .kind-is) (e-prefix x b)),
-                    (
-                      (λ x. e-as 39 (x .kind-is) (e-infix x b)),
-                      (
-                        (λ x. e-as 42 (x .kind-is) (e-42 x b)),
-                        (
-                          (λ x. e-as 44 (x .kind-is) (e-call x b)),
-                          (
-                            (λ x. e-as 45 (x .kind-is) (e-instance x b)),
-                            ((λ x. e-as 46 (x .kind-is) (e-index x b)), tt),
-                          ),
-                        ),
-                      ),
-                    ),
-                  ),
-                ),
-              ),
-            ),
-          ),
-        ),
-      ),
-    ),
-  ) m
+      (λ x. e-as 30 (x .kind-is) (e-leaf 30 (Identifier (tokenAt w i)) (λ y. y) refl refl refl x))
+      & (λ x. e-as 31 (x .kind-is) (e-leaf 31 (This (tokenAt w i)) (λ y. y) refl refl refl x))
+      & (λ x. e-as 32 (x .kind-is) (e-leaf 32 (Null (tokenAt w i)) (λ y. y) refl refl refl x))
+      & (λ x. e-as 33 (x .kind-is) (e-leaf 33 (Integer (tokenAt w i)) (λ y. y) refl refl refl x))
+      & (λ x. e-as 34 (x .kind-is) (e-leaf 34 (Float (tokenAt w i)) (λ y. y) refl refl refl x))
+      & (λ x. e-as 35 (x .kind-is) (e-leaf 35 (Text (tokenAt w i)) (λ y. y) refl refl refl x))
+      & (λ x. e-as 36 (x .kind-is) (e-leaf 36 (Boolean (tokenAt w i)) (λ y. y) refl refl refl x))
+      & (λ x. e-as 37 (x .kind-is) (e-array x b))
+      & (λ x. e-as 38 (x .kind-is) (e-prefix x b))
+      & (λ x. e-as 39 (x .kind-is) (e-infix x b))
+      & (λ x. e-as 42 (x .kind-is) (e-42 x b))
+      & (λ x. e-as 44 (x .kind-is) (e-call x b))
+      & (λ x. e-as 45 (x .kind-is) (e-instance x b))
+      & (λ x. e-as 46 (x .kind-is) (e-index x b))
+      & no-more
+      ) m
 
   -- runs
 
-  es-step : (l i e : ℕ) → l ≤ mostLevels + 1 → Kids w 18 l i e → 2 * (e - i) ≤ suc n → ReadsEs w l i e (expressionsOf (suc n) w i e)
+  es-step : (l i e : ℕ) → l ≤ mostLevels + 1 → Children w 18 l i e → 2 * (e - i) ≤ suc n → ReadsEs w l i e (expressionsOf (suc n) w i e)
   unfolding ExpressionAt sizeE depthE expressionOf
   es-step l i e d k b = go (decLt i e)
     where
       go : Dec (i < e) → ReadsEs w l i e (expressionsOf (suc n) w i e)
       go (no h) = let o = k .ordered in rw (le-ltb i e (omega arith)) (record { is = tt; size = omega arith; deep = omega arith })
       go (yes h) =
-          let f = first-if takes-18 h k in
+          let f = first-if (takes 18 refl) h k in
           let r = one f b in
           let o = f .node .some in
           let p = L .es l (next w i) e d (f .rest) (omega arith) in
@@ -432,14 +320,14 @@ module _ {w : List ℕ} {n : ℕ} (L : Laws w n) where
             deep = omega arith;
           })
 
-  ss-step : (l i e : ℕ) → l ≤ mostLevels + 1 → Kids w 9 l i e → 2 * (e - i) ≤ suc n → ReadsSs w l i e (statementsOf (suc n) w i e)
+  ss-step : (l i e : ℕ) → l ≤ mostLevels + 1 → Children w 9 l i e → 2 * (e - i) ≤ suc n → ReadsSs w l i e (statementsOf (suc n) w i e)
   unfolding ExpressionAt sizeE depthE expressionOf
   ss-step l i e d k b = go (decLt i e)
     where
       go : Dec (i < e) → ReadsSs w l i e (statementsOf (suc n) w i e)
       go (no h) = let o = k .ordered in rw (le-ltb i e (omega arith)) (record { is = tt; size = omega arith; deep = omega arith })
       go (yes h) =
-          let f = first-if takes-9 h k in
+          let f = first-if (takes 9 refl) h k in
           let g = f .fits in
           let o = f .node .some in
           let r = L .s l i (kindAt w i) (f .is) (f .node) (omega arith) in
@@ -458,7 +346,7 @@ module _ {w : List ℕ} {n : ℕ} (L : Laws w n) where
   v-by : Bool → ℕ → ℕ → Variables
   v-by t i e = variableBy t w i (λ k. expressionOf n w k) (λ k. variablesOf n w k e)
 
-  v-bare : (l i e : ℕ) → l ≤ mostLevels → Leaf w i 40 (tokenAt w i) → Head w (i + 1) 49 1 → Kids w 13 l (i + 2) e → 2 * (e - i) ≤ suc n → i + 2 ≤ e → ReadsVs w l i e (v-by true i e)
+  v-bare : (l i e : ℕ) → l ≤ mostLevels → Leaf w i 40 (tokenAt w i) → Head w (i + 1) 49 1 → Children w 13 l (i + 2) e → 2 * (e - i) ≤ suc n → i + 2 ≤ e → ReadsVs w l i e (v-by true i e)
   unfolding ExpressionAt sizeE depthE v-by
   v-bare l i e d a h k b o =
       let p = L .vs l (i + 2) e (omega arith) k (omega arith) in
@@ -492,23 +380,23 @@ module _ {w : List ℕ} {n : ℕ} (L : Laws w n) where
       let z = h .span-is in
       let g = f .fits in
       let x : next w (i + 1) ≡ i + 2 = omega arith in
-      rw (eq-eqb (kindAt w (i + 1)) 49 q) (v-bare l i e (m .level) a h (subst (λ j. Kids w 13 l j e) x (f .rest)) b (omega arith))
+      rw (eq-eqb (kindAt w (i + 1)) 49 q) (v-bare l i e (m .level) a h (subst (λ j. Children w 13 l j e) x (f .rest)) b (omega arith))
   v-pair l i e a f b o (no q) =
       let h : has (kindAt w (i + 1)) expressions ≡ true = rw (ne-eqb (kindAt w (i + 1)) 49 q) at (f .is) in
       rw (ne-eqb (kindAt w (i + 1)) 49 q) (v-valued l i e (f .node .level) a (record { is = h; node = f .node; fits = f .fits; rest = f .rest }) b o)
 
-  vs-step : (l i e : ℕ) → l ≤ mostLevels + 1 → Kids w 13 l i e → 2 * (e - i) ≤ suc n → ReadsVs w l i e (variablesOf (suc n) w i e)
+  vs-step : (l i e : ℕ) → l ≤ mostLevels + 1 → Children w 13 l i e → 2 * (e - i) ≤ suc n → ReadsVs w l i e (variablesOf (suc n) w i e)
   unfolding ExpressionAt sizeE depthE expressionOf firstSlot isDue v-by
   vs-step l i e d k b = go (decLt i e)
     where
       go : Dec (i < e) → ReadsVs w l i e (variablesOf (suc n) w i e)
       go (no h) = let o = k .ordered in rw (le-ltb i e (omega arith)) (record { is = tt; size = omega arith; deep = omega arith })
       go (yes h) =
-          let f = first-if takes-13 h k in
+          let f = first-if (takes 13 refl) h k in
           let a = leaf-first 40 refl f in
           let z = a .head .span-is in
           let x : next w i ≡ i + 1 = omega arith in
-          let g = first takes-14 refl (subst (λ j. Kids w 14 l j e) x (f .rest)) in
+          let g = first (takes 14 refl) refl (subst (λ j. Children w 14 l j e) x (f .rest)) in
           rw (lt-ltb i e h) (v-pair l i e a g b h (ℕ-discrete (kindAt w (i + 1)) 49))
 
   -- statements
@@ -532,7 +420,7 @@ module _ {w : List ℕ} {n : ℕ} (L : Laws w n) where
   s-local {l} {i} m b =
       let v = m .level in
       let o = m .some in
-      let r = L .vs (l + 1) (i + 1) (next w i) (omega arith) (kids-as refl m) (omega arith) in
+      let r = L .vs (l + 1) (i + 1) (next w i) (omega arith) (children-as refl m) (omega arith) in
       let z = r .size in
       let d = r .deep in
       let q : spanAt w i ≡ 1 + sizeVs (variablesOf n w (i + 1) (next w i)) = omega arith in
@@ -543,7 +431,7 @@ module _ {w : List ℕ} {n : ℕ} (L : Laws w n) where
   s-expr {l} {i} m b =
       let v = m .level in
       let o = m .some in
-      let f = first takes-17 refl (kids-as refl m) in
+      let f = first (takes 17 refl) refl (children-as refl m) in
       let r = one f (omega arith) in
       let z = r .size in
       let d = r .deep in
@@ -557,11 +445,11 @@ module _ {w : List ℕ} {n : ℕ} (L : Laws w n) where
   s-for {l} {i} m b =
       let v = m .level in
       let o = m .some in
-      let f = first takes-15 refl (kids-as refl m) in
+      let f = first (takes 15 refl) refl (children-as refl m) in
       let a = leaf-first 40 refl f in
       let z = a .head .span-is in
       let x : next w (i + 1) ≡ i + 2 = omega arith in
-      let g = first takes-16 refl (subst (λ j. Kids w 16 (l + 1) j (next w i)) x (f .rest)) in
+      let g = first (takes 16 refl) refl (subst (λ j. Children w 16 (l + 1) j (next w i)) x (f .rest)) in
       let h = g .fits in
       let r = one g (omega arith) in
       let p = L .ss (l + 1) (next w (i + 2)) (next w i) (omega arith) (g .rest) (omega arith) in
@@ -584,21 +472,14 @@ module _ {w : List ℕ} {n : ℕ} (L : Laws w n) where
   s-step : (l i k : ℕ) → has k statements ≡ true → Node w l i k → 2 * spanAt w i ≤ suc (suc n) → ReadsS w l i (statementOf (suc n) w i)
   unfolding ExpressionAt sizeE depthE firstSlot
   s-step l i k h m b = any (λ j. Node w l i j → ReadsS w l i (statementOf (suc n) w i)) k statements h (
-    (λ x. s-as 20 (x .kind-is) (s-local x b)),
-    (
-      (λ x. s-as 21 (x .kind-is) (s-leaf 21 (Return (tokenAt w i)) (λ y. y) refl refl refl x)),
-      (
-        (λ x. s-as 22 (x .kind-is) (s-leaf 22 (Break (tokenAt w i)) (λ y. y) refl refl refl x)),
-        (
-          (λ x. s-as 23 (x .kind-is) (s-leaf 23 (Rescue (tokenAt w i)) (λ y. y) refl refl refl x)),
-          (
-            (λ x. s-as 24 (x .kind-is) (s-for x b)),
-            ((λ x. s-as 25 (x .kind-is) (s-expr x b)), tt),
-          ),
-        ),
-      ),
-    ),
-  ) m
+      (λ x. s-as 20 (x .kind-is) (s-local x b))
+      & (λ x. s-as 21 (x .kind-is) (s-leaf 21 (Return (tokenAt w i)) (λ y. y) refl refl refl x))
+      & (λ x. s-as 22 (x .kind-is) (s-leaf 22 (Break (tokenAt w i)) (λ y. y) refl refl refl x))
+      & (λ x. s-as 23 (x .kind-is) (s-leaf 23 (Rescue (tokenAt w i)) (λ y. y) refl refl refl x))
+      & (λ x. s-as 24 (x .kind-is) (s-for x b))
+      & (λ x. s-as 25 (x .kind-is) (s-expr x b))
+      & no-more
+      ) m
 
 pub laws : (w : List ℕ) (n : ℕ) → Laws w n
 unfolding ExpressionAt sizeE depthE expressionOf

@@ -13,7 +13,7 @@ use Rattle.tree.specs.Check.{sameThis, thisAfter, headAt, walkOf}
 use Rattle.tree.specs.declared.Outcome.the-variants.{Went}
 use Rattle.tree.proofs.Spans.{and-left, and-right, within-true}
 use Rattle.tree.proofs.Walks.{head-went, went-inj, walk-done, walk-on}
-use Rattle.tree.proofs.Kids.{Sound, sound-parts, then-went}
+use Rattle.tree.proofs.Children.{Sound, sound-parts, then-went}
 
 -- one record of a walk that went through: its parts, and the numbers of 41 before, inside and after
 record Step (w : List ℕ) (s l t i e u : ℕ) : Type 0 where

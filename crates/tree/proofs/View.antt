@@ -7,10 +7,9 @@ use Rattle.words.specs.Ast.{Token, Expression, Expressions, Variables, Statemen
 use Rattle.words.specs.Ast.{Array, Prefix, Infix, If, IfElse, Call, InstanceGet, IndexGet, Local, Return, For, Break, Rescue, Expr, Binding, Alias}
 use Rattle.words.specs.Ast.{FunctionDefinition, Definition, LocalDefinition, IncludeDefinition, ModelDefinition, PublicModelDefinition, PlainFunction}
 use Rattle.words.specs.Ast.{PublicFunction, ImplementDefinition, ApplyDefinition}
-use Rattle.tree.specs.Rules.{has, expressions, statements}
+use Rattle.tree.specs.Rules.{has, definitions, expressions, statements}
 use Rattle.words.specs.Record.{kindAt}
 use mathlib.Core.Bool.{true}
-use Rattle.tree.proofs.Bundle.{definitions}
 use Rattle.tree.specs.At.{Head, kindE, kindS, kindD, sizeE, sizeS, sizeD, ExpressionAt, StatementAt, DefinitionAt}
 
 pub data ViewE : ℕ → Expression → Type 0 where
@@ -30,7 +29,7 @@ pub data ViewE : ℕ → Expression → Type 0 where
   v-InstanceGet : {t : Token} {a : Expression} {b : Expression} → ViewE 45 (InstanceGet t a b)
   v-IndexGet : {t : Token} {a : Expression} {b : Expression} → ViewE 46 (IndexGet t a b)
 
-viewE : (e : Expression) → ViewE (kindE e) e
+pub viewE : (e : Expression) → ViewE (kindE e) e
 viewE (Identifier t) = v-Identifier
 viewE (This t) = v-This
 viewE (Null t) = v-Null
@@ -95,7 +94,7 @@ pub data ViewS : ℕ → Statement → Type 0 where
   v-For : {t : Token} {n : Token} {e : Expression} {ss : Statements} → ViewS 24 (For t n e ss)
   v-Expr : {e : Expression} → ViewS 25 (Expr e)
 
-viewS : (s : Statement) → ViewS (kindS s) s
+pub viewS : (s : Statement) → ViewS (kindS s) s
 viewS (Local vs) = v-Local
 viewS (Return t) = v-Return
 viewS (Break t) = v-Break
@@ -135,7 +134,7 @@ pub data ViewD : ℕ → Definition → Type 0 where
   v-ImplementDefinition : {t : Token} {fs : List FunctionDefinition} → ViewD 16 (ImplementDefinition t fs)
   v-ApplyDefinition : {s : Token} {t : Token} → ViewD 17 (ApplyDefinition s t)
 
-viewD : (d : Definition) → ViewD (kindD d) d
+pub viewD : (d : Definition) → ViewD (kindD d) d
 viewD (LocalDefinition bs) = v-LocalDefinition
 viewD (IncludeDefinition t l) = v-IncludeDefinition
 viewD (ModelDefinition t ns) = v-ModelDefinition

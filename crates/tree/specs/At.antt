@@ -265,19 +265,19 @@ pub record DocumentAt (d : Document) (w : List ℕ) (i : ℕ) : Type 0 where
 abbrev pub DocumentsAt : List Document → List ℕ → ℕ → Type 0
 DocumentsAt ds w i = RunAt DocumentAt sizeDoc ds w i
 
--- levels of definitions and documents. Names, and the values of a local definition, are not counted: their level is below another's
+-- levels of definitions and documents
 abbrev pub depthF : FunctionDefinition → ℕ
-depthF f = 1 + depthSs (f .body)
+depthF f = 1 + max (runDepth single (f .parameters)) (depthSs (f .body))
 
 unfoldable pub depthD : Definition → ℕ
-depthD (LocalDefinition bs) = 1
-depthD (IncludeDefinition t l) = 1
-depthD (ModelDefinition t ns) = 1
-depthD (PublicModelDefinition t ns) = 1
+depthD (LocalDefinition bs) = 1 + runDepth single bs
+depthD (IncludeDefinition t l) = 1 + runDepth single l
+depthD (ModelDefinition t ns) = 1 + runDepth single ns
+depthD (PublicModelDefinition t ns) = 1 + runDepth single ns
 depthD (PlainFunction f) = depthF f
 depthD (PublicFunction f) = depthF f
 depthD (ImplementDefinition t fs) = 1 + runDepth depthF fs
-depthD (ApplyDefinition s t) = 1
+depthD (ApplyDefinition s t) = 2
 
 abbrev pub depthDoc : Document → ℕ
 depthDoc d = 1 + runDepth depthD (d .definitions)
