@@ -1,0 +1,13 @@
+-- `first_slot` meets its contract: the kind's row says it. Assumes nothing.
+-- Made from Proof.answers by `answers make`: edit that file, and not this one.
+use Rattle.tree.proofs.Tables.{first-row}
+use Rattle.tree.proofs.first_slot.Statement.{statement}
+use Rattle.tree.proofs.first_slot.Tie as tie
+use borrow.Author.Needs.{needs}
+
+returns : tie.Need-returns
+returns c = first-row (c .before .args .kind) (c .rule-row .ensures)
+
+pub first-slot-spec : {M : Type 1} → statement M
+first-slot-spec =
+    tie.close (tie.spec (λ c κs. search needs) returns)

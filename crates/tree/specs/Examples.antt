@@ -1,0 +1,94 @@
+-- Rows 2 to 4 on small books, by computing
+use Prim.Native.Nat.{ℕ, zero, suc, _+_}
+use mathlib.Core.Path.{_≡_, refl}
+use mathlib.Core.List.{List, [], _∷_, _++_}
+use Rattle.tree.specs.Rules.{mayStand, slotAfter, isDue, firstSlot, goesOn, inRange}
+use Rattle.tree.specs.Check.{shapeOf, walkBy, headAt, soundAt, thisAfter, sameThis, lacksBy, withinOf}
+use Rattle.words.specs.Record.{fieldOf}
+use Rattle.tree.specs.declared.Shape.{Shape}
+use Rattle.tree.specs.declared.Shape.the-variants.{Fine, Refused}
+
+answer : List ℕ → Shape
+unfolding shapeOf walkBy headAt soundAt thisAfter sameThis lacksBy withinOf fieldOf mayStand slotAfter isDue firstSlot goesOn inRange
+answer w = shapeOf w
+
+infixr 40 _·_
+abbrev _·_ : List ℕ → List ℕ → List ℕ
+a · b = a ++ b
+
+abbrev rec : ℕ → ℕ → ℕ → ℕ → List ℕ
+rec k s p v = k ∷ s ∷ p ∷ v ∷ []
+
+empty : answer [] ≡ Refused 3 0
+unfolding answer
+empty = refl
+
+tail : answer (1 ∷ 1 ∷ 0 ∷ 2 ∷ 7 ∷ []) ≡ Refused 2 0
+unfolding answer
+tail = refl
+
+alone : answer (rec 1 1 0 2) ≡ Fine
+unfolding answer
+alone = refl
+
+-- the listing's: `if x return end` in f
+listing : answer (rec 1 8 0 2 · rec 15 7 65546 3 · rec 40 1 0 4 · rec 25 5 0 0 · rec 42 4 0 0 · rec 30 1 131078 4 · rec 43 2 0 0 · rec 21 1 196613 0) ≡ Fine
+unfolding answer
+listing = refl
+
+-- an infix with one child, whose value is out of range: the infix is at fault
+due : answer (rec 1 5 0 2 · rec 14 4 0 3 · rec 25 3 0 0 · rec 39 2 0 1 · rec 30 1 0 0) ≡ Refused 3 3
+unfolding answer
+due = refl
+
+-- the same with a child of a wrong kind: it fills the infix while another is due
+due-wrong : answer (rec 1 5 0 2 · rec 14 4 0 3 · rec 25 3 0 0 · rec 39 2 0 1 · rec 40 1 0 9) ≡ Refused 3 3
+unfolding answer
+due-wrong = refl
+
+-- a child whose span passes the end stops the hop: the child is at fault
+past : answer (rec 1 5 0 2 · rec 14 4 0 3 · rec 25 3 0 0 · rec 39 2 0 1 · rec 30 2 0 5) ≡ Refused 3 4
+unfolding answer
+past = refl
+
+-- three expressions in an infix: the third is at fault
+many : answer (rec 1 7 0 2 · rec 14 6 0 3 · rec 25 5 0 0 · rec 39 4 0 1 · rec 30 1 0 5 · rec 30 1 0 5 · rec 30 1 0 5) ≡ Refused 3 6
+unfolding answer
+many = refl
+
+-- `this` parameters of two numbers, in two books
+this : answer (rec 1 3 0 2 · rec 14 2 0 3 · rec 41 1 0 9 · rec 1 3 0 4 · rec 14 2 0 3 · rec 41 1 0 8) ≡ Refused 3 5
+unfolding answer
+this = refl
+
+this-same : answer (rec 1 3 0 2 · rec 14 2 0 3 · rec 41 1 0 9 · rec 1 3 0 4 · rec 14 2 0 3 · rec 41 1 0 9) ≡ Fine
+unfolding answer
+this-same = refl
+
+-- a name after a statement
+late : answer (rec 1 4 0 2 · rec 14 3 0 3 · rec 21 1 0 0 · rec 40 1 0 9) ≡ Refused 3 3
+unfolding answer
+late = refl
+
+-- n arrays, one in the other, in a statement: the innermost, of value v, is at level n + 3
+nest : ℕ → ℕ → List ℕ
+nest zero v = []
+nest (suc zero) v = rec 37 1 0 v
+nest (suc (suc n)) v = rec 37 (suc (suc n)) 0 0 · nest (suc n) v
+
+deep : ℕ → ℕ → List ℕ
+unfolding nest
+deep n v = rec 1 (3 + n) 0 2 · rec 14 (2 + n) 0 3 · rec 25 (1 + n) 0 0 · nest n v
+
+level-64 : answer (deep 61 0) ≡ Fine
+unfolding answer deep
+level-64 = refl
+
+level-65 : answer (deep 62 0) ≡ Refused 4 64
+unfolding answer deep
+level-65 = refl
+
+-- at one record row 3 comes before row 4
+level-65-bad : answer (deep 62 1) ≡ Refused 3 64
+unfolding answer deep
+level-65-bad = refl

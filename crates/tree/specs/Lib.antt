@@ -1,0 +1,7 @@
+pub mod Rules
+pub mod Rows
+pub mod Check
+pub mod At
+pub mod Reading
+pub mod Spelled
+pub mod Examples
