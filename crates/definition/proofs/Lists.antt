@@ -64,27 +64,33 @@ pub kept-refl : (l : List Instruction) → Kept l l
 kept-refl l = record { keeps = λ i h k. (h, refl) }
 
 pub kept-trans : {l m n : List Instruction} → Kept l m → Kept m n → Kept l n
-kept-trans {l} {m} {n} a b = record { keeps = λ i h k.
-  let (h₁, e₁) = a .keeps i h k in
-  let (h₂, e₂) = b .keeps i h₁ (subst (λ (x : Instruction). x .opcode ≢ 1) (sym e₁) k) in
-  (h₂, e₂ ∙ e₁) }
+kept-trans {l} {m} {n} a b = record {
+  keeps = λ i h k.
+      let (h₁, e₁) = a .keeps i h k in
+      let (h₂, e₂) = b .keeps i h₁ (subst (λ (x : Instruction). x .opcode ≢ 1) (sym e₁) k) in
+      (h₂, e₂ ∙ e₁);
+}
 
 pub fresh-ge : {l : List Instruction} {j : ℕ} → length l ≤ j → Fresh l j
 fresh-ge h = record { free = λ k q. omega arith }
 
 pub fresh-trans : {l m : List Instruction} {j : ℕ} → Kept l m → Fresh m j → Fresh l j
-fresh-trans {l} {m} {j} a f = record { free = λ h k.
-  let (h₁, e₁) = a .keeps j h k in
-  f .free h₁ (subst (λ (x : Instruction). x .opcode ≢ 1) (sym e₁) k) }
+fresh-trans {l} {m} {j} a f = record {
+  free = λ h k.
+      let (h₁, e₁) = a .keeps j h k in
+      f .free h₁ (subst (λ (x : Instruction). x .opcode ≢ 1) (sym e₁) k);
+}
 
 pub kept-append : (l m : List Instruction) → Kept l (l ++ m)
 kept-append l m = record { keeps = λ i h k. (omega (arith, length-append l m), List·getD-append l m nothing i h) }
 
 pub kept-set : {l₀ l : List Instruction} {j : ℕ} (a : Instruction) → Kept l₀ l → Fresh l₀ j → Kept l₀ (set l j a)
-kept-set {l₀} {l} {j} a k f = record { keeps = λ i h q.
-  let (h₁, e₁) = k .keeps i h q in
-  let ne : i ≢ j = λ e. f .free (subst (λ x. x < length l₀) e h) (subst (λ x. at l₀ x .opcode ≢ 1) e q) in
-  (omega (arith, length-set l j a), getD-set-other l j i a nothing ne ∙ e₁) }
+kept-set {l₀} {l} {j} a k f = record {
+  keeps = λ i h q.
+      let (h₁, e₁) = k .keeps i h q in
+      let ne : i ≢ j = λ e. f .free (subst (λ x. x < length l₀) e h) (subst (λ x. at l₀ x .opcode ≢ 1) e q) in
+      (omega (arith, length-set l j a), getD-set-other l j i a nothing ne ∙ e₁);
+}
 
 pub kept-patch : {l₀ l : List Instruction} (bs : List ℕ) (t : ℕ) → Kept l₀ l → All (Fresh l₀) bs → Kept l₀ (patchAll bs t l)
 kept-patch [] t k none = k
@@ -100,30 +106,38 @@ kept-init l e = record { keeps = λ i h q. go i h q (decLt i (length l - 1)) }
 -- after patches
 pub patch-other : (bs : List ℕ) (t : ℕ) (l : List Instruction) (i : ℕ) → All (λ b. b ≢ i) bs → at (patchAll bs t l) i ≡ at l i
 patch-other [] t l i none = refl
-patch-other (b ∷ bs) t l i (n & ns) = patch-other bs t (set l b (toInstruction Jump t)) i ns ∙ getD-set-other l b i (toInstruction Jump t) nothing (λ e. n (sym e))
+patch-other (b ∷ bs) t l i (n & ns) = patch-other bs t (set l b (toInstruction Jump t)) i ns
+    ∙ getD-set-other l b i (toInstruction Jump t) nothing (λ e. n (sym e))
 
-pub patch-stays : (bs : List ℕ) (t : ℕ) (l : List Instruction) (i : ℕ) → i < length l → at l i ≡ toInstruction Jump t → at (patchAll bs t l) i ≡ toInstruction Jump t
+pub patch-stays : (bs : List ℕ) (t : ℕ) (l : List Instruction) (i : ℕ) → i < length l → at l i ≡ toInstruction Jump t
+    → at (patchAll bs t l) i ≡ toInstruction Jump t
 patch-stays [] t l i h e = e
 patch-stays (b ∷ bs) t l i h e = patch-stays bs t l′ i (omega (arith, length-set l b J)) (go (ℕ-discrete i b))
   where
     J : Instruction
     J = toInstruction Jump t
+
     l′ : List Instruction
     l′ = set l b J
+
     go : Dec (i ≡ b) → at l′ i ≡ J
     go (yes p) = rw p (getD-set-same l b J nothing (subst (λ x. x < length l) p h))
     go (no p) = getD-set-other l b i J nothing p ∙ e
 
-pub patch-hits : (bs : List ℕ) (t : ℕ) (l : List Instruction) → All (λ b. b < length l) bs → All (λ b. (b < length (patchAll bs t l)) × (at (patchAll bs t l) b ≡ toInstruction Jump t)) bs
+pub patch-hits : (bs : List ℕ) (t : ℕ) (l : List Instruction) → All (λ b. b < length l) bs
+    → All (λ b. (b < length (patchAll bs t l)) × (at (patchAll bs t l) b ≡ toInstruction Jump t)) bs
 patch-hits [] t l none = none
 patch-hits (b ∷ bs) t l (h & hs) = head & patch-hits bs t l′ (all-map (λ x q. omega (arith, same)) hs)
   where
     J : Instruction
     J = toInstruction Jump t
+
     l′ : List Instruction
     l′ = set l b J
+
     same : length l′ ≡ length l
     same = length-set l b J
+
     head : (b < length (patchAll bs t l′)) × (at (patchAll bs t l′) b ≡ J)
     head = (omega (arith, length-patch bs t l′, same), patch-stays bs t l′ b (omega (arith, same)) (getD-set-same l b J nothing h))
 
@@ -149,7 +163,8 @@ module _ (P : ℕ → Instruction → Type 0) where
       go (no e) = rw (getD-set-other l j i x nothing e) (ps i (omega (arith, length-set l j x)))
 
   pub each-init : (l : List Instruction) → Each P l → Each P (init l)
-  each-init l ps i h = rw (getD-take (length l - 1) l i nothing (omega (arith, length-take (length l - 1) l))) (ps i (omega (arith, length-take (length l - 1) l)))
+  each-init l ps i h = rw (getD-take (length l - 1) l i nothing (omega (arith, length-take (length l - 1) l)))
+      (ps i (omega (arith, length-take (length l - 1) l)))
 
   pub each-patch : (bs : List ℕ) (t : ℕ) (l : List Instruction) → ((i : ℕ) → P i (toInstruction Jump t)) → Each P l → Each P (patchAll bs t l)
   each-patch [] t l p ps = ps
@@ -173,5 +188,6 @@ opcode-patch (b ∷ bs) t l k (p & ps) = opcode-patch bs t l′ k (all-map (λ c
   where
     J : Instruction
     J = toInstruction Jump t
+
     l′ : List Instruction
     l′ = set l b J

@@ -33,7 +33,8 @@ use Rattle.definition.specs.Compiler.{compileThisExpression, compileIden
 use Rattle.definition.specs.Compiler.{compileStringExpression, compileFloatExpression, compileIntegerExpression, emitGlobal, emitConstant}
 use Rattle.definition.specs.Within.{All, none, _&_}
 use Rattle.definition.proofs.Safe.{at}
-use Rattle.definition.proofs.Lists.{all-map, all-append, Kept, Fresh, kept-refl, kept-trans, fresh-ge, fresh-trans, kept-append, kept-set, kept-patch, kept-init, cond-case}
+use Rattle.definition.proofs.Lists.{all-map, all-append, Kept, Fresh, kept-refl, kept-trans, fresh-ge, fresh-trans, kept-append, kept-set}
+use Rattle.definition.proofs.Lists.{kept-patch, kept-init, cond-case}
 
 abbrev pub code : Work → List Instruction
 code w = w .function .instructions
@@ -62,8 +63,20 @@ push-push p q [] = refl
 push-push p q (s ∷ ss) = ap {B = List (List ℕ)} (λ x. x ∷ ss) (append-assoc s p q)
 
 pub simply : {w w′ : Work} → Kept (code w) (code w′) → w′ .function .breakScopes ≡ w .function .breakScopes → (errs w′ ≡ [] → errs w ≡ [])
-  → w .function .localCount ≤ w′ .function .localCount → w′ .context .constants ≡ w .context .constants → w′ .context .localCount ≡ w .context .localCount → Moves w w′
-simply {w} k b e l c x = record { kept = k; pushed = []; breaks = b ∙ push-nil (w .function .breakScopes); new = none; errors = e; locals = l; added = []; pool = c ∙ sym (append-nil _); plain = none; context = x }
+    → w .function .localCount ≤ w′ .function .localCount → w′ .context .constants ≡ w .context .constants → w′ .context .localCount ≡ w .context .localCount
+    → Moves w w′
+simply {w} k b e l c x = record {
+  kept = k;
+  pushed = [];
+  breaks = b ∙ push-nil (w .function .breakScopes);
+  new = none;
+  errors = e;
+  locals = l;
+  added = [];
+  pool = c ∙ sym (append-nil _);
+  plain = none;
+  context = x;
+}
 
 pub moves-refl : (w : Work) → Moves w w
 moves-refl w = simply (kept-refl (code w)) refl (λ e. e) (le-refl _) refl refl
@@ -79,20 +92,33 @@ moves-trans {a} {b} {c} m n = record {
   added = m .added ++ n .added;
   pool = n .pool ∙ ap (λ l. l ++ n .added) (m .pool) ∙ append-assoc (a .context .constants) (m .added) (n .added);
   plain = all-append (m .plain) (n .plain);
-  context = n .context ∙ m .context }
+  context = n .context ∙ m .context;
+}
 
 abbrev pub Moving : Step → Type 0
 Moving s = (w : Work) → Moves w (s w)
 
 -- a change of the function state alone
-pub moves-function : (w : Work) (f : FunctionState) → Kept (code w) (f .instructions) → f .breakScopes ≡ w .function .breakScopes → w .function .localCount ≤ f .localCount → Moves w (withFunction f w)
+pub moves-function : (w : Work) (f : FunctionState) → Kept (code w) (f .instructions) → f .breakScopes ≡ w .function .breakScopes
+    → w .function .localCount ≤ f .localCount → Moves w (withFunction f w)
 moves-function w f k b l = simply k b (λ e. e) l refl refl
 
 pub emit-moves : (i : Instruction) (p : ℕ) → Moving (emit i p)
 emit-moves i p w = moves-function w _ (kept-append (code w) (i ∷ [])) refl (le-refl _)
 
 pub set-moves : {w v : Work} {j : ℕ} (i : Instruction) → Moves w v → Fresh (code w) j → Moves w (Compiler.replaceInstruction j i v)
-set-moves i m f = record { kept = kept-set i (m .kept) f; pushed = m .pushed; breaks = m .breaks; new = m .new; errors = m .errors; locals = m .locals; added = m .added; pool = m .pool; plain = m .plain; context = m .context }
+set-moves i m f = record {
+  kept = kept-set i (m .kept) f;
+  pushed = m .pushed;
+  breaks = m .breaks;
+  new = m .new;
+  errors = m .errors;
+  locals = m .locals;
+  added = m .added;
+  pool = m .pool;
+  plain = m .plain;
+  context = m .context;
+}
 
 append-not-nil : {A : Type 0} (l : List A) (a : A) → l ++ (a ∷ []) ≡ [] → l ≡ []
 append-not-nil [] a e = refl
@@ -106,8 +132,8 @@ error-moves n t w = simply (kept-refl (code w)) refl (λ e. append-not-nil (errs
 close-kept : (f : FunctionState) → Kept (f .instructions) (removePopOrPushNull f .instructions)
 unfolding removePopOrPushNull
 close-kept f = cond-case (λ (g : FunctionState). Kept (f .instructions) (g .instructions)) (eqb (lastOpcode f) Pop)
-  (λ t. kept-init (f .instructions) (eqb→eq _ _ t))
-  (λ t. cond-case (λ (g : FunctionState). Kept (f .instructions) (g .instructions)) (eqb (lastOpcode f) ReturnOp) (λ s. kept-refl _) (λ s. kept-append _ _))
+    (λ t. kept-init (f .instructions) (eqb→eq _ _ t))
+    (λ t. cond-case (λ (g : FunctionState). Kept (f .instructions) (g .instructions)) (eqb (lastOpcode f) ReturnOp) (λ s. kept-refl _) (λ s. kept-append _ _))
 
 -- all but the code is as it was
 pub record SameButCode (f g : FunctionState) : Type 0 where
@@ -121,7 +147,7 @@ pub record SameButCode (f g : FunctionState) : Type 0 where
 pub close-same : (f : FunctionState) → SameButCode f (removePopOrPushNull f)
 unfolding removePopOrPushNull
 close-same f = cond-case (λ (g : FunctionState). SameButCode f g) (eqb (lastOpcode f) Pop) (λ t. same)
-  (λ t. cond-case (λ (g : FunctionState). SameButCode f g) (eqb (lastOpcode f) ReturnOp) (λ s. same) (λ s. same))
+    (λ t. cond-case (λ (g : FunctionState). SameButCode f g) (eqb (lastOpcode f) ReturnOp) (λ s. same) (λ s. same))
   where
     same : {is : List Instruction} {ps : List ℕ} → SameButCode f (Emission.withCode is ps f)
     same = record { breaks = refl; locals = refl; scopes = refl; trace = refl; rescue = refl; this = refl }
@@ -129,12 +155,19 @@ close-same f = cond-case (λ (g : FunctionState). SameButCode f g) (eqb (lastOpc
 pub return-kept : (p : ℕ) (f : FunctionState) → Kept (f .instructions) (emitReturn p f .instructions)
 unfolding emitReturn
 return-kept p f = cond-case (λ (g : FunctionState). Kept (f .instructions) (g .instructions)) (eqb (lastOpcode (removePopOrPushNull f)) ReturnOp)
-  (λ t. close-kept f) (λ t. kept-trans (close-kept f) (kept-append _ _))
+    (λ t. close-kept f) (λ t. kept-trans (close-kept f) (kept-append _ _))
 
 pub return-same : (p : ℕ) (f : FunctionState) → SameButCode f (emitReturn p f)
 unfolding emitReturn
 return-same p f = cond-case (λ (g : FunctionState). SameButCode f g) (eqb (lastOpcode (removePopOrPushNull f)) ReturnOp) (λ t. close-same f)
-  (λ t. record { breaks = close-same f .breaks; locals = close-same f .locals; scopes = close-same f .scopes; trace = close-same f .trace; rescue = close-same f .rescue; this = close-same f .this })
+    (λ t. record {
+      breaks = close-same f .breaks;
+      locals = close-same f .locals;
+      scopes = close-same f .scopes;
+      trace = close-same f .trace;
+      rescue = close-same f .rescue;
+      this = close-same f .this;
+    })
 
 pub close-moves : Moving (doing removePopOrPushNull)
 close-moves w = moves-function w _ (close-kept (w .function)) (close-same (w .function) .breaks) (omega (arith, close-same (w .function) .locals))
@@ -148,15 +181,28 @@ break-moves p w = go (w .function .breakScopes) refl
   where
     go : (bs : List (List ℕ)) → w .function .breakScopes ≡ bs → Moves w (withFunction (Emission.emitBreakIn bs p (w .function)) w)
     go [] e = moves-function w _ (kept-refl _) refl (le-refl _)
-    go (s ∷ ss) e = record { kept = kept-append (code w) _; pushed = next w ∷ []; breaks = refl; new = fresh-ge (le-refl _) & none; errors = λ h. h; locals = le-refl _; added = []; pool = sym (append-nil _); plain = none; context = refl }
+    go (s ∷ ss) e = record {
+      kept = kept-append (code w) _;
+      pushed = next w ∷ [];
+      breaks = refl;
+      new = fresh-ge (le-refl _) & none;
+      errors = λ h. h;
+      locals = le-refl _;
+      added = [];
+      pool = sym (append-nil _);
+      plain = none;
+      context = refl;
+    }
 
 -- compiler.rs: leaves
 
-pub define-same : (n : ℕ) (f : FunctionState) → (defineLocal n f .state .breakScopes ≡ f .breakScopes) × (f .localCount ≤ defineLocal n f .state .localCount) × (defineLocal n f .state .instructions ≡ f .instructions)
+pub define-same : (n : ℕ) (f : FunctionState) → (defineLocal n f .state .breakScopes ≡ f .breakScopes)
+    × (f .localCount ≤ defineLocal n f .state .localCount) × (defineLocal n f .state .instructions ≡ f .instructions)
 unfolding defineLocal
 define-same n f = go (findName n (innermost (f .scopes)))
   where
-    go : (o : Option ℕ) → (Emission.defineLocalBy o n f .state .breakScopes ≡ f .breakScopes) × (f .localCount ≤ Emission.defineLocalBy o n f .state .localCount) × (Emission.defineLocalBy o n f .state .instructions ≡ f .instructions)
+    go : (o : Option ℕ) → (Emission.defineLocalBy o n f .state .breakScopes ≡ f .breakScopes)
+        × (f .localCount ≤ Emission.defineLocalBy o n f .state .localCount) × (Emission.defineLocalBy o n f .state .instructions ≡ f .instructions)
     go none = (refl, omega arith, refl)
     go (some i) = (refl, omega arith, refl)
 
@@ -168,7 +214,19 @@ unfolding addConstant
 constant-moves c k w = cond-case (λ (a : Added). Moves w (a .work)) (isShared (c .kind)) (λ t. go (findConstant c (w .context .constants) 0)) (λ t. plain)
   where
     plain : Moves w (addConstantNoCheck c w .work)
-    plain = record { kept = kept-refl _; pushed = []; breaks = push-nil _; new = none; errors = λ e. e; locals = le-refl _; added = c ∷ []; pool = refl; plain = k & none; context = refl }
+    plain = record {
+      kept = kept-refl _;
+      pushed = [];
+      breaks = push-nil _;
+      new = none;
+      errors = λ e. e;
+      locals = le-refl _;
+      added = c ∷ [];
+      pool = refl;
+      plain = k & none;
+      context = refl;
+    }
+
     go : (o : Option ℕ) → Moves w (Compiler.addConstantBy o c w .work)
     go none = plain
     go (some i) = moves-refl w
@@ -191,6 +249,7 @@ name-moves l c g n p w = go (Emission.findLocal n (w .function))
     inner : (o : Option ℕ) → Moves w (Compiler.emitNameInContext o c g n p w)
     inner none = emit-global-moves g n p w
     inner (some i) = emit-moves _ p w
+
     go : (o : Option ℕ) → Moves w (Compiler.emitNameBy o l c g n p w)
     go none = inner (findName n (w .compiler .locals))
     go (some i) = emit-moves _ p w
@@ -225,11 +284,13 @@ module _ {a : Step} (A : Moving a) where
 
   pub prefix-moves : (t : Token) → Moving (compilePrefixExpression t a)
   unfolding compilePrefixExpression
-  prefix-moves t w = moves-trans (A w) (cond-case (Moves (a w)) (eqb (t .value) 0) (λ h. emit-moves _ _ _) (λ h. cond-case (Moves (a w)) (eqb (t .value) 1) (λ k. emit-moves _ _ _) (λ k. error-moves 3 t _)))
+  prefix-moves t w = moves-trans (A w) (cond-case (Moves (a w)) (eqb (t .value) 0) (λ h. emit-moves _ _ _)
+      (λ h. cond-case (Moves (a w)) (eqb (t .value) 1) (λ k. emit-moves _ _ _) (λ k. error-moves 3 t _)))
 
   pub part-moves : Moving (compilePart a)
   unfolding compilePart
-  part-moves w = moves-trans (moves-function w _ (kept-refl _) refl (le-refl _)) (moves-trans (A _) (moves-trans (moves-function _ _ (kept-refl _) refl (le-refl _)) (close-moves _)))
+  part-moves w = moves-trans (moves-function w _ (kept-refl _) refl (le-refl _))
+      (moves-trans (A _) (moves-trans (moves-function _ _ (kept-refl _) refl (le-refl _)) (close-moves _)))
 
   pub deeper-moves : Moving (deeper a)
   unfolding deeper
@@ -266,7 +327,7 @@ skip-moves w = moves-refl w
 pub rescue-moves : (t : Token) → Moving (compileRescue t)
 unfolding compileRescue
 rescue-moves t w = cond-case (Moves w) (ltb 1 (w .function .depth)) (λ h. error-moves 4 t w)
-  (λ h. moves-function w _ (return-kept _ (w .function)) (return-same _ (w .function) .breaks) (omega (arith, return-same (t .position) (w .function) .locals)))
+    (λ h. moves-function w _ (return-kept _ (w .function)) (return-same _ (w .function) .breaks) (omega (arith, return-same (t .position) (w .function) .locals)))
 
 module _ {l r g : Step} (L : Moving l) (R : Moving r) (G : Moving g) where
   pub infix-moves : (t : Token) → Moving (compileInfixExpression t l r g)
@@ -284,44 +345,55 @@ module _ {l r g : Step} (L : Moving l) (R : Moving r) (G : Moving g) where
   pub if-moves : Moving (compileIfExpression l r g)
   unfolding compileIfExpression
   if-moves w =
-    let w₁ = l w in
-    let w₂ = Compiler.emitOpcodeWithoutPosition JumpIf w₁ in
-    let w₃ = g w₂ in
-    let m₃ : Moves w₁ w₃ = moves-trans (emit-moves _ _ w₁) (G w₂) in
-    let m₄ : Moves w₁ (Compiler.emitOpcodeWithoutPosition Jump w₃) = moves-trans m₃ (emit-moves _ _ w₃) in
-    moves-trans (L w) (set-moves _ (moves-trans (set-moves _ m₄ (fresh-ge (le-refl _))) (R _)) (fresh-trans (m₃ .kept) (fresh-ge (le-refl _))))
+      let w₁ = l w in
+      let w₂ = Compiler.emitOpcodeWithoutPosition JumpIf w₁ in
+      let w₃ = g w₂ in
+      let m₃ : Moves w₁ w₃ = moves-trans (emit-moves _ _ w₁) (G w₂) in
+      let m₄ : Moves w₁ (Compiler.emitOpcodeWithoutPosition Jump w₃) = moves-trans m₃ (emit-moves _ _ w₃) in
+      moves-trans (L w) (set-moves _ (moves-trans (set-moves _ m₄ (fresh-ge (le-refl _))) (R _)) (fresh-trans (m₃ .kept) (fresh-ge (le-refl _))))
 
 module _ {a b : Step} (A : Moving a) (B : Moving b) where
   -- the enumerable a, the statements b
   pub for-moves : (t i : Token) → Moving (compileForStatement t i a b)
   unfolding compileForStatement exitBreakScope
   for-moves t i w =
-    let enumerableIndex = w .function .localCount in
-    let iteratorIndex = w .function .localCount + 1 in
-    let w₁ = doing (λ f. Emission.enterBreakScope (Emission.enterScope (Emission.defineAnonymousLocal (Emission.defineAnonymousLocal f)))) w in
-    let w₂ = a w₁ in
-    let w₃ = Compiler.emitOpcodeWithoutPosition Pop (emit (toInstruction LocalSet enumerableIndex) (t .position) w₂) in
-    let w₄ = emitConstant PushConstant (constantOf 2 0) (t .position) w₃ in
-    let w₅ = Compiler.emitOpcodeWithoutPosition Pop (emit (toInstruction LocalSet iteratorIndex) (t .position) w₄) in
-    let d = defineLocal (i .value) (w₅ .function) in
-    let w₆ = withFunction (d .state) w₅ in
-    let w₇ = emit (toInstruction ForNext enumerableIndex) (t .position) w₆ in
-    let w₈ = Compiler.emitOpcodeWithoutPosition JumpIf w₇ in
-    let w₉ = Compiler.emitOpcodeWithoutPosition Pop (emit (toInstruction LocalSet (getOr 0 (d .found))) (i .position) w₈) in
-    let m₃ : Moves w₁ w₃ = moves-trans (A w₁) (moves-trans (emit-moves _ _ _) (emit-moves _ _ _)) in
-    let m₅ : Moves w₁ w₅ = moves-trans m₃ (moves-trans (emit-constant-moves PushConstant (constantOf 2 0) (t .position) (omega arith) w₃) (moves-trans (emit-moves _ _ _) (emit-moves _ _ _))) in
-    let m₇ : Moves w₁ w₇ = moves-trans m₅ (moves-trans (define-moves (i .value) w₅) (emit-moves _ _ _)) in
-    let m₉ : Moves w₁ w₉ = moves-trans m₇ (moves-trans (emit-moves _ _ _) (moves-trans (emit-moves _ _ _) (emit-moves _ _ _))) in
-    let n₁ = moves-trans m₉ (B w₉) in
-    let n₃ = moves-trans n₁ (moves-trans (emit-moves (toInstruction Iterate iteratorIndex) _ _) (emit-moves (toInstruction Jump (next w₆)) _ _)) in
-    finish w _ (next w₇) n₃ (fresh-trans (m₇ .kept) (fresh-ge (le-refl _)))
+      let enumerableIndex = w .function .localCount in
+      let iteratorIndex = w .function .localCount + 1 in
+      let w₁ = doing (λ f. Emission.enterBreakScope (Emission.enterScope (Emission.defineAnonymousLocal (Emission.defineAnonymousLocal f)))) w in
+      let w₂ = a w₁ in
+      let w₃ = Compiler.emitOpcodeWithoutPosition Pop (emit (toInstruction LocalSet enumerableIndex) (t .position) w₂) in
+      let w₄ = emitConstant PushConstant (constantOf 2 0) (t .position) w₃ in
+      let w₅ = Compiler.emitOpcodeWithoutPosition Pop (emit (toInstruction LocalSet iteratorIndex) (t .position) w₄) in
+      let d = defineLocal (i .value) (w₅ .function) in
+      let w₆ = withFunction (d .state) w₅ in
+      let w₇ = emit (toInstruction ForNext enumerableIndex) (t .position) w₆ in
+      let w₈ = Compiler.emitOpcodeWithoutPosition JumpIf w₇ in
+      let w₉ = Compiler.emitOpcodeWithoutPosition Pop (emit (toInstruction LocalSet (getOr 0 (d .found))) (i .position) w₈) in
+      let m₃ : Moves w₁ w₃ = moves-trans (A w₁) (moves-trans (emit-moves _ _ _) (emit-moves _ _ _)) in
+      let m₅ : Moves w₁ w₅ = moves-trans m₃ (moves-trans (emit-constant-moves PushConstant (constantOf 2 0) (t .position) (omega arith) w₃)
+      (moves-trans (emit-moves _ _ _) (emit-moves _ _ _))) in
+      let m₇ : Moves w₁ w₇ = moves-trans m₅ (moves-trans (define-moves (i .value) w₅) (emit-moves _ _ _)) in
+      let m₉ : Moves w₁ w₉ = moves-trans m₇ (moves-trans (emit-moves _ _ _) (moves-trans (emit-moves _ _ _) (emit-moves _ _ _))) in
+      let n₁ = moves-trans m₉ (B w₉) in
+      let n₃ = moves-trans n₁ (moves-trans (emit-moves (toInstruction Iterate iteratorIndex) _ _) (emit-moves (toInstruction Jump (next w₆)) _ _)) in
+      finish w _ (next w₇) n₃ (fresh-trans (m₇ .kept) (fresh-ge (le-refl _)))
     where
-      finish : (w v : Work) (exit : ℕ) → Moves (doing (λ f. Emission.enterBreakScope (Emission.enterScope (Emission.defineAnonymousLocal (Emission.defineAnonymousLocal f)))) w) v → Fresh (code w) exit
-        → Moves w (doing Emission.exitScope (doing (exitBreakScope exit) (Compiler.replaceInstruction exit (toInstruction JumpIf (next v)) v)))
+      finish : (w v : Work) (exit : ℕ) → Moves (doing (λ f. Emission.enterBreakScope
+          (Emission.enterScope (Emission.defineAnonymousLocal (Emission.defineAnonymousLocal f)))) w) v → Fresh (code w) exit
+          → Moves w (doing Emission.exitScope (doing (exitBreakScope exit) (Compiler.replaceInstruction exit (toInstruction JumpIf (next v)) v)))
       finish w v exit m f = record {
-        kept = kept-patch (innermost (v .function .breakScopes)) _ (kept-set _ (m .kept) f) (subst (All (Fresh (code w))) (sym (ap innermost (m .breaks))) (m .new));
-        pushed = []; breaks = ap tail (m .breaks) ∙ push-nil _; new = none; errors = m .errors; locals = omega (arith, m .locals);
-        added = m .added; pool = m .pool; plain = m .plain; context = m .context }
+        kept = kept-patch (innermost (v .function .breakScopes)) _ (kept-set _ (m .kept) f)
+            (subst (All (Fresh (code w))) (sym (ap innermost (m .breaks))) (m .new));
+        pushed = [];
+        breaks = ap tail (m .breaks) ∙ push-nil _;
+        new = none;
+        errors = m .errors;
+        locals = omega (arith, m .locals);
+        added = m .added;
+        pool = m .pool;
+        plain = m .plain;
+        context = m .context;
+      }
 
 pub this-moves : (t : Token) → Moving (compileThisExpression t)
 unfolding compileThisExpression
@@ -330,7 +402,9 @@ this-moves t w = moves-function w _ (kept-append _ _) refl (le-refl _)
 -- every piece moves
 
 mutual
-  unfolding compileExpression compileIdentifierExpression compileNullExpression compileIntegerExpression compileFloatExpression compileStringExpression compileBooleanExpression compileAssignName
+  unfolding compileExpression compileIdentifierExpression compileNullExpression compileIntegerExpression compileFloatExpression compileStringExpression
+      compileBooleanExpression compileAssignName
+
   pub expression-moves : (e : Expression) → Moving (compileExpression e)
   expression-moves (Identifier t) = name-moves _ _ _ _ _
   expression-moves (This t) = this-moves t
@@ -343,7 +417,8 @@ mutual
   expression-moves (Prefix t right) = prefix-moves (expression-moves right) t
   expression-moves (Infix left t right) = infix-moves (expression-moves left) (expression-moves right) (target-moves left t) t
   expression-moves (If condition truePart) = if-moves (expression-moves condition) (part-moves (statements-moves truePart)) no-part-moves
-  expression-moves (IfElse condition truePart falsePart) = if-moves (expression-moves condition) (part-moves (statements-moves truePart)) (part-moves (statements-moves falsePart))
+  expression-moves (IfElse condition truePart falsePart) = if-moves (expression-moves condition) (part-moves (statements-moves truePart))
+      (part-moves (statements-moves falsePart))
   expression-moves (Call t function parameters) = call-moves (expression-moves function) (expressions-moves parameters) _ _
   expression-moves (InstanceGet t instance index) = pair-moves (expression-moves instance) (expression-moves index) _ _
   expression-moves (IndexGet t instance index) = pair-moves (expression-moves instance) (expression-moves index) _ _

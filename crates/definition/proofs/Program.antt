@@ -24,7 +24,8 @@ use Rattle.definition.specs.Book.{Function, Model, Method, Assembly, Con
 use Rattle.definition.specs.Book.{Deed, working, resumed, Placed, addBookConstant, MaybePlaced, defineContextLocal, defineContextLocalBy}
 use Rattle.definition.specs.Book.{setLocalValue, findAssembly, publicOf, giveValue, compileAlias, compileIncludeDefinition, Value, Standing, Adding}
 use Rattle.definition.specs.Book.{NoConstant, valueOf, compileValue, compileBindingBy, compileBinding, compileLocalDefinition}
-use Rattle.definition.specs.Book.{addProperty, noted, addModel, valueAt, compileProperties, hasText, compileModelDefinition, publish, Made, compileBase, addFunction}
+use Rattle.definition.specs.Book.{addProperty, noted, addModel, valueAt, compileProperties, hasText, compileModelDefinition, publish, Made}
+use Rattle.definition.specs.Book.{compileBase, addFunction}
 use Rattle.definition.specs.Book.{addPlainFunction, compileFunctionDefinition, modelOf, constantAt, getLocalValue, findModelBy, findModelIn}
 use Rattle.definition.specs.Book.{findModelIndexByLocalName, insertEntry, sameMethod, insertMethod, insertMethods, addMethods, methodsIn, Methods}
 use Rattle.definition.specs.Book.{compileMethods, compileImplementDefinition, methodsOf, compileApplyDefinition, compileDefinition}
@@ -55,7 +56,14 @@ record BookGood (b : Book.Book) : Type 0 where
 -- growing counts
 
 safe-mono : {K K′ C C′ : ℕ} {f : FunctionState} → K ≤ K′ → C ≤ C′ → FunctionSafe K C f → FunctionSafe K′ C′ f
-safe-mono {f = f} k c s = record { sized = s .sized; fits = fits-mono (f .instructions) (record { tops = le-refl _; slots = le-refl _; pools = k; globals = c; reads = λ i a. a }) (s .fits); rescue = s .rescue; loops = s .loops; breaks = s .breaks }
+safe-mono {f = f} k c s = record {
+  sized = s .sized;
+  fits = fits-mono (f .instructions)
+      (record { tops = le-refl _; slots = le-refl _; pools = k; globals = c; reads = λ i a. a }) (s .fits);
+  rescue = s .rescue;
+  loops = s .loops;
+  breaks = s .breaks;
+}
 
 named-mono : {M M′ F F′ : ℕ} {c : Constant} → M ≤ M′ → F ≤ F′ → Named M F c → Named M′ F′ c
 named-mono m f n = (λ e. le-trans (n .0 e) m, λ e. le-trans (n .1 e) f)
@@ -78,7 +86,8 @@ parts-mono k c m f a p = record {
   values = all-map (λ x h. (le-trans (h .0) c, le-trans (h .1) k)) (p .values);
   methods = all-map (λ x h. (le-trans (h .0) m, le-trans (h .1) f)) (p .methods);
   publics = all-map (λ x hs. (le-trans (hs .0) a, all-map (λ y h. le-trans h k) (hs .1))) (p .publics);
-  entry = entered-mono f (p .entry) }
+  entry = entered-mono f (p .entry);
+}
 
 -- lists
 
@@ -88,7 +97,8 @@ all-insert {P} {l} e p (_&_ {x = x} {xs = xs} q qs) = cond-case (All P) (eqb (x 
 
 -- a pool's constant, found or added
 
-pub added-case : (P : Added → Type 0) (c : Constant) (w : Work) → P (addConstantNoCheck c w) → ((i : ℕ) → i < length (w .context .constants) → P (record { index = i; work = w })) → P (addConstant c w)
+pub added-case : (P : Added → Type 0) (c : Constant) (w : Work) → P (addConstantNoCheck c w)
+    → ((i : ℕ) → i < length (w .context .constants) → P (record { index = i; work = w })) → P (addConstant c w)
 unfolding addConstant
 added-case P c w new old = cond-case P (isShared (c .kind)) (λ t. go (findConstant c (w .context .constants) 0) refl) (λ t. new)
   where
@@ -100,22 +110,46 @@ record BookPlaced (b : Book.Book) (p : Placed) : Type 0 where
   good : BookGood (p .book)
   inside : p .place < length (p .book .context .pool .constants)
 
-constant-placed : (c : Constant) (b : Book.Book) → BookGood b → Named (length (b .context .models)) (length (b .context .functions)) c → BookPlaced b (addBookConstant c b)
-constant-placed c b g n = added-case (λ (a : Added). BookPlaced b (record { place = a .index; book = resumed (a .work) b })) c (working b) new (λ i h. record { good = record { parts = g .parts; pool = g .pool; names = g .names; own = g .own; index = g .index; counted = g .counted }; inside = h })
+constant-placed : (c : Constant) (b : Book.Book) → BookGood b → Named (length (b .context .models)) (length (b .context .functions)) c
+    → BookPlaced b (addBookConstant c b)
+constant-placed c b g n = added-case (λ (a : Added). BookPlaced b (record { place = a .index; book = resumed (a .work) b })) c (working b) new
+    (λ i h. record { good = record { parts = g .parts; pool = g .pool; names = g .names; own = g .own; index = g .index; counted = g .counted }; inside = h })
   where
     cs : List Constant
     cs = b .context .pool .constants
+
     longer : length (cs ++ (c ∷ [])) ≡ length cs + 1
     longer = length-append cs (c ∷ [])
+
     more : length cs ≤ length (cs ++ (c ∷ []))
     more = omega (arith, longer)
-    p : Parts (length (cs ++ (c ∷ []))) (b .context .pool .localCount) (length (b .context .models)) (length (b .context .functions)) (length (b .context .assemblies) + 1) (b .context)
+
+    p : Parts (length (cs ++ (c ∷ []))) (b .context .pool .localCount) (length (b .context .models)) (length (b .context .functions))
+        (length (b .context .assemblies) + 1) (b .context)
     p = parts-mono more (le-refl _) (le-refl _) (le-refl _) (le-refl _) (g .parts)
+
     new : BookPlaced b (record { place = addConstantNoCheck c (working b) .index; book = resumed (addConstantNoCheck c (working b) .work) b })
-    new = record { good = record {
-        parts = record { functions = p .functions; constants = all-append (p .constants) (n & none); globals = p .globals; models = p .models; names = p .names; values = p .values; methods = p .methods; publics = p .publics; entry = p .entry };
-        pool = le-trans (g .pool) more; names = g .names; own = all-map (λ x h. le-trans h more) (g .own); index = g .index; counted = g .counted };
-      inside = omega (arith, longer) }
+    new = record {
+      good = record {
+        parts = record {
+          functions = p .functions;
+          constants = all-append (p .constants) (n & none);
+          globals = p .globals;
+          models = p .models;
+          names = p .names;
+          values = p .values;
+          methods = p .methods;
+          publics = p .publics;
+          entry = p .entry;
+        };
+        pool = le-trans (g .pool) more;
+        names = g .names;
+        own = all-map (λ x h. le-trans h more) (g .own);
+        index = g .index;
+        counted = g .counted;
+      };
+      inside = omega (arith, longer);
+    }
 
 -- a context local
 
@@ -132,24 +166,71 @@ defined n b g = go (findName n (b .compiler .locals))
   where
     L : ℕ
     L = b .context .pool .localCount
-    p : Parts (length (b .context .pool .constants)) (L + 1) (length (b .context .models)) (length (b .context .functions)) (length (b .context .assemblies) + 1) (b .context)
+
+    p : Parts (length (b .context .pool .constants)) (L + 1) (length (b .context .models)) (length (b .context .functions))
+        (length (b .context .assemblies) + 1) (b .context)
     p = parts-mono (le-refl _) (omega arith) (le-refl _) (le-refl _) (le-refl _) (g .parts)
+
     go : (o : Option ℕ) → BookDefined b (defineContextLocalBy o n b)
-    go (some i) = record { good = g; inside = λ j e. absurd (let z : _≡_ {A = ℕ} 0 1 = cc in omega arith); constants = refl; functions = refl; faults-same = refl }
+    go (some i) = record {
+      good = g;
+      inside = λ j e. absurd (let z : _≡_ {A = ℕ} 0 1 = cc in omega arith);
+      constants = refl;
+      functions = refl;
+      faults-same = refl;
+    }
     go none = record {
-      good = record { parts = record { functions = p .functions; constants = p .constants; globals = p .globals; models = p .models; names = all-append (p .names) (mine & none); values = p .values; methods = p .methods; publics = p .publics; entry = p .entry };
-        pool = g .pool; names = all-append (all-map (λ x h. omega arith) (g .names)) (here & none); own = g .own; index = g .index;
-        counted = length-append (b .context .localNames) _ ∙ ap (λ n. n + 1) (g .counted) };
-      inside = λ j e. let z : L ≡ j = cc in omega arith; constants = refl; functions = refl; faults-same = refl }
+      good = record {
+        parts = record {
+          functions = p .functions;
+          constants = p .constants;
+          globals = p .globals;
+          models = p .models;
+          names = all-append (p .names) (mine & none);
+          values = p .values;
+          methods = p .methods;
+          publics = p .publics;
+          entry = p .entry;
+        };
+        pool = g .pool;
+        names = all-append (all-map (λ x h. omega arith) (g .names)) (here & none);
+        own = g .own;
+        index = g .index;
+        counted = length-append (b .context .localNames) _ ∙ ap (λ n. n + 1) (g .counted);
+      };
+      inside = λ j e. let z : L ≡ j = cc in omega arith;
+      constants = refl;
+      functions = refl;
+      faults-same = refl;
+    }
       where
         here : L < L + 1
         here = omega arith
+
         mine : b .assembly .index < length (b .context .assemblies) + 1
         mine = omega (arith, g .index)
 
-value-good : (o : Option ℕ) (c : ℕ) (b : Book.Book) → BookGood b → ((i : ℕ) → o ≡ some i → i < b .context .pool .localCount) → c < length (b .context .pool .constants) → BookGood (setLocalValue o c b)
+value-good : (o : Option ℕ) (c : ℕ) (b : Book.Book) → BookGood b → ((i : ℕ) → o ≡ some i → i < b .context .pool .localCount)
+    → c < length (b .context .pool .constants) → BookGood (setLocalValue o c b)
 value-good none c b g h k = g
-value-good (some i) c b g h k = record { parts = record { functions = g .parts .functions; constants = g .parts .constants; globals = g .parts .globals; models = g .parts .models; names = g .parts .names; values = all-insert _ (h i refl, k) (g .parts .values); methods = g .parts .methods; publics = g .parts .publics; entry = g .parts .entry }; pool = g .pool; names = g .names; own = g .own; index = g .index; counted = g .counted }
+value-good (some i) c b g h k = record {
+  parts = record {
+    functions = g .parts .functions;
+    constants = g .parts .constants;
+    globals = g .parts .globals;
+    models = g .parts .models;
+    names = g .parts .names;
+    values = all-insert _ (h i refl, k) (g .parts .values);
+    methods = g .parts .methods;
+    publics = g .parts .publics;
+    entry = g .parts .entry;
+  };
+  pool = g .pool;
+  names = g .names;
+  own = g .own;
+  index = g .index;
+  counted = g .counted;
+}
 
 value-faults : (o : Option ℕ) (c : ℕ) (b : Book.Book) → faults (setLocalValue o c b) ≡ faults b
 value-faults none c b = refl
@@ -188,25 +269,34 @@ find-assembly {P} n a (x ∷ l) (p & ps) e = go (eqb (x .filename) n) (λ q. fin
     go true r q = let z : x ≡ a = cc in subst P z p
     go false r q = r q
 
-find-public : (m n i : ℕ) (b : Book.Book) → BookGood b → publicOf (findAssembly m (b .context .assemblies)) n ≡ some i → i < length (b .context .pool .constants)
+find-public : (m n i : ℕ) (b : Book.Book) → BookGood b → publicOf (findAssembly m (b .context .assemblies)) n ≡ some i
+    → i < length (b .context .pool .constants)
 find-public m n i b g e = go (findAssembly m (b .context .assemblies)) refl e
   where
     go : (o : Option Assembly) → findAssembly m (b .context .assemblies) ≡ o → publicOf o n ≡ some i → i < length (b .context .pool .constants)
     go none q r = absurd (let z : _≡_ {A = ℕ} 0 1 = cc in omega arith)
-    go (some a) q r = find-name n i (find-assembly {P = λ (x : Assembly). (x .index < length (b .context .assemblies) + 1) × All (λ (y : Entry). y .index < length (b .context .pool .constants)) (x .publics)} m a _ (g .parts .publics) q .1) r
+    go (some a) q r = find-name n i (find-assembly {P = λ (x : Assembly). (x .index < length (b .context .assemblies) + 1)
+        × All (λ (y : Entry). y .index < length (b .context .pool .constants)) (x .publics)} m a _ (g .parts .publics) q .1) r
 
 alias-fine : (file : ℕ) (a : Alias) → Fine (compileAlias file a)
 unfolding compileAlias
 alias-fine file a = record {
   before = λ b e. same b (lookup b) e;
-  keeps = λ b g e. let d = defined (a .alias .value) b g in go b d _ refl (λ i q. rw (d .constants) (find-public file (a .publicName .value) i b g q)) }
+  keeps = λ b g e. let d = defined (a .alias .value) b g in go b d _ refl (λ i q. rw (d .constants) (find-public file (a .publicName .value) i b g q));
+}
   where
     lookup : Book.Book → Option ℕ
     lookup b = publicOf (findAssembly file (b .context .assemblies)) (a .publicName .value)
-    same : (b : Book.Book) (o : Option ℕ) → faults (giveValue (defineContextLocal (a .alias .value) b .place) o (defineContextLocal (a .alias .value) b .book)) ≡ [] → faults b ≡ []
+
+    same : (b : Book.Book) (o : Option ℕ) → faults (giveValue (defineContextLocal (a .alias .value) b .place) o
+        (defineContextLocal (a .alias .value) b .book)) ≡ [] → faults b ≡ []
     same b none e = define-before (a .alias .value) b e
-    same b (some c) e = define-before (a .alias .value) b (sym (value-faults (defineContextLocal (a .alias .value) b .place) c (defineContextLocal (a .alias .value) b .book)) ∙ e)
-    go : (b : Book.Book) → BookDefined b (defineContextLocal (a .alias .value) b) → (o : Option ℕ) → lookup b ≡ o → ((i : ℕ) → lookup b ≡ some i → i < length (defineContextLocal (a .alias .value) b .book .context .pool .constants)) → BookGood (giveValue (defineContextLocal (a .alias .value) b .place) o (defineContextLocal (a .alias .value) b .book))
+    same b (some c) e = define-before (a .alias .value) b (sym
+        (value-faults (defineContextLocal (a .alias .value) b .place) c (defineContextLocal (a .alias .value) b .book)) ∙ e)
+
+    go : (b : Book.Book) → BookDefined b (defineContextLocal (a .alias .value) b) → (o : Option ℕ) → lookup b ≡ o
+        → ((i : ℕ) → lookup b ≡ some i → i < length (defineContextLocal (a .alias .value) b .book .context .pool .constants))
+        → BookGood (giveValue (defineContextLocal (a .alias .value) b .place) o (defineContextLocal (a .alias .value) b .book))
     go b d none q h = d .good
     go b d (some c) q h = value-good _ c _ (d .good) (d .inside) (h c q)
 
@@ -228,9 +318,9 @@ data Simple : Value → Type 0 where
 
 simple : (t : Token) → Simple (valueOf t)
 simple t = cond-case Simple (eqb (t .kind) 32) (λ h. standing (omega arith))
-  (λ h. cond-case Simple (eqb (t .kind) 36) (λ h. standing (cond-case (λ n. n < 3) (eqb (t .value) 1) (λ h. omega arith) (λ h. omega arith)))
-  (λ h. cond-case Simple (eqb (t .kind) 33) (λ h. adding (omega arith))
-  (λ h. cond-case Simple (eqb (t .kind) 34) (λ h. adding (omega arith)) (λ h. neither))))
+    (λ h. cond-case Simple (eqb (t .kind) 36) (λ h. standing (cond-case (λ n. n < 3) (eqb (t .value) 1) (λ h. omega arith) (λ h. omega arith)))
+    (λ h. cond-case Simple (eqb (t .kind) 33) (λ h. adding (omega arith))
+    (λ h. cond-case Simple (eqb (t .kind) 34) (λ h. adding (omega arith)) (λ h. neither))))
 
 constant-before : (c : Constant) (b : Book.Book) → faults (addBookConstant c b .book) ≡ faults b
 constant-before c b = added-case (λ (a : Added). faults (resumed (a .work) b) ≡ faults b) c (working b) refl (λ i h. refl)
@@ -243,22 +333,30 @@ compile-value-before (Standing n) t o b e = sym (value-faults o n b) ∙ e
 compile-value-before (Adding c) t o b e = sym (constant-before c b) ∙ sym (value-faults o (addBookConstant c b .place) (addBookConstant c b .book)) ∙ e
 compile-value-before NoConstant t o b e = faulty 5 t b e
 
-compile-value-good : {v : Value} → Simple v → (t : Token) (i : ℕ) (b : Book.Book) → BookGood b → i < b .context .pool .localCount → faults (compileValue v t (some i) b) ≡ [] → BookGood (compileValue v t (some i) b)
+compile-value-good : {v : Value} → Simple v → (t : Token) (i : ℕ) (b : Book.Book) → BookGood b → i < b .context .pool .localCount
+    → faults (compileValue v t (some i) b) ≡ [] → BookGood (compileValue v t (some i) b)
 compile-value-good (standing h) t i b g k e = value-good (some i) _ b g (λ j q. let z : i ≡ j = cc in omega arith) (le-trans h (g .pool))
 compile-value-good (adding {k = n} {v = v} h) t i b g k e =
-  let a = constant-placed (constantOf n v) b g (plain-named n v h) in
-  value-good (some i) _ _ (a .good) (λ j q. let z : i ≡ j = cc in omega (arith, constant-locals (constantOf n v) b)) (a .inside)
+    let a = constant-placed (constantOf n v) b g (plain-named n v h) in
+    value-good (some i) _ _ (a .good) (λ j q. let z : i ≡ j = cc in omega (arith, constant-locals (constantOf n v) b)) (a .inside)
 compile-value-good neither t i b g k e = faulty 5 t b e
 
 binding-fine : (x : Binding) → Fine (compileBinding x)
 unfolding compileBinding
-binding-fine x = record { before = λ b e. define-before (x .variable .value) b (back (defineContextLocal (x .variable .value) b .place) (x .value) _ e); keeps = λ b g e. let d = defined (x .variable .value) b g in go b d (defineContextLocal (x .variable .value) b .place) (x .value) (d .inside) e }
+binding-fine x = record {
+  before = λ b e. define-before (x .variable .value) b (back (defineContextLocal (x .variable .value) b .place) (x .value) _ e);
+  keeps = λ b g e. let d = defined (x .variable .value) b g in go b d (defineContextLocal (x .variable .value) b .place) (x .value) (d .inside) e;
+}
   where
     back : (o : Option ℕ) (v : Option Token) (b : Book.Book) → faults (compileBindingBy o v b) ≡ [] → faults b ≡ []
     back none v b e = e
     back (some i) none b e = e
     back (some i) (some t) b e = compile-value-before (valueOf t) t (some i) b e
-    go : (b : Book.Book) → BookDefined b (defineContextLocal (x .variable .value) b) → (o : Option ℕ) (v : Option Token) → ((i : ℕ) → o ≡ some i → i < defineContextLocal (x .variable .value) b .book .context .pool .localCount) → faults (compileBindingBy o v (defineContextLocal (x .variable .value) b .book)) ≡ [] → BookGood (compileBindingBy o v (defineContextLocal (x .variable .value) b .book))
+
+    go : (b : Book.Book) → BookDefined b (defineContextLocal (x .variable .value) b) → (o : Option ℕ) (v : Option Token)
+        → ((i : ℕ) → o ≡ some i → i < defineContextLocal (x .variable .value) b .book .context .pool .localCount)
+        → faults (compileBindingBy o v (defineContextLocal (x .variable .value) b .book)) ≡ []
+        → BookGood (compileBindingBy o v (defineContextLocal (x .variable .value) b .book))
     go b d none v h e = d .good
     go b d (some i) none h e = d .good
     go b d (some i) (some t) h e = compile-value-good (simple t) t i _ (d .good) (h i refl) e
@@ -270,34 +368,57 @@ locals-fine (x ∷ l) = fine-then (binding-fine x) (locals-fine l)
 
 -- models
 
-property-case : (P : Book.Properties → Type 0) (t : Token) (ps : List ℕ) (b : Book.Book) → P (record { texts = ps; book = pushBookError 6 t b }) → ((n : ℕ) → P (record { texts = ps ++ (t .value ∷ []); book = noted propertiesArea n b })) → P (addProperty t ps b)
+property-case : (P : Book.Properties → Type 0) (t : Token) (ps : List ℕ) (b : Book.Book) → P (record { texts = ps; book = pushBookError 6 t b })
+    → ((n : ℕ) → P (record { texts = ps ++ (t .value ∷ []); book = noted propertiesArea n b })) → P (addProperty t ps b)
 property-case P t ps b old new = cond-case P (hasText (t .value) ps) (λ h. old) (λ h. new _)
 
 property-before : (t : Token) (ps : List ℕ) (b : Book.Book) → faults (addProperty t ps b .book) ≡ [] → faults b ≡ []
 property-before t ps b = property-case (λ a. faults (a .book) ≡ [] → faults b ≡ []) t ps b (λ e. faulty 6 t b e) (λ n e. e)
 
 property-good : (t : Token) (ps : List ℕ) (b : Book.Book) → BookGood b → faults (addProperty t ps b .book) ≡ [] → BookGood (addProperty t ps b .book)
-property-good t ps b g = property-case (λ a. faults (a .book) ≡ [] → BookGood (a .book)) t ps b (λ e. faulty 6 t b e) (λ n e. record { parts = g .parts; pool = g .pool; names = g .names; own = g .own; index = g .index; counted = g .counted })
+property-good t ps b g = property-case (λ a. faults (a .book) ≡ [] → BookGood (a .book)) t ps b (λ e. faulty 6 t b e)
+    (λ n e. record { parts = g .parts; pool = g .pool; names = g .names; own = g .own; index = g .index; counted = g .counted })
 
 properties-before : (ts : List Token) (ps : List ℕ) (b : Book.Book) → faults (compileProperties ts ps b .book) ≡ [] → faults b ≡ []
 unfolding compileProperties
 properties-before [] ps b e = e
 properties-before (t ∷ ts) ps b e = property-before t ps b (properties-before ts _ _ e)
 
-properties-good : (ts : List Token) (ps : List ℕ) (b : Book.Book) → BookGood b → faults (compileProperties ts ps b .book) ≡ [] → BookGood (compileProperties ts ps b .book)
+properties-good : (ts : List Token) (ps : List ℕ) (b : Book.Book) → BookGood b → faults (compileProperties ts ps b .book) ≡ []
+    → BookGood (compileProperties ts ps b .book)
 unfolding compileProperties
 properties-good [] ps b g e = g
 properties-good (t ∷ ts) ps b g e = properties-good ts _ _ (property-good t ps b g (properties-before ts _ _ e)) e
 
 -- a new model
 model-added : (b : Book.Book) (ps : List ℕ) (n : ℕ) → BookGood b → BookGood (addModel ps n b)
-model-added b ps n g = record { parts = record { functions = p .functions; constants = p .constants; globals = p .globals; models = all-append (p .models) (mine & none); names = p .names; values = p .values; methods = p .methods; publics = p .publics; entry = p .entry }; pool = g .pool; names = g .names; own = g .own; index = g .index; counted = g .counted }
+model-added b ps n g = record {
+  parts = record {
+    functions = p .functions;
+    constants = p .constants;
+    globals = p .globals;
+    models = all-append (p .models) (mine & none);
+    names = p .names;
+    values = p .values;
+    methods = p .methods;
+    publics = p .publics;
+    entry = p .entry;
+  };
+  pool = g .pool;
+  names = g .names;
+  own = g .own;
+  index = g .index;
+  counted = g .counted;
+}
   where
     m : Model
     m = record { properties = ps; name = n; file = b .assembly .index }
+
     mine : b .assembly .index < length (b .context .assemblies) + 1
     mine = omega (arith, g .index)
-    p : Parts (length (b .context .pool .constants)) (b .context .pool .localCount) (length (b .context .models ++ (m ∷ []))) (length (b .context .functions)) (length (b .context .assemblies) + 1) (b .context)
+
+    p : Parts (length (b .context .pool .constants)) (b .context .pool .localCount) (length (b .context .models ++ (m ∷ [])))
+        (length (b .context .functions)) (length (b .context .assemblies) + 1) (b .context)
     p = parts-mono (le-refl _) (le-refl _) (omega (arith, length-append (b .context .models) (m ∷ []))) (le-refl _) (le-refl _) (g .parts)
 
 record Places (d : Book.Book → Placed) : Type 0 where
@@ -309,29 +430,49 @@ unfolding compileModelDefinition
 model-places n ts = record {
   before = λ b e. properties-before ts [] b (back b e);
   places = λ b g e.
-    let b₁ = compileProperties ts [] b .book in
-    let g₁ = properties-good ts [] b g (back b e) in
-    let b₂ = second b in
-    let g₂ : BookGood b₂ = model-added b₁ (compileProperties ts [] b .texts) (n .value) g₁ in
-    let c = constantOf 5 (length (b₁ .context .models)) in
-    let a = constant-placed c b₂ g₂ (λ q. omega (arith, length-append (b₁ .context .models) (newModel b ∷ [])), λ q. absurd (omega arith)) in
-    let d = defined (n .value) (addBookConstant c b₂ .book) (a .good) in
-    record { good = value-good _ _ _ (d .good) (d .inside) (rw (d .constants) (a .inside)); inside = inside (defineContextLocal (n .value) (addBookConstant c b₂ .book)) (addBookConstant c b₂) (rw (d .constants) (a .inside)) } }
+      let b₁ = compileProperties ts [] b .book in
+      let g₁ = properties-good ts [] b g (back b e) in
+      let b₂ = second b in
+      let g₂ : BookGood b₂ = model-added b₁ (compileProperties ts [] b .texts) (n .value) g₁ in
+      let c = constantOf 5 (length (b₁ .context .models)) in
+      let a = constant-placed c b₂ g₂ (λ q. omega (arith, length-append (b₁ .context .models) (newModel b ∷ [])), λ q. absurd (omega arith)) in
+      let d = defined (n .value) (addBookConstant c b₂ .book) (a .good) in
+      record {
+        good = value-good _ _ _ (d .good) (d .inside) (rw (d .constants) (a .inside));
+        inside = inside (defineContextLocal (n .value) (addBookConstant c b₂ .book)) (addBookConstant c b₂) (rw (d .constants) (a .inside));
+      };
+}
   where
     newModel : Book.Book → Model
     newModel b = record { properties = compileProperties ts [] b .texts; name = n .value; file = compileProperties ts [] b .book .assembly .index }
-    inside : (d : MaybePlaced) (a : Placed) → a .place < length (d .book .context .pool .constants) → a .place < length (setLocalValue (d .place) (a .place) (d .book) .context .pool .constants)
+
+    inside : (d : MaybePlaced) (a : Placed) → a .place < length (d .book .context .pool .constants)
+        → a .place < length (setLocalValue (d .place) (a .place) (d .book) .context .pool .constants)
     inside d a h = rw (value-pool (d .place) (a .place) (d .book)) h
+
     second : Book.Book → Book.Book
     second b = addModel (compileProperties ts [] b .texts) (n .value) (compileProperties ts [] b .book)
+
     back : (b : Book.Book) → faults (compileModelDefinition n ts b .book) ≡ [] → faults (compileProperties ts [] b .book) ≡ []
     back b e =
-      let c = constantOf 5 (length (compileProperties ts [] b .book .context .models)) in
-      let a = addBookConstant c (second b) in
-      sym (constant-before c (second b)) ∙ define-before (n .value) (a .book) (sym (value-faults (defineContextLocal (n .value) (a .book) .place) (a .place) (defineContextLocal (n .value) (a .book) .book)) ∙ e)
+        let c = constantOf 5 (length (compileProperties ts [] b .book .context .models)) in
+        let a = addBookConstant c (second b) in
+        sym (constant-before c (second b)) ∙ define-before (n .value) (a .book)
+        (sym (value-faults (defineContextLocal (n .value) (a .book) .place) (a .place) (defineContextLocal (n .value) (a .book) .book)) ∙ e)
 
 publish-fine : {d : Book.Book → Placed} (n : ℕ) → Places d → Fine (λ b. publish n (d b))
-publish-fine n D = record { before = D .before; keeps = λ b g e. let p = D .places b g e in record { parts = p .good .parts; pool = p .good .pool; names = p .good .names; own = all-insert _ (p .inside) (p .good .own); index = p .good .index; counted = p .good .counted } }
+publish-fine n D = record {
+  before = D .before;
+  keeps = λ b g e. let p = D .places b g e in
+      record {
+        parts = p .good .parts;
+        pool = p .good .pool;
+        names = p .good .names;
+        own = all-insert _ (p .inside) (p .good .own);
+        index = p .good .index;
+        counted = p .good .counted;
+      };
+}
 
 place-fine : {d : Book.Book → Placed} → Places d → Fine (λ b. d b .book)
 place-fine D = record { before = D .before; keeps = λ b g e. D .places b g e .good }
@@ -351,21 +492,43 @@ plain-all ps = all-map (λ c h. (λ e. absurd (omega arith), λ e. absurd (omega
 
 base-made : (f : FunctionDefinition) (b : Book.Book) → BookGood b → faults (compileBase f b .book) ≡ [] → BookMade b (compileBase f b)
 unfolding compileBase
-base-made f b g e = record { good = record {
-      parts = record { functions = p .functions; constants = rw (m .pool) (all-append (p .constants) (plain-all (m .plain))); globals = h .marks; models = p .models; names = p .names; values = p .values; methods = p .methods; publics = p .publics; entry = p .entry };
-      pool = h .pool; names = h .names; own = all-map (λ x q. le-trans q more) (g .own); index = g .index; counted = g .counted ∙ sym (m .context) };
-    safe = function-safe (f .parameters) (f .body) (working b) (set-out b g) e;
-    locals = omega (arith, m .context) }
+base-made f b g e = record {
+  good = record {
+    parts = record {
+      functions = p .functions;
+      constants = rw (m .pool) (all-append (p .constants) (plain-all (m .plain)));
+      globals = h .marks;
+      models = p .models;
+      names = p .names;
+      values = p .values;
+      methods = p .methods;
+      publics = p .publics;
+      entry = p .entry;
+    };
+    pool = h .pool;
+    names = h .names;
+    own = all-map (λ x q. le-trans q more) (g .own);
+    index = g .index;
+    counted = g .counted ∙ sym (m .context);
+  };
+  safe = function-safe (f .parameters) (f .body) (working b) (set-out b g) e;
+  locals = omega (arith, m .context);
+}
   where
     w : Work
     w = compileFunctionDefinitionBase (f .parameters) (f .body) (working b)
+
     m : Moves (Compiler.withFunction newFunctionState (working b)) w
     m = function-moves (f .parameters) (f .body) (working b)
+
     h : Good w
     h = function-good (f .parameters) (f .body) (working b) (set-out b g) e
+
     more : length (b .context .pool .constants) ≤ length (w .context .constants)
     more = omega (arith, length-append (b .context .pool .constants) (m .added), ap length (m .pool))
-    p : Parts (length (w .context .constants)) (w .context .localCount) (length (b .context .models)) (length (b .context .functions)) (length (b .context .assemblies) + 1) (b .context)
+
+    p : Parts (length (w .context .constants)) (w .context .localCount) (length (b .context .models)) (length (b .context .functions))
+        (length (b .context .assemblies) + 1) (b .context)
     p = parts-mono more (omega (arith, m .context)) (le-refl _) (le-refl _) (le-refl _) (g .parts)
 
 base-before : (f : FunctionDefinition) (b : Book.Book) → faults (compileBase f b .book) ≡ [] → faults b ≡ []
@@ -373,13 +536,34 @@ unfolding compileBase
 base-before f b e = function-moves (f .parameters) (f .body) (working b) .errors e
 
 -- a function at the end
-function-added : (s : FunctionState) (n : ℕ) (b : Book.Book) → BookGood b → FunctionSafe (length (b .context .pool .constants)) (b .context .pool .localCount) s → BookGood (addFunction s n b)
-function-added s n b g h = record { parts = record { functions = all-append (p .functions) ((h, mine) & none); constants = p .constants; globals = p .globals; models = p .models; names = p .names; values = p .values; methods = p .methods; publics = p .publics; entry = p .entry }; pool = g .pool; names = g .names; own = g .own; index = g .index; counted = g .counted }
+function-added : (s : FunctionState) (n : ℕ) (b : Book.Book) → BookGood b
+    → FunctionSafe (length (b .context .pool .constants)) (b .context .pool .localCount) s → BookGood (addFunction s n b)
+function-added s n b g h = record {
+  parts = record {
+    functions = all-append (p .functions) ((h, mine) & none);
+    constants = p .constants;
+    globals = p .globals;
+    models = p .models;
+    names = p .names;
+    values = p .values;
+    methods = p .methods;
+    publics = p .publics;
+    entry = p .entry;
+  };
+  pool = g .pool;
+  names = g .names;
+  own = g .own;
+  index = g .index;
+  counted = g .counted;
+}
   where
     mine : b .assembly .index < length (b .context .assemblies) + 1
     mine = omega (arith, g .index)
-    p : Parts (length (b .context .pool .constants)) (b .context .pool .localCount) (length (b .context .models)) (length (addFunction s n b .context .functions)) (length (b .context .assemblies) + 1) (b .context)
-    p = parts-mono (le-refl _) (le-refl _) (le-refl _) (omega (arith, length-append (b .context .functions) (record { state = s; name = n; file = b .assembly .index } ∷ []))) (le-refl _) (g .parts)
+
+    p : Parts (length (b .context .pool .constants)) (b .context .pool .localCount) (length (b .context .models))
+        (length (addFunction s n b .context .functions)) (length (b .context .assemblies) + 1) (b .context)
+    p = parts-mono (le-refl _) (le-refl _) (le-refl _) (omega
+        (arith, length-append (b .context .functions) (record { state = s; name = n; file = b .assembly .index } ∷ []))) (le-refl _) (g .parts)
 
 value-functions : (o : Option ℕ) (c : ℕ) (b : Book.Book) → setLocalValue o c b .context .functions ≡ b .context .functions
 value-functions none c b = refl
@@ -389,28 +573,58 @@ constant-functions : (c : Constant) (b : Book.Book) → addBookConstant c b .boo
 constant-functions c b = added-case (λ (a : Added). resumed (a .work) b .context .functions ≡ b .context .functions) c (working b) refl (λ i h. refl)
 
 entry-good : (n : ℕ) (b : Book.Book) → BookGood b → n < length (b .context .functions) → BookGood (Book.withContext (Book.withEntryPoint n (b .context)) b)
-entry-good n b g h = record { parts = record { functions = g .parts .functions; constants = g .parts .constants; globals = g .parts .globals; models = g .parts .models; names = g .parts .names; values = g .parts .values; methods = g .parts .methods; publics = g .parts .publics; entry = inl h }; pool = g .pool; names = g .names; own = g .own; index = g .index; counted = g .counted }
+entry-good n b g h = record {
+  parts = record {
+    functions = g .parts .functions;
+    constants = g .parts .constants;
+    globals = g .parts .globals;
+    models = g .parts .models;
+    names = g .parts .names;
+    values = g .parts .values;
+    methods = g .parts .methods;
+    publics = g .parts .publics;
+    entry = inl h;
+  };
+  pool = g .pool;
+  names = g .names;
+  own = g .own;
+  index = g .index;
+  counted = g .counted;
+}
 
-plain-placed : (o : Option ℕ) (s : FunctionState) (n : ℕ) (b : Book.Book) → BookGood b → FunctionSafe (length (b .context .pool .constants)) (b .context .pool .localCount) s → ((i : ℕ) → o ≡ some i → i < b .context .pool .localCount) → BookPlaced b (addPlainFunction o s n b)
+plain-placed : (o : Option ℕ) (s : FunctionState) (n : ℕ) (b : Book.Book) → BookGood b
+    → FunctionSafe (length (b .context .pool .constants)) (b .context .pool .localCount) s → ((i : ℕ) → o ≡ some i → i < b .context .pool .localCount)
+    → BookPlaced b (addPlainFunction o s n b)
 unfolding addPlainFunction
 plain-placed o s n b g h local = cond-case (λ x. BookPlaced b (record { place = a .place; book = x })) (eqb n 1)
-    (λ t. record { good = entry-good (length (b .context .functions)) b₁ g₁ (omega (arith, ap length (value-functions o (a .place) (a .book) ∙ constant-functions c b₀), length-append (b .context .functions) (f ∷ []))); inside = in₁ })
+    (λ t. record {
+      good = entry-good (length (b .context .functions)) b₁ g₁
+          (omega (arith, ap length (value-functions o (a .place) (a .book) ∙ constant-functions c b₀), length-append (b .context .functions) (f ∷ [])));
+      inside = in₁;
+    })
     (λ t. record { good = g₁; inside = in₁ })
   where
     f : Function
     f = record { state = s; name = n; file = b .assembly .index }
+
     b₀ : Book.Book
     b₀ = addFunction s n b
+
     c : Constant
     c = constantOf 6 (length (b .context .functions))
+
     a : Placed
     a = addBookConstant c b₀
+
     p : BookPlaced b₀ a
     p = constant-placed c b₀ (function-added s n b g h) (λ q. absurd (omega arith), λ q. omega (arith, length-append (b .context .functions) (f ∷ [])))
+
     b₁ : Book.Book
     b₁ = setLocalValue o (a .place) (a .book)
+
     g₁ : BookGood b₁
     g₁ = value-good o _ _ (p .good) (λ i q. rw (constant-locals c b₀) (local i q)) (p .inside)
+
     in₁ : a .place < length (b₁ .context .pool .constants)
     in₁ = rw (value-pool o (a .place) (a .book)) (p .inside)
 
@@ -420,31 +634,38 @@ plain-before o s n b = cond-case (λ x. faults x ≡ faults b) (eqb n 1) (λ t. 
   where
     c : Constant
     c = constantOf 6 (length (b .context .functions))
+
     same : faults (setLocalValue o (addBookConstant c (addFunction s n b) .place) (addBookConstant c (addFunction s n b) .book)) ≡ faults b
     same = value-faults o _ _ ∙ constant-before c (addFunction s n b)
 
 function-places : (f : FunctionDefinition) → Places (compileFunctionDefinition f)
 unfolding compileFunctionDefinition
 function-places f = record {
-    before = λ b e. define-before (f .name .value) b (base-before f (d b .book) (back b (made b .state .isInstance) e));
-    places = λ b g e. go b (made b .state .isInstance) g e }
+  before = λ b e. define-before (f .name .value) b (base-before f (d b .book) (back b (made b .state .isInstance) e));
+  places = λ b g e. go b (made b .state .isInstance) g e;
+}
   where
     d : Book.Book → MaybePlaced
     d b = defineContextLocal (f .name .value) b
+
     made : Book.Book → Made
     made b = compileBase f (d b .book)
+
     either : Book.Book → Bool → Placed
-    either b h = cond h (record { place = 0; book = pushBookError 8 (f .name) (made b .book) }) (addPlainFunction (d b .place) (made b .state) (f .name .value) (made b .book))
+    either b h = cond h (record { place = 0; book = pushBookError 8 (f .name) (made b .book) })
+        (addPlainFunction (d b .place) (made b .state) (f .name .value) (made b .book))
+
     back : (b : Book.Book) (h : Bool) → faults (either b h .book) ≡ [] → faults (made b .book) ≡ []
     back b true e = faulty 8 (f .name) (made b .book) e
     back b false e = sym (plain-before (d b .place) (made b .state) (f .name .value) (made b .book)) ∙ e
+
     go : (b : Book.Book) (h : Bool) → BookGood b → faults (either b h .book) ≡ [] → BookPlaced b (either b h)
     go b true g e = faulty 8 (f .name) (made b .book) e
     go b false g e =
-      let x = defined (f .name .value) b g in
-      let m = base-made f (d b .book) (x .good) (back b false e) in
-      let p = plain-placed (d b .place) (made b .state) (f .name .value) (made b .book) (m .good) (m .safe) (λ i q. le-trans (x .inside i q) (m .locals)) in
-      record { good = p .good; inside = p .inside }
+        let x = defined (f .name .value) b g in
+        let m = base-made f (d b .book) (x .good) (back b false e) in
+        let p = plain-placed (d b .place) (made b .state) (f .name .value) (made b .book) (m .good) (m .safe) (λ i q. le-trans (x .inside i q) (m .locals)) in
+        record { good = p .good; inside = p .inside }
 
 -- implement and apply
 
@@ -461,7 +682,9 @@ model-below (some c) M F m h e = go (eqb (c .kind) 5) (λ t. eqb→eq _ _ t) e
     go true k q = let z : c .value ≡ m = cc in omega (arith, h c refl .0 (k tt))
     go false k q = absurd (let z : _≡_ {A = ℕ} 0 1 = cc in omega arith)
 
-model-case : (P : MaybePlaced → Type 0) (t : Token) (b : Book.Book) → BookGood b → ((m : ℕ) → m < length (b .context .models) → P (record { place = some m; book = b })) → ((n : ℕ) → P (record { place = none; book = pushBookError n t b })) → P (findModelIndexByLocalName t b)
+model-case : (P : MaybePlaced → Type 0) (t : Token) (b : Book.Book) → BookGood b
+    → ((m : ℕ) → m < length (b .context .models) → P (record { place = some m; book = b }))
+    → ((n : ℕ) → P (record { place = none; book = pushBookError n t b })) → P (findModelIndexByLocalName t b)
 unfolding findModelIndexByLocalName
 model-case P t b g yes′ no′ = outer (findName (t .value) (b .compiler .locals))
   where
@@ -471,9 +694,11 @@ model-case P t b g yes′ no′ = outer (findName (t .value) (b .compiler .local
         go : (o : Option ℕ) → valueAt o (b .context .pool .constants) ≡ some c → Named (length (b .context .models)) (length (b .context .functions)) c
         go none q = absurd (let z : _≡_ {A = ℕ} 0 1 = cc in omega arith)
         go (some i) q = constant-at _ i c (g .parts .constants) q
+
     inner : (local : ℕ) (o : Option ℕ) → modelOf (getLocalValue local (b .context)) ≡ o → P (findModelBy o t b)
     inner local none e = no′ 9
     inner local (some m) e = yes′ m (model-below _ _ (length (b .context .functions)) m (named local) e)
+
     outer : (o : Option ℕ) → P (findModelIn o t b)
     outer none = no′ 10
     outer (some local) = inner local (modelOf (getLocalValue local (b .context))) refl
@@ -485,6 +710,7 @@ find-before t b e = outer (findName (t .value) (b .compiler .locals)) e
     inner : (o : Option ℕ) → faults (findModelBy o t b .book) ≡ [] → faults b ≡ []
     inner none q = faulty 9 t b q
     inner (some m) q = q
+
     outer : (o : Option ℕ) → faults (findModelIn o t b .book) ≡ [] → faults b ≡ []
     outer none q = faulty 10 t b q
     outer (some local) q = inner (modelOf (getLocalValue local (b .context))) q
@@ -493,16 +719,37 @@ all-method : {P : Method → Type 0} {l : List Method} (e : Method) → P e → 
 all-method e p none = p & none
 all-method {P} {l} e p (_&_ {x = x} {xs = xs} q qs) = cond-case (All P) (sameMethod x e) (λ t. p & qs) (λ t. q & all-method e p qs)
 
-all-methods : {M F : ℕ} {l : List Method} (m : ℕ) (es : List Entry) → m < M → All (λ (e : Entry). e .index < F) es → All (λ (x : Method). (x .model < M) × (x .function < F)) l → All (λ (x : Method). (x .model < M) × (x .function < F)) (insertMethods m es l)
+all-methods : {M F : ℕ} {l : List Method} (m : ℕ) (es : List Entry) → m < M → All (λ (e : Entry). e .index < F) es
+    → All (λ (x : Method). (x .model < M) × (x .function < F)) l → All (λ (x : Method). (x .model < M) × (x .function < F)) (insertMethods m es l)
 all-methods m [] k none qs = qs
 all-methods m (e ∷ es) k (p & ps) qs = all-methods m es k ps (all-method _ (k, p) qs)
 
-own-methods : {M F : ℕ} (m : ℕ) (l : List Method) → All (λ (x : Method). (x .model < M) × (x .function < F)) l → All (λ (e : Entry). e .index < F) (methodsIn m l)
+own-methods : {M F : ℕ} (m : ℕ) (l : List Method) → All (λ (x : Method). (x .model < M) × (x .function < F)) l
+    → All (λ (e : Entry). e .index < F) (methodsIn m l)
 own-methods m [] none = none
-own-methods {M} {F} m (x ∷ l) (p & ps) = cond-case (All (λ (e : Entry). e .index < F)) (eqb (x .model) m) (λ t. p .1 & own-methods m l ps) (λ t. own-methods m l ps)
+own-methods {M} {F} m (x ∷ l) (p & ps) = cond-case (All (λ (e : Entry). e .index < F)) (eqb (x .model) m) (λ t. p .1 & own-methods m l ps)
+    (λ t. own-methods m l ps)
 
-methods-added : (m : ℕ) (es : List Entry) (b : Book.Book) → BookGood b → m < length (b .context .models) → All (λ (e : Entry). e .index < length (b .context .functions)) es → BookGood (addMethods (some m) es b)
-methods-added m es b g k h = record { parts = record { functions = g .parts .functions; constants = g .parts .constants; globals = g .parts .globals; models = g .parts .models; names = g .parts .names; values = g .parts .values; methods = all-methods m es k h (g .parts .methods); publics = g .parts .publics; entry = g .parts .entry }; pool = g .pool; names = g .names; own = g .own; index = g .index; counted = g .counted }
+methods-added : (m : ℕ) (es : List Entry) (b : Book.Book) → BookGood b → m < length (b .context .models)
+    → All (λ (e : Entry). e .index < length (b .context .functions)) es → BookGood (addMethods (some m) es b)
+methods-added m es b g k h = record {
+  parts = record {
+    functions = g .parts .functions;
+    constants = g .parts .constants;
+    globals = g .parts .globals;
+    models = g .parts .models;
+    names = g .parts .names;
+    values = g .parts .values;
+    methods = all-methods m es k h (g .parts .methods);
+    publics = g .parts .publics;
+    entry = g .parts .entry;
+  };
+  pool = g .pool;
+  names = g .names;
+  own = g .own;
+  index = g .index;
+  counted = g .counted;
+}
 
 add-before : (o : Option ℕ) (es : List Entry) (b : Book.Book) → faults (addMethods o es b) ≡ faults b
 add-before none es b = refl
@@ -517,14 +764,17 @@ unfolding compileMethods
 methods-before [] es b e = e
 methods-before (f ∷ fs) es b e = base-before f b (methods-before fs _ _ e)
 
-methods-good : (fs : List FunctionDefinition) (es : List Entry) (b : Book.Book) → BookGood b → All (λ (e : Entry). e .index < length (b .context .functions)) es → faults (compileMethods fs es b .book) ≡ [] → BookMethods (compileMethods fs es b)
+methods-good : (fs : List FunctionDefinition) (es : List Entry) (b : Book.Book) → BookGood b
+    → All (λ (e : Entry). e .index < length (b .context .functions)) es → faults (compileMethods fs es b .book) ≡ [] → BookMethods (compileMethods fs es b)
 unfolding compileMethods compileBase
 methods-good [] es b g h e = record { good = g; entries = h }
 methods-good (f ∷ fs) es b g h e =
-  let m = base-made f b g (methods-before fs _ _ e) in
-  let n : length (addFunction (compileBase f b .state) (f .name .value) (compileBase f b .book) .context .functions) ≡ length (b .context .functions) + 1 = length-append (b .context .functions) _ in
-  let here : length (b .context .functions) < length (addFunction (compileBase f b .state) (f .name .value) (compileBase f b .book) .context .functions) = omega (arith, n) in
-  methods-good fs _ _ (function-added _ _ _ (m .good) (m .safe)) (all-insert _ here (all-map (λ x q. omega (arith, n)) h)) e
+    let m = base-made f b g (methods-before fs _ _ e) in
+    let n : length (addFunction (compileBase f b .state) (f .name .value) (compileBase f b .book) .context .functions) ≡ length
+    (b .context .functions) + 1 = length-append (b .context .functions) _ in
+    let here : length (b .context .functions) < length (addFunction (compileBase f b .state) (f .name .value) (compileBase f b .book) .context .functions) =
+    omega (arith, n) in
+    methods-good fs _ _ (function-added _ _ _ (m .good) (m .safe)) (all-insert _ here (all-map (λ x q. omega (arith, n)) h)) e
 
 -- to a model found by its name
 abbrev toModel : Token → List Entry → Deed
@@ -533,24 +783,30 @@ toModel t es b = addMethods (findModelIndexByLocalName t b .place) es (findModel
 to-model-before : (t : Token) (es : List Entry) (b : Book.Book) → faults (toModel t es b) ≡ [] → faults b ≡ []
 to-model-before t es b e = find-before t b (sym (add-before (findModelIndexByLocalName t b .place) es (findModelIndexByLocalName t b .book)) ∙ e)
 
-to-model-good : (t : Token) (es : List Entry) (b : Book.Book) → BookGood b → All (λ (e : Entry). e .index < length (b .context .functions)) es → faults (toModel t es b) ≡ [] → BookGood (toModel t es b)
-to-model-good t es b g h = model-case (λ (d : MaybePlaced). faults (addMethods (d .place) es (d .book)) ≡ [] → BookGood (addMethods (d .place) es (d .book))) t b g (λ m k q. methods-added m es b g k h) (λ n q. faulty n t b q)
+to-model-good : (t : Token) (es : List Entry) (b : Book.Book) → BookGood b → All (λ (e : Entry). e .index < length (b .context .functions)) es
+    → faults (toModel t es b) ≡ [] → BookGood (toModel t es b)
+to-model-good t es b g h = model-case (λ (d : MaybePlaced). faults (addMethods (d .place) es (d .book)) ≡ []
+    → BookGood (addMethods (d .place) es (d .book))) t b g (λ m k q. methods-added m es b g k h) (λ n q. faulty n t b q)
 
 implement-fine : (t : Token) (fs : List FunctionDefinition) → Fine (compileImplementDefinition t fs)
 unfolding compileImplementDefinition
 implement-fine t fs = record {
   before = λ b e. methods-before fs [] b (to-model-before t (compileMethods fs [] b .entries) (compileMethods fs [] b .book) e);
   keeps = λ b g e.
-    let c = methods-good fs [] b g none (to-model-before t (compileMethods fs [] b .entries) (compileMethods fs [] b .book) e) in
-    to-model-good t (compileMethods fs [] b .entries) (compileMethods fs [] b .book) (c .good) (c .entries) e }
+      let c = methods-good fs [] b g none (to-model-before t (compileMethods fs [] b .entries) (compileMethods fs [] b .book) e) in
+      to-model-good t (compileMethods fs [] b .entries) (compileMethods fs [] b .book) (c .good) (c .entries) e;
+}
 
 apply-fine : (s t : Token) → Fine (compileApplyDefinition s t)
 unfolding compileApplyDefinition
 apply-fine s t = record {
-  before = λ b e. find-before s b (to-model-before t (methodsOf (findModelIndexByLocalName s b .place) (findModelIndexByLocalName s b .book .context)) (findModelIndexByLocalName s b .book) e);
-  keeps = λ b g. model-case (λ (d : MaybePlaced). faults (toModel t (methodsOf (d .place) (d .book .context)) (d .book)) ≡ [] → BookGood (toModel t (methodsOf (d .place) (d .book .context)) (d .book))) s b g
-    (λ m h e. to-model-good t (methodsOf (some m) (b .context)) b g (own-methods m (b .context .methods) (g .parts .methods)) e)
-    (λ n e. faulty n s b (to-model-before t [] (pushBookError n s b) e)) }
+  before = λ b e. find-before s b (to-model-before t (methodsOf (findModelIndexByLocalName s b .place) (findModelIndexByLocalName s b .book .context))
+      (findModelIndexByLocalName s b .book) e);
+  keeps = λ b g. model-case (λ (d : MaybePlaced). faults (toModel t (methodsOf (d .place) (d .book .context)) (d .book)) ≡ []
+      → BookGood (toModel t (methodsOf (d .place) (d .book .context)) (d .book))) s b g
+      (λ m h e. to-model-good t (methodsOf (some m) (b .context)) b g (own-methods m (b .context .methods) (g .parts .methods)) e)
+      (λ n e. faulty n s b (to-model-before t [] (pushBookError n s b) e));
+}
 
 -- documents
 
@@ -571,41 +827,47 @@ definitions-fine [] = record { before = λ b e. e; keeps = λ b g e. g }
 definitions-fine (d ∷ ds) = fine-then (definition-fine d) (definitions-fine ds)
 
 -- a document: its own book's index is the next
-document-good : (d : Document) (c : Context) (us : List Use) → ProgramSafe c → faults (compileDocument d c us) ≡ [] → ProgramSafe (compileDocument d c us .context)
+document-good : (d : Document) (c : Context) (us : List Use) → ProgramSafe c → faults (compileDocument d c us) ≡ []
+    → ProgramSafe (compileDocument d c us .context)
 unfolding compileDocument
 document-good d c us s e = record {
-    parts = record {
-      functions = p .functions;
-      constants = p .constants;
-      globals = p .globals;
-      models = p .models;
-      values = p .values;
-      names = p .names;
-      methods = p .methods;
-      publics = all-append (p .publics) ((mine, g .own) & none);
-      entry = p .entry;
-    };
-    pool = g .pool;
-    counted = g .counted;
-  }
+  parts = record {
+    functions = p .functions;
+    constants = p .constants;
+    globals = p .globals;
+    models = p .models;
+    values = p .values;
+    names = p .names;
+    methods = p .methods;
+    publics = all-append (p .publics) ((mine, g .own) & none);
+    entry = p .entry;
+  };
+  pool = g .pool;
+  counted = g .counted;
+}
   where
     b : Book.Book
     b = compileDefinitions (d .definitions) (opened d c us)
+
     start : BookGood (opened d c us)
     start = record {
-        parts = parts-mono (le-refl _) (le-refl _) (le-refl _) (le-refl _) (omega arith) (s .parts);
-        index = refl;
-        counted = s .counted;
-        pool = s .pool;
-        names = none;
-        own = none;
-      }
+      parts = parts-mono (le-refl _) (le-refl _) (le-refl _) (le-refl _) (omega arith) (s .parts);
+      index = refl;
+      counted = s .counted;
+      pool = s .pool;
+      names = none;
+      own = none;
+    }
+
     g : BookGood b
     g = definitions-fine (d .definitions) .keeps (opened d c us) start e
+
     one-more : length (b .context .assemblies ++ (b .assembly ∷ [])) ≡ length (b .context .assemblies) + 1
     one-more = length-append (b .context .assemblies) (b .assembly ∷ [])
+
     p : PartsOf (length (b .context .assemblies ++ (b .assembly ∷ []))) (b .context)
     p = parts-mono (le-refl _) (le-refl _) (le-refl _) (le-refl _) (omega (arith, one-more)) (g .parts)
+
     mine : b .assembly .index < length (b .context .assemblies ++ (b .assembly ∷ []))
     mine = omega (arith, one-more, g .index)
 
@@ -619,11 +881,13 @@ drive-good (suc k) ds done left c r us s e = go (ready ds done left) (λ d c′ 
   where
     next : Document → Context → List Use → Worked
     next d c′ us′ = drive k ds (d .filename ∷ done) (without (d .filename) left) c′ us′
+
     after : (d : Document) (es : List Error) → compileDocument d c us .compiler .errors ≡ es
         → ((c′ : Context) (us′ : List Use) → ProgramSafe c′ → next d c′ us′ .ending ≡ Delivered r → ProgramSafe r)
         → afterBook es (d .filename) (compileDocument d c us .context) (compileDocument d c us .uses) (next d) .ending ≡ Delivered r → ProgramSafe r
     after d [] q rest h = rest _ _ (document-good d c us s q) h
     after d (x ∷ es) q rest h = absurd (let z : _≡_ {A = ℕ} 0 1 = cc in omega arith)
+
     go : (o : Option Document) → ((d : Document) (c′ : Context) (us′ : List Use) → ProgramSafe c′ → next d c′ us′ .ending ≡ Delivered r → ProgramSafe r)
         → driveBy o left c us next .ending ≡ Delivered r → ProgramSafe r
     go none rest h = absurd (let z : _≡_ {A = ℕ} 0 1 = cc in omega arith)
@@ -636,17 +900,17 @@ worked-safe numbers ds c r s e = drive-good (length numbers) ds _ numbers c r _ 
 
 pub fresh-safe : ProgramSafe newContext
 fresh-safe = record {
-    parts = record {
-      functions = none;
-      constants = plain-named 0 0 (omega arith) & plain-named 1 1 (omega arith) & plain-named 1 0 (omega arith) & none;
-      globals = none;
-      models = none;
-      values = none;
-      names = none;
-      methods = none;
-      publics = none;
-      entry = inr (refl, refl);
-    };
-    pool = omega arith;
-    counted = refl;
-  }
+  parts = record {
+    functions = none;
+    constants = plain-named 0 0 (omega arith) & plain-named 1 1 (omega arith) & plain-named 1 0 (omega arith) & none;
+    globals = none;
+    models = none;
+    values = none;
+    names = none;
+    methods = none;
+    publics = none;
+    entry = inr (refl, refl);
+  };
+  pool = omega arith;
+  counted = refl;
+}

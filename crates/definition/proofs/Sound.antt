@@ -16,10 +16,12 @@ use Rattle.definition.specs.FunctionState.{FunctionState, Entry, pushBre
 use Rattle.definition.specs.FunctionState.{emitReturn, emitBreak, exitBreakScope, defineLocal, findName}
 use Rattle.definition.specs.Within.{Loop}
 use Rattle.definition.specs.FunctionState as Emission
-use Rattle.definition.specs.Within.{All, none, _&_, Loop, readTrace, loopsOf, breaksOf, Among, here, there, InLoop, first, later, Counts, Within, Fits, Class}
+use Rattle.definition.specs.Within.{All, none, _&_, Loop, readTrace, loopsOf, breaksOf, Among, here, there, InLoop, first, later, Counts, Within}
+use Rattle.definition.specs.Within.{Fits, Class}
 use Rattle.definition.proofs.Safe.{at, Each, counts, Landed}
 use Rattle.definition.specs.Within.{Position, Slot, Read, Pool, Global, Other, classOf}
-use Rattle.definition.proofs.Lists.{all-map, all-append, Kept, Fresh, kept-append, kept-init, kept-set, cond-case, ne-of-test, each-map, each-snoc, each-set, each-init, each-patch, last-snoc, opcode-set, opcode-patch, patch-other, patch-hits, length-patch}
+use Rattle.definition.proofs.Lists.{all-map, all-append, Kept, Fresh, kept-append, kept-init, kept-set, cond-case, ne-of-test, each-map, each-snoc}
+use Rattle.definition.proofs.Lists.{each-set, each-init, each-patch, last-snoc, opcode-set, opcode-patch, patch-other, patch-hits, length-patch}
 
 -- a break that waits for its loop's end
 abbrev pub Pending : List Instruction → ℕ → Type 0
@@ -35,7 +37,8 @@ pub record Sound (K C : ℕ) (f : FunctionState) : Type 0 where
   pub reach : ℕ
   pub sized : length (f .positions) ≡ length (f .instructions)
   pub low : reach ≤ length (f .instructions)
-  pub room : lastOpcode f ≡ 1 → (reach < length (f .instructions)) × (2 ≤ length (f .instructions)) × (at (f .instructions) (length (f .instructions) - 2) .opcode ≢ 1)
+  pub room : lastOpcode f ≡ 1 → (reach < length (f .instructions)) × (2 ≤ length (f .instructions))
+      × (at (f .instructions) (length (f .instructions) - 2) .opcode ≢ 1)
   pub fits : Each (Fits (counts reach K C f)) (f .instructions)
   pub rescue : f .rescuePosition ≤ reach
   pub scopes : All (All (λ (e : Entry). e .index < f .localCount)) (f .scopes)
@@ -85,7 +88,8 @@ pub lands-kept : {l l′ : List Instruction} → Kept l l′ → (e : Loop) → 
 lands-kept {l} {l′} k e r = record {
   after-positive = r .after-positive;
   exit-lands = land (e .exit) (r .exit-lands);
-  breaks-land = all-map (λ b q. land b q) (r .breaks-land) }
+  breaks-land = all-map (λ b q. land b q) (r .breaks-land);
+}
   where
     land : {o t : ℕ} (b : ℕ) → (b < length l) × (at l b ≡ toInstruction (suc (suc o)) t) → (b < length l′) × (at l′ b ≡ toInstruction (suc (suc o)) t)
     land b q = let r = k .keeps b (q .0) (rw (q .1) (omega arith)) in (r .0, r .1 ∙ q .1)
@@ -93,7 +97,10 @@ lands-kept {l} {l′} k e r = record {
 -- function_state.rs
 
 pub solid-emit : (f : FunctionState) (i : Instruction) (p : ℕ) → i .opcode ≢ 1 → Solid (Emission.emit i p f)
-solid-emit f i p h = record { some-code = omega (arith, length-append (f .instructions) (i ∷ [])); no-pop = λ e. h (ap (λ (y : Instruction). y .opcode) (sym (last-snoc (f .instructions) i)) ∙ e) }
+solid-emit f i p h = record {
+  some-code = omega (arith, length-append (f .instructions) (i ∷ []));
+  no-pop = λ e. h (ap (λ (y : Instruction). y .opcode) (sym (last-snoc (f .instructions) i)) ∙ e);
+}
 
 -- a list with a last instruction that is not `nothing`
 some-last : (l : List Instruction) {o : ℕ} → last l nothing .opcode ≡ suc o → 0 < length l
@@ -103,40 +110,57 @@ some-last (x ∷ l) e = omega arith
 module _ {K C : ℕ} where
   -- more constants
   pub sound-more : {K′ C′ : ℕ} {f : FunctionState} → K ≤ K′ → C ≤ C′ → Sound K C f → Sound K′ C′ f
-  sound-more {f = f} k c s = record { reach = s .reach; sized = s .sized; low = s .low; room = s .room;
+  sound-more {f = f} k c s = record {
+    reach = s .reach;
+    sized = s .sized;
+    low = s .low;
+    room = s .room;
     fits = fits-mono (f .instructions) (record { tops = le-refl _; slots = le-refl _; pools = k; globals = c; reads = λ i a. a }) (s .fits);
-    rescue = s .rescue; scopes = s .scopes; breaks = s .breaks; loops = s .loops; traced = s .traced; belongs = s .belongs }
+    rescue = s .rescue;
+    scopes = s .scopes;
+    breaks = s .breaks;
+    loops = s .loops;
+    traced = s .traced;
+    belongs = s .belongs;
+  }
 
   -- an instruction within its counts; a Pop only after what is no Pop
-  pub sound-emit : {f : FunctionState} (i : Instruction) (p : ℕ) → Sound K C f → Fits (counts (length (f .instructions)) K C f) (length (f .instructions)) i → (i .opcode ≡ 1 → Solid f) → Sound K C (Emission.emit i p f)
+  pub sound-emit : {f : FunctionState} (i : Instruction) (p : ℕ) → Sound K C f → Fits (counts (length (f .instructions)) K C f) (length (f .instructions)) i
+      → (i .opcode ≡ 1 → Solid f) → Sound K C (Emission.emit i p f)
   sound-emit {f} i p s fit pop = record {
     reach = n;
     sized = omega (arith, length-append l (i ∷ []), length-append (f .positions) (p ∷ []), s .sized);
     low = omega (arith, longer);
     room = λ e. (omega (arith, longer), two e, before e);
-    fits = each-snoc (Fits (counts n K C f)) l i (fits-mono l (record { tops = s .low; slots = le-refl _; pools = le-refl _; globals = le-refl _; reads = λ j a. a }) (s .fits)) fit;
+    fits = each-snoc (Fits (counts n K C f)) l i (fits-mono l
+        (record { tops = s .low; slots = le-refl _; pools = le-refl _; globals = le-refl _; reads = λ j a. a }) (s .fits)) fit;
     rescue = le-trans (s .rescue) (s .low);
     scopes = s .scopes;
     breaks = all-map (λ bs h. all-map (pending-kept (kept-append l (i ∷ []))) h) (s .breaks);
     loops = all-map (lands-kept (kept-append l (i ∷ []))) (s .loops);
     traced = s .traced;
-    belongs = s .belongs }
+    belongs = s .belongs;
+  }
     where
       l : List Instruction
       l = f .instructions
+
       n : ℕ
       n = length l
+
       longer : length (l ++ (i ∷ [])) ≡ n + 1
       longer = length-append l (i ∷ [])
+
       solid : last (l ++ (i ∷ [])) nothing .opcode ≡ 1 → Solid f
       solid e = pop (rw last-snoc at e)
+
       two : last (l ++ (i ∷ [])) nothing .opcode ≡ 1 → 2 ≤ length (l ++ (i ∷ []))
       two e = omega (arith, longer, solid e .some-code)
+
       before : last (l ++ (i ∷ [])) nothing .opcode ≡ 1 → at (l ++ (i ∷ [])) (length (l ++ (i ∷ [])) - 2) .opcode ≢ 1
       before e =
-        let m : length (l ++ (i ∷ [])) - 2 ≡ n - 1 = omega (arith, longer) in
-        rw (m, List·getD-append l (i ∷ []) nothing (n - 1) (omega (arith, solid e .some-code))) (solid e .no-pop)
-
+          let m : length (l ++ (i ∷ [])) - 2 ≡ n - 1 = omega (arith, longer) in
+          rw (m, List·getD-append l (i ∷ []) nothing (n - 1) (omega (arith, solid e .some-code))) (solid e .no-pop)
 
   pub sound-pop : (f : FunctionState) → Sound K C f → lastOpcode f ≡ 1 → SoundSolid K C (Emission.popLast f)
   sound-pop f s e = record {
@@ -151,16 +175,20 @@ module _ {K C : ℕ} where
       breaks = all-map (λ bs h. all-map (pending-kept (kept-init l e)) h) (s .breaks);
       loops = all-map (lands-kept (kept-init l e)) (s .loops);
       traced = s .traced;
-      belongs = s .belongs };
-    solid = record { some-code = omega (arith, shorter, s .room e .1); no-pop = no } }
+      belongs = s .belongs;
+    };
+    solid = record { some-code = omega (arith, shorter, s .room e .1); no-pop = no };
+  }
     where
       l : List Instruction
       l = f .instructions
+
       shorter : length (init l) ≡ length l - 1
       shorter = omega (arith, length-take (length l - 1) l)
+
       no : last (init l) nothing .opcode ≢ 1
       no = let m : length (init l) - 1 ≡ length l - 2 = omega (arith, shorter) in
-        rw (m, getD-take (length l - 1) l (length l - 2) nothing (omega (arith, s .room e .1))) (s .room e .2)
+          rw (m, getD-take (length l - 1) l (length l - 2) nothing (omega (arith, s .room e .1))) (s .room e .2)
 
   module _ (pool : 3 ≤ K) where
     pub sound-null : {f : FunctionState} → Sound K C f → SoundSolid K C (Emission.emitNull f)
@@ -169,63 +197,82 @@ module _ {K C : ℕ} where
     pub sound-close : (f : FunctionState) → Sound K C f → SoundSolid K C (removePopOrPushNull f)
     unfolding removePopOrPushNull
     sound-close f s = cond-case (SoundSolid K C) (eqb (lastOpcode f) Pop) (λ t. sound-pop f s (eqb→eq _ _ t))
-      (λ t. cond-case (SoundSolid K C) (eqb (lastOpcode f) ReturnOp) (λ u. record { sound = s; solid = record { some-code = some-last (f .instructions) (eqb→eq _ _ u); no-pop = ne-of-test t } }) (λ u. sound-null s))
+        (λ t. cond-case (SoundSolid K C) (eqb (lastOpcode f) ReturnOp)
+        (λ u. record { sound = s; solid = record { some-code = some-last (f .instructions) (eqb→eq _ _ u); no-pop = ne-of-test t } }) (λ u. sound-null s))
 
     pub sound-return : (p : ℕ) (f : FunctionState) → Sound K C f → SoundSolid K C (emitReturn p f)
     unfolding emitReturn
     sound-return p f s = let r = sound-close f s in
-      cond-case (SoundSolid K C) (eqb (lastOpcode (removePopOrPushNull f)) ReturnOp) (λ t. r)
-        (λ t. record { sound = sound-emit _ p (r .sound) tt (λ e. absurd (omega arith)); solid = solid-emit (removePopOrPushNull f) (toInstruction ReturnOp 0) p (omega arith) })
+        cond-case (SoundSolid K C) (eqb (lastOpcode (removePopOrPushNull f)) ReturnOp) (λ t. r)
+        (λ t. record {
+          sound = sound-emit _ p (r .sound) tt (λ e. absurd (omega arith));
+          solid = solid-emit (removePopOrPushNull f) (toInstruction ReturnOp 0) p (omega arith);
+        })
 
   -- a jump that waits, patched to here
   pub sound-set : (f : FunctionState) (j o : ℕ) → SoundSolid K C f → j < length (f .instructions) → at (f .instructions) j ≡ toInstruction o 0
-    → Within (classOf o) (counts (length (f .instructions)) K C f) j (length (f .instructions)) → All (All (λ b. b ≢ j)) (f .breakScopes)
-    → SoundSolid K C (Emission.replaceInstruction j (toInstruction o (length (f .instructions))) f)
+      → Within (classOf o) (counts (length (f .instructions)) K C f) j (length (f .instructions)) → All (All (λ b. b ≢ j)) (f .breakScopes)
+      → SoundSolid K C (Emission.replaceInstruction j (toInstruction o (length (f .instructions))) f)
   sound-set f j o s h e fit apart = record {
     sound = record {
       reach = n;
       sized = omega (arith, same, s .sound .sized);
       low = omega (arith, same);
       room = λ q. absurd (no q);
-      fits = each-set (Fits (counts n K C f)) l j x (fits-mono l (record { tops = s .sound .low; slots = le-refl _; pools = le-refl _; globals = le-refl _; reads = λ i a. a }) (s .sound .fits)) fit;
+      fits = each-set (Fits (counts n K C f)) l j x (fits-mono l
+          (record { tops = s .sound .low; slots = le-refl _; pools = le-refl _; globals = le-refl _; reads = λ i a. a }) (s .sound .fits)) fit;
       rescue = le-trans (s .sound .rescue) (s .sound .low);
       scopes = s .sound .scopes;
       breaks = waiting apart (s .sound .breaks);
       loops = all-map land (s .sound .loops);
       traced = s .sound .traced;
-      belongs = s .sound .belongs };
-    solid = record { some-code = omega (arith, same, s .solid .some-code); no-pop = no } }
+      belongs = s .sound .belongs;
+    };
+    solid = record { some-code = omega (arith, same, s .solid .some-code); no-pop = no };
+  }
     where
       l : List Instruction
       l = f .instructions
+
       n : ℕ
       n = length l
+
       x : Instruction
       x = toInstruction o n
+
       l′ : List Instruction
       l′ = set l j x
+
       same : length l′ ≡ n
       same = length-set l j x
+
       no : last l′ nothing .opcode ≢ 1
       no q = s .solid .no-pop (sym (opcode-set l j x (n - 1) (ap (λ (y : Instruction). y .opcode) e)) ∙ (rw same at q))
+
       other : (b : ℕ) (y : Instruction) → b ≢ j → (b < n) × (at l b ≡ y) → (b < length l′) × (at l′ b ≡ y)
       other b y d q = (omega (arith, same, q .0), getD-set-other l j b x nothing d ∙ q .1)
+
       waits : {bs : List ℕ} → All (λ b. b ≢ j) bs → All (Pending l) bs → All (Pending l′) bs
       waits none none = none
       waits (d & ds) (p & ps) = other _ _ d p & waits ds ps
+
       waiting : {ss : List (List ℕ)} → All (All (λ b. b ≢ j)) ss → All (All (Pending l)) ss → All (All (Pending l′)) ss
       waiting none none = none
       waiting (d & ds) (p & ps) = waits d p & waiting ds ps
+
       far : (b k t : ℕ) → 0 < t → at l b ≡ toInstruction k t → b ≢ j
       far b k t a q c = let z : t ≡ 0 = ap (λ (y : Instruction). y .operand) (sym q ∙ ap (λ m. at l m) c ∙ e) in omega arith
+
       land : (r : Loop) → Landed l r → Landed l′ r
       land r q = record {
         after-positive = q .after-positive;
         exit-lands = other _ _ (far _ _ _ (q .after-positive) (q .exit-lands .1)) (q .exit-lands);
-        breaks-land = all-map (λ b p. other b _ (far _ _ _ (q .after-positive) (p .1)) p) (q .breaks-land) }
+        breaks-land = all-map (λ b p. other b _ (far _ _ _ (q .after-positive) (p .1)) p) (q .breaks-land);
+      }
 
 -- what is not a break that waits
-pub pending-apart : (l : List Instruction) {ss : List (List ℕ)} (j o : ℕ) → o ≢ Jump → at l j ≡ toInstruction o 0 → All (All (Pending l)) ss → All (All (λ b. b ≢ j)) ss
+pub pending-apart : (l : List Instruction) {ss : List (List ℕ)} (j o : ℕ) → o ≢ Jump → at l j ≡ toInstruction o 0 → All (All (Pending l)) ss
+    → All (All (λ b. b ≢ j)) ss
 pending-apart l j o d e ps = all-map (λ bs h. all-map (λ b p c. d (ap (λ (y : Instruction). y .opcode) (sym e ∙ ap (λ m. at l m) (sym c) ∙ p .1))) h) ps
 
 pub all-push : {P : ℕ → Type 0} {ss : List (List ℕ)} {is : List ℕ} → All (All P) ss → All P is → All (All P) (pushBreaks is ss)
@@ -276,20 +323,36 @@ module _ {K C : ℕ} where
     where
       r : Sound K C (Emission.emitOpcode Jump p f)
       r = sound-emit (toInstruction Jump 0) p s (omega arith) (λ e. absurd (omega arith))
+
       newest : (b : List ℕ) (bs : List (List ℕ)) → f .breakScopes ≡ b ∷ bs
-          → InSome (length (f .instructions)) (pushBreaks (length (f .instructions) ∷ []) (f .breakScopes)) ⊎ InLoop (length (f .instructions)) (loopsOf (f .trace))
+          → InSome (length (f .instructions)) (pushBreaks (length (f .instructions) ∷ []) (f .breakScopes))
+          ⊎ InLoop (length (f .instructions)) (loopsOf (f .trace))
       newest b bs e = inl (rw e (own (among-last b)))
+
       go : (bs : List (List ℕ)) → f .breakScopes ≡ bs → Sound K C (Emission.emitBreakIn bs p f)
       go [] e = s
-      go (b ∷ bs) e = record { reach = r .reach; sized = r .sized; low = r .low; room = r .room; fits = r .fits; rescue = r .rescue; scopes = r .scopes;
-        breaks = all-push (r .breaks) ((omega (arith, length-append (f .instructions) (toInstruction Jump 0 ∷ [])), getD-append-seam (f .instructions) (toInstruction Jump 0) [] nothing) & none);
+      go (b ∷ bs) e = record {
+        reach = r .reach;
+        sized = r .sized;
+        low = r .low;
+        room = r .room;
+        fits = r .fits;
+        rescue = r .rescue;
+        scopes = r .scopes;
+        breaks = all-push (r .breaks) ((
+          omega (arith, length-append (f .instructions) (toInstruction Jump 0 ∷ [])),
+          getD-append-seam (f .instructions)
+              (toInstruction Jump 0) [] nothing,
+        ) & none);
         loops = r .loops;
         traced = ap (pushBreaks (length (f .instructions) ∷ [])) (r .traced);
-        belongs = newest b bs e & all-map (λ k q. pushed-one (length (f .instructions)) q) (r .belongs) }
+        belongs = newest b bs e & all-map (λ k q. pushed-one (length (f .instructions)) q) (r .belongs);
+      }
 
   -- the end of a loop: its breaks go to here
-  pub sound-exit : (f : FunctionState) (exit : ℕ) → SoundSolid K C f → (exit < length (f .instructions)) × (at (f .instructions) exit ≡ toInstruction JumpIf (length (f .instructions)))
-    → All (All (Pending (exitBreakScope exit f .instructions))) (tail (f .breakScopes)) → SoundSolid K C (exitBreakScope exit f)
+  pub sound-exit : (f : FunctionState) (exit : ℕ) → SoundSolid K C f → (exit < length (f .instructions))
+      × (at (f .instructions) exit ≡ toInstruction JumpIf (length (f .instructions)))
+      → All (All (Pending (exitBreakScope exit f .instructions))) (tail (f .breakScopes)) → SoundSolid K C (exitBreakScope exit f)
   unfolding exitBreakScope
   sound-exit f exit s e outer = record {
     sound = record {
@@ -297,49 +360,72 @@ module _ {K C : ℕ} where
       sized = omega (arith, same, s .sound .sized);
       low = omega (arith, same);
       room = λ q. absurd (no q);
-      fits = each-patch (Fits (counts n K C f)) bs n l (λ i. le-refl n) (fits-mono l (record { tops = s .sound .low; slots = le-refl _; pools = le-refl _; globals = le-refl _; reads = λ i a. a }) (s .sound .fits));
+      fits = each-patch (Fits (counts n K C f)) bs n l (λ i. le-refl n)
+          (fits-mono l (record { tops = s .sound .low; slots = le-refl _; pools = le-refl _; globals = le-refl _; reads = λ i a. a }) (s .sound .fits));
       rescue = le-trans (s .sound .rescue) (s .sound .low);
       scopes = s .sound .scopes;
       breaks = outer;
-      loops = all-append (all-map land (s .sound .loops)) (subst (λ (ks : List ℕ). Landed l′ (record { exit = exit; breaks = ks; after = n })) (sym own-breaks) this & none);
+      loops = all-append (all-map land (s .sound .loops)) (subst (λ (ks : List ℕ). Landed l′ (record { exit = exit; breaks = ks; after = n }))
+          (sym own-breaks) this & none);
       traced = ap tail (s .sound .traced);
-      belongs = all-map (λ b q. left b q) (s .sound .belongs) };
-    solid = record { some-code = omega (arith, same, s .solid .some-code); no-pop = no } }
+      belongs = all-map (λ b q. left b q) (s .sound .belongs);
+    };
+    solid = record { some-code = omega (arith, same, s .solid .some-code); no-pop = no };
+  }
     where
       l : List Instruction
       l = f .instructions
+
       n : ℕ
       n = length l
+
       bs : List ℕ
       bs = innermost (f .breakScopes)
+
       l′ : List Instruction
       l′ = patchAll bs n l
+
       same : length l′ ≡ n
       same = length-patch bs n l
+
       own-breaks : innermost (readTrace (f .trace) .open′) ≡ bs
       own-breaks = ap innermost (s .sound .traced)
+
       new : Loop
       new = record { exit = exit; breaks = innermost (readTrace (f .trace) .open′); after = n }
-      left : (b : ℕ) → InSome b (f .breakScopes) ⊎ InLoop b (loopsOf (f .trace)) → InSome b (tail (f .breakScopes)) ⊎ InLoop b (loopsOf (f .trace) ++ (new ∷ []))
+
+      left : (b : ℕ) → InSome b (f .breakScopes) ⊎ InLoop b (loopsOf (f .trace)) → InSome b (tail (f .breakScopes))
+          ⊎ InLoop b (loopsOf (f .trace) ++ (new ∷ []))
       left b (inl q) = left-scope new (loopsOf (f .trace)) own-breaks q
       left b (inr q) = inr (in-loop-append _ q)
+
       waits : All (Pending l) bs
       waits = all-innermost (s .sound .breaks)
+
       no : last l′ nothing .opcode ≢ 1
       no q = s .solid .no-pop (sym (opcode-patch bs n l (n - 1) (all-map (λ b p. ap (λ (y : Instruction). y .opcode) (p .1)) waits)) ∙ (rw same at q))
+
       -- what jumps beyond 0 does not wait
       other : (k o t : ℕ) → 0 < t → (k < n) × (at l k ≡ toInstruction o t) → (k < length l′) × (at l′ k ≡ toInstruction o t)
-      other k o t a q = (omega (arith, same, q .0), patch-other bs n l k (all-map (λ b p c. let z : t ≡ 0 = ap (λ (y : Instruction). y .operand) (sym (q .1) ∙ ap (λ m. at l m) (sym c) ∙ p .1) in omega arith) waits) ∙ q .1)
+      other k o t a q = (
+        omega (arith, same, q .0),
+        patch-other bs n l k
+            (all-map (λ b p c. let z : t ≡ 0 = ap (λ (y : Instruction). y .operand) (sym (q .1) ∙ ap (λ m. at l m) (sym c) ∙ p .1) in omega arith) waits) ∙ q .1,
+      )
+
       land : (r : Loop) → Landed l r → Landed l′ r
       land r q = record {
         after-positive = q .after-positive;
         exit-lands = other _ _ _ (q .after-positive) (q .exit-lands);
-        breaks-land = all-map (λ b p. other b _ _ (q .after-positive) p) (q .breaks-land) }
+        breaks-land = all-map (λ b p. other b _ _ (q .after-positive) p) (q .breaks-land);
+      }
+
       this : Landed l′ (record { exit = exit; breaks = bs; after = n })
       this = record {
         after-positive = s .solid .some-code;
         exit-lands = other _ _ _ (s .solid .some-code) e;
-        breaks-land = patch-hits bs n l (all-map (λ b p. p .0) waits) }
+        breaks-land = patch-hits bs n l (all-map (λ b p. p .0) waits);
+      }
 
 -- locals
 
@@ -361,18 +447,31 @@ find-scopes {L} {ss} n i (_&_ {x = s} {xs = xs} p ps) e = go (findName n s) refl
 
 module _ {K C : ℕ} where
   -- more locals, other scopes
-  pub sound-scopes : (f : FunctionState) (L : ℕ) (ss : List (List Entry)) → Sound K C f → f .localCount ≤ L → All (All (λ (e : Entry). e .index < L)) ss → Sound K C (Emission.withScopes ss (Emission.withLocalCount L f))
-  sound-scopes f L ss s h ps = record { reach = s .reach; sized = s .sized; low = s .low; room = s .room;
+  pub sound-scopes : (f : FunctionState) (L : ℕ) (ss : List (List Entry)) → Sound K C f → f .localCount ≤ L → All (All (λ (e : Entry). e .index < L)) ss
+      → Sound K C (Emission.withScopes ss (Emission.withLocalCount L f))
+  sound-scopes f L ss s h ps = record {
+    reach = s .reach;
+    sized = s .sized;
+    low = s .low;
+    room = s .room;
     fits = fits-mono (f .instructions) (record { tops = le-refl _; slots = h; pools = le-refl _; globals = le-refl _; reads = λ i a. a }) (s .fits);
-    rescue = s .rescue; scopes = ps; breaks = s .breaks; loops = s .loops; traced = s .traced; belongs = s .belongs }
+    rescue = s .rescue;
+    scopes = ps;
+    breaks = s .breaks;
+    loops = s .loops;
+    traced = s .traced;
+    belongs = s .belongs;
+  }
 
   pub sound-define : (n : ℕ) (f : FunctionState) → Sound K C f → Sound K C (defineLocal n f .state)
   unfolding defineLocal
   sound-define n f s = go (findName n (innermost (f .scopes)))
     where
-      insert : {ss : List (List Entry)} → All (All (λ (e : Entry). e .index < f .localCount + 1)) ss → All (All (λ (e : Entry). e .index < f .localCount + 1)) (Emission.insertName (record { name = n; index = f .localCount }) ss)
+      insert : {ss : List (List Entry)} → All (All (λ (e : Entry). e .index < f .localCount + 1)) ss
+          → All (All (λ (e : Entry). e .index < f .localCount + 1)) (Emission.insertName (record { name = n; index = f .localCount }) ss)
       insert none = none
       insert (p & ps) = let new : f .localCount < f .localCount + 1 = omega arith in (new & p) & ps
+
       go : (o : Option ℕ) → Sound K C (Emission.defineLocalBy o n f .state)
       go none = sound-scopes f (f .localCount + 1) _ s (omega arith) (insert (all-map (λ es qs. all-map (λ e q. omega arith) qs) (s .scopes)))
       go (some i) = s

@@ -102,12 +102,12 @@ pub record Reply : Type 0 where
 unfoldable pub replyOf : Answer → Reply
 unfolding tablesOf
 replyOf (Delivery c) = record {
-    number = 0;
-    place = 0;
-    totals = map (λ (es : Entries). length es) (tablesOf c);
-    entryPoint = c .entryPoint;
-    globals = globalDependencies (c .pool .globals) 0 (c .pool .constants);
-  }
+  number = 0;
+  place = 0;
+  totals = map (λ (es : Entries). length es) (tablesOf c);
+  entryPoint = c .entryPoint;
+  globals = globalDependencies (c .pool .globals) 0 (c .pool .constants);
+}
 replyOf (Refusal n p es) = record { number = n; place = p; totals = replicate 13 0; entryPoint = 0; globals = 0 }
 
 -- the words of the areas afterwards, of those lengths, by area from 1

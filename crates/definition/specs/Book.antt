@@ -1,6 +1,6 @@
 -- `backend/compiler.rs`: definitions and documents. A deed takes a book under compilation and gives it back
 use Prim.Native.Nat.{ℕ, zero, suc, _+_}
-use mathlib.Core.Bool.{Bool, true, false, cond}
+use mathlib.Core.Bool.{Bool, true, false, cond, _&&_, _||_}
 use mathlib.Core.Option.{Option, none, some}
 use mathlib.Core.List.{List, [], _∷_, _++_}
 use lib.ListN.{length}
@@ -63,112 +63,112 @@ Deed = Book → Book
 -- `CompilerContext::new`
 abbrev pub newContext : Context
 newContext = record {
-    pool = record { constants = defaultConstants; globals = []; localCount = 0 };
-    models = [];
-    functions = [];
-    localValues = [];
-    entryPoint = 0;
-    assemblies = [];
-    localNames = [];
-    methods = [];
-  }
+  pool = record { constants = defaultConstants; globals = []; localCount = 0 };
+  models = [];
+  functions = [];
+  localValues = [];
+  entryPoint = 0;
+  assemblies = [];
+  localNames = [];
+  methods = [];
+}
 
 -- one field anew
 abbrev pub withPool : CompilerContext → Context → Context
 withPool p c = record {
-    pool = p;
-    models = c .models;
-    functions = c .functions;
-    localValues = c .localValues;
-    entryPoint = c .entryPoint;
-    assemblies = c .assemblies;
-    localNames = c .localNames;
-    methods = c .methods;
-  }
+  pool = p;
+  models = c .models;
+  functions = c .functions;
+  localValues = c .localValues;
+  entryPoint = c .entryPoint;
+  assemblies = c .assemblies;
+  localNames = c .localNames;
+  methods = c .methods;
+}
 
 abbrev pub withModels : List Model → Context → Context
 withModels m c = record {
-    pool = c .pool;
-    models = m;
-    functions = c .functions;
-    localValues = c .localValues;
-    entryPoint = c .entryPoint;
-    assemblies = c .assemblies;
-    localNames = c .localNames;
-    methods = c .methods;
-  }
+  pool = c .pool;
+  models = m;
+  functions = c .functions;
+  localValues = c .localValues;
+  entryPoint = c .entryPoint;
+  assemblies = c .assemblies;
+  localNames = c .localNames;
+  methods = c .methods;
+}
 
 abbrev pub withFunctions : List Function → Context → Context
 withFunctions f c = record {
-    pool = c .pool;
-    models = c .models;
-    functions = f;
-    localValues = c .localValues;
-    entryPoint = c .entryPoint;
-    assemblies = c .assemblies;
-    localNames = c .localNames;
-    methods = c .methods;
-  }
+  pool = c .pool;
+  models = c .models;
+  functions = f;
+  localValues = c .localValues;
+  entryPoint = c .entryPoint;
+  assemblies = c .assemblies;
+  localNames = c .localNames;
+  methods = c .methods;
+}
 
 abbrev pub withLocalValues : List Entry → Context → Context
 withLocalValues v c = record {
-    pool = c .pool;
-    models = c .models;
-    functions = c .functions;
-    localValues = v;
-    entryPoint = c .entryPoint;
-    assemblies = c .assemblies;
-    localNames = c .localNames;
-    methods = c .methods;
-  }
+  pool = c .pool;
+  models = c .models;
+  functions = c .functions;
+  localValues = v;
+  entryPoint = c .entryPoint;
+  assemblies = c .assemblies;
+  localNames = c .localNames;
+  methods = c .methods;
+}
 
 abbrev pub withEntryPoint : ℕ → Context → Context
 withEntryPoint n c = record {
-    pool = c .pool;
-    models = c .models;
-    functions = c .functions;
-    localValues = c .localValues;
-    entryPoint = n;
-    assemblies = c .assemblies;
-    localNames = c .localNames;
-    methods = c .methods;
-  }
+  pool = c .pool;
+  models = c .models;
+  functions = c .functions;
+  localValues = c .localValues;
+  entryPoint = n;
+  assemblies = c .assemblies;
+  localNames = c .localNames;
+  methods = c .methods;
+}
 
 abbrev pub withAssemblies : List Assembly → Context → Context
 withAssemblies a c = record {
-    pool = c .pool;
-    models = c .models;
-    functions = c .functions;
-    localValues = c .localValues;
-    entryPoint = c .entryPoint;
-    assemblies = a;
-    localNames = c .localNames;
-    methods = c .methods;
-  }
+  pool = c .pool;
+  models = c .models;
+  functions = c .functions;
+  localValues = c .localValues;
+  entryPoint = c .entryPoint;
+  assemblies = a;
+  localNames = c .localNames;
+  methods = c .methods;
+}
 
 abbrev pub withLocalNames : List Entry → Context → Context
 withLocalNames n c = record {
-    pool = c .pool;
-    models = c .models;
-    functions = c .functions;
-    localValues = c .localValues;
-    entryPoint = c .entryPoint;
-    assemblies = c .assemblies;
-    localNames = n;
-    methods = c .methods;
-  }
+  pool = c .pool;
+  models = c .models;
+  functions = c .functions;
+  localValues = c .localValues;
+  entryPoint = c .entryPoint;
+  assemblies = c .assemblies;
+  localNames = n;
+  methods = c .methods;
+}
 
 abbrev pub withMethods : List Method → Context → Context
 withMethods l c = record {
-    pool = c .pool;
-    models = c .models;
-    functions = c .functions;
-    localValues = c .localValues;
-    entryPoint = c .entryPoint;
-    assemblies = c .assemblies;
-    localNames = c .localNames;
-    methods = l;
-  }
+  pool = c .pool;
+  models = c .models;
+  functions = c .functions;
+  localValues = c .localValues;
+  entryPoint = c .entryPoint;
+  assemblies = c .assemblies;
+  localNames = c .localNames;
+  methods = l;
+}
 
 abbrev pub withContext : Context → Deed
 withContext c b = record { compiler = b .compiler; assembly = b .assembly; context = c; uses = b .uses }
@@ -189,12 +189,12 @@ codeOf fs = sumOf (λ f. length (f .state .instructions)) fs
 
 abbrev pub working : Book → Work
 working b = record {
-    compiler = b .compiler;
-    context = b .context .pool;
-    function = newFunctionState;
-    before = codeOf (b .context .functions);
-    uses = b .uses;
-  }
+  compiler = b .compiler;
+  context = b .context .pool;
+  function = newFunctionState;
+  before = codeOf (b .context .functions);
+  uses = b .uses;
+}
 
 abbrev pub resumed : Work → Book → Book
 resumed w b = record { compiler = w .compiler; assembly = b .assembly; context = withPool (w .context) (b .context); uses = w .uses }
@@ -220,16 +220,16 @@ withLocalName n b =
       compiler = record { locals = b .compiler .locals ++ (record { name = n; index = index } ∷ []); errors = b .compiler .errors };
       assembly = b .assembly;
       context = withLocalNames (b .context .localNames ++ (record { name = n; index = b .assembly .index } ∷ []))
-        (withPool (record { constants = b .context .pool .constants; globals = b .context .pool .globals; localCount = index + 1 }) (b .context));
+          (withPool (record { constants = b .context .pool .constants; globals = b .context .pool .globals; localCount = index + 1 }) (b .context));
       uses = b .uses;
     }
 
 abbrev pub defineContextLocalBy : Option ℕ → ℕ → Book → MaybePlaced
 defineContextLocalBy (some i) n b = record { place = none; book = b }
 defineContextLocalBy none n b = record {
-    place = some (b .context .pool .localCount);
-    book = noted contextLocalsArea (b .context .pool .localCount + 1) (withLocalName n b);
-  }
+  place = some (b .context .pool .localCount);
+  book = noted contextLocalsArea (b .context .pool .localCount + 1) (withLocalName n b);
+}
 
 -- `define_local` and `define_local_by_identifier` of `CompilerState`: a name that is there keeps its local, without error
 unfoldable pub defineContextLocal : ℕ → Book → MaybePlaced
@@ -355,11 +355,11 @@ publicsOf as′ = sumOf (λ a. length (a .publics)) as′
 
 abbrev pub withPublics : List Entry → Deed
 withPublics ps b = record {
-    compiler = b .compiler;
-    assembly = record { filename = b .assembly .filename; index = b .assembly .index; publics = ps };
-    context = b .context;
-    uses = b .uses;
-  }
+  compiler = b .compiler;
+  assembly = record { filename = b .assembly .filename; index = b .assembly .index; publics = ps };
+  context = b .context;
+  uses = b .uses;
+}
 
 -- `public_indices.insert`: the last value wins
 abbrev pub publish : ℕ → Placed → Book
@@ -503,11 +503,11 @@ compileDefinitions (d ∷ ds) b = compileDefinitions ds (compileDefinition d b)
 -- a book before its first definition
 abbrev pub opened : Document → Context → List Use → Book
 opened d c uses = record {
-    compiler = record { locals = []; errors = [] };
-    assembly = record { filename = d .filename; index = length (c .assemblies); publics = [] };
-    context = c;
-    uses = uses;
-  }
+  compiler = record { locals = []; errors = [] };
+  assembly = record { filename = d .filename; index = length (c .assemblies); publics = [] };
+  context = c;
+  uses = uses;
+}
 
 -- `compile_document`: the assembly is put away
 unfoldable pub compileDocument : Document → Context → List Use → Book

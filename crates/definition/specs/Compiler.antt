@@ -1,7 +1,7 @@
 -- `backend/compiler.rs`: expressions, statements and function bodies. A step takes the states that the Rust passes on and gives them back.
 -- What the Rust calls back into is passed to a step as a step: `condition`, `truePart`
 use Prim.Native.Nat.{ℕ, zero, suc, _+_, _-_}
-use mathlib.Core.Bool.{Bool, true, false, cond}
+use mathlib.Core.Bool.{Bool, true, false, cond, _&&_, _||_}
 use mathlib.Core.Option.{Option, none, some}
 use mathlib.Core.List.{List, [], _∷_, _++_}
 use lib.ListN.{length}
@@ -49,12 +49,13 @@ Step = Work → Work
 -- the function's state anew, with the entries that it then has in use: code, scope names, breaks (a break's Jump comes before its entry)
 abbrev pub withFunction : FunctionState → Step
 withFunction f w = record {
-    compiler = w .compiler;
-    context = w .context;
-    function = f;
-    before = w .before;
-    uses = using′ breaksArea (total (f .breakScopes)) ∷ using′ scopeNamesArea (total (f .scopes)) ∷ using′ codeArea (w .before + length (f .instructions)) ∷ w .uses;
-  }
+  compiler = w .compiler;
+  context = w .context;
+  function = f;
+  before = w .before;
+  uses = using′ breaksArea (total (f .breakScopes)) ∷ using′ scopeNamesArea (total (f .scopes)) ∷ using′ codeArea
+      (w .before + length (f .instructions)) ∷ w .uses;
+}
 
 -- a method of the function's state as a step
 abbrev pub doing : (FunctionState → FunctionState) → Step
@@ -81,12 +82,12 @@ withError n t s = record { locals = s .locals; errors = s .errors ++ (record { n
 
 abbrev pub pushError : ℕ → Token → Step
 pushError n t w = record {
-    compiler = withError n t (w .compiler);
-    context = w .context;
-    function = w .function;
-    before = w .before;
-    uses = using′ errorsArea (length (w .compiler .errors) + 1) ∷ w .uses;
-  }
+  compiler = withError n t (w .compiler);
+  context = w .context;
+  function = w .function;
+  before = w .before;
+  uses = using′ errorsArea (length (w .compiler .errors) + 1) ∷ w .uses;
+}
 
 -- constants
 
@@ -102,19 +103,19 @@ pub record Added : Type 0 where
 
 abbrev pub withConstants : List Constant → List ℕ → Step
 withConstants cs gs w = record {
-    compiler = w .compiler;
-    context = record { constants = cs; globals = gs; localCount = w .context .localCount };
-    function = w .function;
-    before = w .before;
-    uses = using′ constantsArea (length cs) ∷ w .uses;
-  }
+  compiler = w .compiler;
+  context = record { constants = cs; globals = gs; localCount = w .context .localCount };
+  function = w .function;
+  before = w .before;
+  uses = using′ constantsArea (length cs) ∷ w .uses;
+}
 
 -- `add_constant_no_check`
 abbrev pub addConstantNoCheck : Constant → Work → Added
 addConstantNoCheck c w = record {
-    index = length (w .context .constants);
-    work = withConstants (w .context .constants ++ (c ∷ [])) (w .context .globals) w;
-  }
+  index = length (w .context .constants);
+  work = withConstants (w .context .constants ++ (c ∷ [])) (w .context .globals) w;
+}
 
 abbrev pub addConstantBy : Option ℕ → Constant → Work → Added
 addConstantBy (some i) c w = record { index = i; work = w }

@@ -38,154 +38,154 @@ pub record FunctionState : Type 0 where
 -- `FunctionState::new`, with its first scope
 abbrev pub newFunctionState : FunctionState
 newFunctionState = record {
-    isInstance = false;
-    parameterCount = 0;
-    localCount = 0;
-    depth = 0;
-    rescuePosition = 0;
-    scopes = [] ∷ [];
-    breakScopes = [];
-    instructions = [];
-    positions = [];
-    trace = [];
-    thisReads = [];
-  }
+  isInstance = false;
+  parameterCount = 0;
+  localCount = 0;
+  depth = 0;
+  rescuePosition = 0;
+  scopes = [] ∷ [];
+  breakScopes = [];
+  instructions = [];
+  positions = [];
+  trace = [];
+  thisReads = [];
+}
 
 -- one field anew
 abbrev pub withParameters : Bool → ℕ → FunctionState → FunctionState
 withParameters b n f = record {
-    isInstance = b;
-    parameterCount = n;
-    localCount = f .localCount;
-    depth = f .depth;
-    rescuePosition = f .rescuePosition;
-    scopes = f .scopes;
-    breakScopes = f .breakScopes;
-    instructions = f .instructions;
-    positions = f .positions;
-    trace = f .trace;
-    thisReads = f .thisReads;
-  }
+  isInstance = b;
+  parameterCount = n;
+  localCount = f .localCount;
+  depth = f .depth;
+  rescuePosition = f .rescuePosition;
+  scopes = f .scopes;
+  breakScopes = f .breakScopes;
+  instructions = f .instructions;
+  positions = f .positions;
+  trace = f .trace;
+  thisReads = f .thisReads;
+}
 
 abbrev pub withLocalCount : ℕ → FunctionState → FunctionState
 withLocalCount n f = record {
-    isInstance = f .isInstance;
-    parameterCount = f .parameterCount;
-    localCount = n;
-    depth = f .depth;
-    rescuePosition = f .rescuePosition;
-    scopes = f .scopes;
-    breakScopes = f .breakScopes;
-    instructions = f .instructions;
-    positions = f .positions;
-    trace = f .trace;
-    thisReads = f .thisReads;
-  }
+  isInstance = f .isInstance;
+  parameterCount = f .parameterCount;
+  localCount = n;
+  depth = f .depth;
+  rescuePosition = f .rescuePosition;
+  scopes = f .scopes;
+  breakScopes = f .breakScopes;
+  instructions = f .instructions;
+  positions = f .positions;
+  trace = f .trace;
+  thisReads = f .thisReads;
+}
 
 abbrev pub withDepth : ℕ → FunctionState → FunctionState
 withDepth n f = record {
-    isInstance = f .isInstance;
-    parameterCount = f .parameterCount;
-    localCount = f .localCount;
-    depth = n;
-    rescuePosition = f .rescuePosition;
-    scopes = f .scopes;
-    breakScopes = f .breakScopes;
-    instructions = f .instructions;
-    positions = f .positions;
-    trace = f .trace;
-    thisReads = f .thisReads;
-  }
+  isInstance = f .isInstance;
+  parameterCount = f .parameterCount;
+  localCount = f .localCount;
+  depth = n;
+  rescuePosition = f .rescuePosition;
+  scopes = f .scopes;
+  breakScopes = f .breakScopes;
+  instructions = f .instructions;
+  positions = f .positions;
+  trace = f .trace;
+  thisReads = f .thisReads;
+}
 
 abbrev pub withRescue : ℕ → FunctionState → FunctionState
 withRescue n f = record {
-    isInstance = f .isInstance;
-    parameterCount = f .parameterCount;
-    localCount = f .localCount;
-    depth = f .depth;
-    rescuePosition = n;
-    scopes = f .scopes;
-    breakScopes = f .breakScopes;
-    instructions = f .instructions;
-    positions = f .positions;
-    trace = f .trace;
-    thisReads = f .thisReads;
-  }
+  isInstance = f .isInstance;
+  parameterCount = f .parameterCount;
+  localCount = f .localCount;
+  depth = f .depth;
+  rescuePosition = n;
+  scopes = f .scopes;
+  breakScopes = f .breakScopes;
+  instructions = f .instructions;
+  positions = f .positions;
+  trace = f .trace;
+  thisReads = f .thisReads;
+}
 
 abbrev pub withScopes : List (List Entry) → FunctionState → FunctionState
 withScopes s f = record {
-    isInstance = f .isInstance;
-    parameterCount = f .parameterCount;
-    localCount = f .localCount;
-    depth = f .depth;
-    rescuePosition = f .rescuePosition;
-    scopes = s;
-    breakScopes = f .breakScopes;
-    instructions = f .instructions;
-    positions = f .positions;
-    trace = f .trace;
-    thisReads = f .thisReads;
-  }
+  isInstance = f .isInstance;
+  parameterCount = f .parameterCount;
+  localCount = f .localCount;
+  depth = f .depth;
+  rescuePosition = f .rescuePosition;
+  scopes = s;
+  breakScopes = f .breakScopes;
+  instructions = f .instructions;
+  positions = f .positions;
+  trace = f .trace;
+  thisReads = f .thisReads;
+}
 
 abbrev pub withBreakScopes : List (List ℕ) → FunctionState → FunctionState
 withBreakScopes s f = record {
-    isInstance = f .isInstance;
-    parameterCount = f .parameterCount;
-    localCount = f .localCount;
-    depth = f .depth;
-    rescuePosition = f .rescuePosition;
-    scopes = f .scopes;
-    breakScopes = s;
-    instructions = f .instructions;
-    positions = f .positions;
-    trace = f .trace;
-    thisReads = f .thisReads;
-  }
+  isInstance = f .isInstance;
+  parameterCount = f .parameterCount;
+  localCount = f .localCount;
+  depth = f .depth;
+  rescuePosition = f .rescuePosition;
+  scopes = f .scopes;
+  breakScopes = s;
+  instructions = f .instructions;
+  positions = f .positions;
+  trace = f .trace;
+  thisReads = f .thisReads;
+}
 
 abbrev pub withCode : List Instruction → List ℕ → FunctionState → FunctionState
 withCode is ps f = record {
-    isInstance = f .isInstance;
-    parameterCount = f .parameterCount;
-    localCount = f .localCount;
-    depth = f .depth;
-    rescuePosition = f .rescuePosition;
-    scopes = f .scopes;
-    breakScopes = f .breakScopes;
-    instructions = is;
-    positions = ps;
-    trace = f .trace;
-    thisReads = f .thisReads;
-  }
+  isInstance = f .isInstance;
+  parameterCount = f .parameterCount;
+  localCount = f .localCount;
+  depth = f .depth;
+  rescuePosition = f .rescuePosition;
+  scopes = f .scopes;
+  breakScopes = f .breakScopes;
+  instructions = is;
+  positions = ps;
+  trace = f .trace;
+  thisReads = f .thisReads;
+}
 
 abbrev pub withTrace : List Event → FunctionState → FunctionState
 withTrace t f = record {
-    isInstance = f .isInstance;
-    parameterCount = f .parameterCount;
-    localCount = f .localCount;
-    depth = f .depth;
-    rescuePosition = f .rescuePosition;
-    scopes = f .scopes;
-    breakScopes = f .breakScopes;
-    instructions = f .instructions;
-    positions = f .positions;
-    trace = t;
-    thisReads = f .thisReads;
-  }
+  isInstance = f .isInstance;
+  parameterCount = f .parameterCount;
+  localCount = f .localCount;
+  depth = f .depth;
+  rescuePosition = f .rescuePosition;
+  scopes = f .scopes;
+  breakScopes = f .breakScopes;
+  instructions = f .instructions;
+  positions = f .positions;
+  trace = t;
+  thisReads = f .thisReads;
+}
 
 abbrev pub withThisReads : List ℕ → FunctionState → FunctionState
 withThisReads l f = record {
-    isInstance = f .isInstance;
-    parameterCount = f .parameterCount;
-    localCount = f .localCount;
-    depth = f .depth;
-    rescuePosition = f .rescuePosition;
-    scopes = f .scopes;
-    breakScopes = f .breakScopes;
-    instructions = f .instructions;
-    positions = f .positions;
-    trace = f .trace;
-    thisReads = l;
-  }
+  isInstance = f .isInstance;
+  parameterCount = f .parameterCount;
+  localCount = f .localCount;
+  depth = f .depth;
+  rescuePosition = f .rescuePosition;
+  scopes = f .scopes;
+  breakScopes = f .breakScopes;
+  instructions = f .instructions;
+  positions = f .positions;
+  trace = f .trace;
+  thisReads = l;
+}
 
 -- the last of a list, and a list without its last
 abbrev pub last : {A : Type 0} → List A → A → A
@@ -308,9 +308,9 @@ pub record Defined : Type 0 where
 abbrev pub defineLocalBy : Option ℕ → ℕ → FunctionState → Defined
 defineLocalBy (some i) n f = record { found = none; state = f }
 defineLocalBy none n f = record {
-    found = some (f .localCount);
-    state = withScopes (insertName (record { name = n; index = f .localCount }) (f .scopes)) (withLocalCount (f .localCount + 1) f);
-  }
+  found = some (f .localCount);
+  state = withScopes (insertName (record { name = n; index = f .localCount }) (f .scopes)) (withLocalCount (f .localCount + 1) f);
+}
 
 -- `define_local`: a name that the innermost scope has is not defined again; a function has its outermost scope always
 unfoldable pub defineLocal : ℕ → FunctionState → Defined

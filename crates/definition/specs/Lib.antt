@@ -6,3 +6,4 @@ pub mod DependencySolver
 pub mod Program
 pub mod Answer
 pub mod Within
+pub mod Bench

@@ -21,7 +21,6 @@ pub data All {A : Type 0} (P : A → Type 0) : List A → Type 0 where
   _&_ : {x : A} {xs : List A} → P x → All P xs → All P (x ∷ xs)
 
 infixr 30 _&_
-
 pub data Among (n : ℕ) : List ℕ → Type 0 where
   here : {ns : List ℕ} → Among n (n ∷ ns)
   there : {m : ℕ} {ns : List ℕ} → Among n ns → Among n (m ∷ ns)
@@ -81,9 +80,9 @@ abbrev pub readEvent : Event → Reading → Reading
 readEvent Entered r = record { open′ = [] ∷ r .open′; closed = r .closed }
 readEvent (Broke i) r = record { open′ = pushBreaks (i ∷ []) (r .open′); closed = r .closed }
 readEvent (Left exit after) r = record {
-    open′ = tail (r .open′);
-    closed = r .closed ++ (record { exit = exit; breaks = innermost (r .open′); after = after } ∷ []);
-  }
+  open′ = tail (r .open′);
+  closed = r .closed ++ (record { exit = exit; breaks = innermost (r .open′); after = after } ∷ []);
+}
 
 -- the newest event stands first
 abbrev pub readTrace : List Event → Reading
@@ -146,12 +145,12 @@ instructionAt m n = unword (cell m codeArea n 0)
 pub record FunctionWithin (m : Areas) (t : Totals) (g : Log) (j : ℕ) : Type 0 where
   pub inside : cell m functionsArea j startWord + cell m functionsArea j lengthWord ≤ totalOf t codeArea
   pub fits : (i : ℕ) → i < cell m functionsArea j lengthWord → Fits (record {
-        top = cell m functionsArea j lengthWord;
-        locals = cell m functionsArea j localsWord;
-        constants = totalOf t constantsArea;
-        context = totalOf t contextLocalsArea;
-        this = g .this;
-      }) i (instructionAt m (cell m functionsArea j startWord + i))
+    top = cell m functionsArea j lengthWord;
+    locals = cell m functionsArea j localsWord;
+    constants = totalOf t constantsArea;
+    context = totalOf t contextLocalsArea;
+    this = g .this;
+  }) i (instructionAt m (cell m functionsArea j startWord + i))
   pub rescue : cell m functionsArea j rescueWord ≤ cell m functionsArea j lengthWord
   pub loops : All (Lands (λ i. instructionAt m (cell m functionsArea j startWord + i)) (cell m functionsArea j lengthWord)) (loopsOf (g .trace))
   pub breaks : All (λ b. InLoop b (loopsOf (g .trace))) (breaksOf (g .trace))
@@ -176,14 +175,14 @@ pub record KeepsWithin (m : Areas) (t : Totals) (entryPoint globals : ℕ) (logs
   pub whole : (area : ℕ) → totalOf t area * widthOf area ≤ length (getD m area [])
   pub functions : EachEntry t functionsArea (λ j. FunctionWithin m t (getD logs j noLog) j)
   pub constants : EachEntry t constantsArea (λ i. (cell m constantsArea i 0 ≡ modelKind → cell m constantsArea i 1 < totalOf t modelsArea)
-        × (cell m constantsArea i 0 ≡ functionKind → cell m constantsArea i 1 < totalOf t functionsArea)
-        × (cell m constantsArea i 2 ≤ 1))
+      × (cell m constantsArea i 0 ≡ functionKind → cell m constantsArea i 1 < totalOf t functionsArea)
+      × (cell m constantsArea i 2 ≤ 1))
   -- global dependencies are the numbers of the marked constants
   pub globals-counted : globals ≡ marked m (totalOf t constantsArea)
   pub models : EachEntry t modelsArea (λ i. cell m modelsArea i 0 < totalOf t booksArea)
   pub properties : EachEntry t propertiesArea (λ i. cell m propertiesArea i 0 < totalOf t modelsArea)
   pub methods : EachEntry t methodsArea (λ i. (cell m methodsArea i 0 < totalOf t modelsArea) × (cell m methodsArea i 2 < totalOf t functionsArea))
   pub values : EachEntry t contextLocalsArea (λ i. (cell m contextLocalsArea i 0 < totalOf t booksArea)
-        × (cell m contextLocalsArea i 2 ≡ 1 → cell m contextLocalsArea i 3 < totalOf t constantsArea))
+      × (cell m contextLocalsArea i 2 ≡ 1 → cell m contextLocalsArea i 3 < totalOf t constantsArea))
   pub publics : EachEntry t publicNamesArea (λ i. (cell m publicNamesArea i 0 < totalOf t booksArea) × (cell m publicNamesArea i 2 < totalOf t constantsArea))
   pub entry : EntryWithin (totalOf t functionsArea) entryPoint
