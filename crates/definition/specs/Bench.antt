@@ -392,7 +392,7 @@ entry : List ℕ → List ℕ → ℕ
 unfolding run tablesOf replyOf
 entry w lengths = replyOf (answer w lengths) .entryPoint
 
-last-main : entry (r 1 4 0 2 (r 14 1 0 1 (r 14 1 0 3 (r 14 1 0 1 [])))) ample ≡ 2
+last-main : entry (r 1 4 0 2 (r 14 1 0 3 (r 14 1 0 1 (r 14 1 0 1 [])))) ample ≡ 2
 unfolding entry
 last-main = refl
 
