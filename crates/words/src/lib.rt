@@ -1,2 +1,3 @@
 // The words layer: opcodes and instructions, constants, records and the entries of the twelve areas.
-mod record;
+pub mod opcode;
+pub mod record;
