@@ -1,3 +1,4 @@
 // The words layer: opcodes and instructions, constants, records and the entries of the twelve areas.
+pub mod areas;
 pub mod opcode;
 pub mod record;
