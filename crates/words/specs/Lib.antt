@@ -3,4 +3,6 @@ pub mod Ast
 pub mod Codes
 pub mod Object
 pub mod Opcode
+pub mod Program
 pub mod Record
+pub mod Reply

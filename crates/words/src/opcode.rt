@@ -1,7 +1,7 @@
 // `runtime/opcode.rs`: opcodes, operations and the instruction word (01, 'Emission': opcode × 2^56 + operand).
 ghost use mathlib.Core.Path.{_≡_};
 ghost use Rattle.words.specs.Opcode.{word, unword, toInstruction};
-ghost use Rattle.words.specs.Codes.{numberOf, opcodeOf, codeWord};
+ghost use Rattle.words.specs.Codes.{numberOf, opcodeOf, codeWord, readWord};
 
 // The operations, operands of `OpCode::Operation`.
 pub const OPERATION_ADD: u64 = 0;
@@ -142,6 +142,13 @@ pub fn opcode_of(number: u64) -> OpCode
 }
 
 impl Instruction {
+    // `From<u64>`, of a word of code memory: through `to_instruction`, so that an opcode that is none becomes `Unknown`.
+    pub fn from(word: u64) -> Instruction
+        ensures { λ r. ⌜ codeWord r ≡ readWord word ⌝ }
+    {
+        opcode_of(word / OPCODE_UNIT).to_instruction(word % OPCODE_UNIT)
+    }
+
     pub fn opcode(self) -> OpCode
         ensures { λ r. ⌜ r ≡ opcodeOf (unword (codeWord self) .opcode) ⌝ }
     {
