@@ -1,1 +1,4 @@
+pub mod Codes
+pub mod Entries
 pub mod Fields
+pub mod Parts

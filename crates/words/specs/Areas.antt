@@ -1,8 +1,11 @@
 -- The twelve areas of 01, 'Replies of the compiler': how many words an entry has and what each word means (docs/FORMAT.md has the same as a table).
 -- An area is a list of words; its entries follow each other from word 0, and a tail shorter than an entry belongs to none
 use Prim.Native.Nat.{ℕ, _+_, _-_, _*_, _/_, _^_, min}
+use mathlib.Core.Path.{_≡_}
+use mathlib.Core.Bool.{Bool, false, cond}
 use mathlib.Core.List.{List, [], _∷_, _++_}
-use lib.ListN.{length, take, drop, getD}
+use lib.ListN.{length, take, drop, getD, set, replicate}
+use lib.Dec.{leb, ltb}
 
 -- area numbers
 abbrev pub codeArea : ℕ
@@ -71,6 +74,40 @@ entryWord width i k w = getD w (i * width + k) 0
 -- entry i anew
 abbrev pub setEntry : ℕ → ℕ → List ℕ → List ℕ → List ℕ
 setEntry width i entry w = take (i * width) w ++ (entry ++ drop (i * width + width) w)
+
+-- no area's entry has more words than this
+abbrev pub mostWidth : ℕ
+mostWidth = 8
+
+-- word k of entry i as `entry_word` reads it: 0 also past the entry, and at a width that no area has
+unfoldable pub entryField : ℕ → ℕ → ℕ → List ℕ → ℕ
+entryField width i k w = cond (leb width mostWidth) (cond (ltb k width) (entryWord width i k w) 0) 0
+
+-- whether entry i lies whole in an area of n words; at a width that no area has, none does
+abbrev pub entryFits : ℕ → ℕ → ℕ → Bool
+entryFits width i n = cond (ltb 0 width) (cond (leb width mostWidth) (leb (i * width + width) n) false) false
+
+-- an area after entry i was written, where it fits
+abbrev pub writeEntry : ℕ → ℕ → List ℕ → List ℕ → List ℕ
+writeEntry width i entry w = cond (entryFits width i (length w)) (setEntry width i entry w) w
+
+-- what a writer of entry i answers, and the area that it leaves
+pub record Written (width i : ℕ) (entry w after : List ℕ) (answer : Bool) : Type 0 where
+  pub fitted : answer ≡ entryFits width i (length w)
+  pub words : after ≡ writeEntry width i entry w
+
+-- whether word k of entry i is a word of an area of n words
+abbrev pub wordFits : ℕ → ℕ → ℕ → ℕ → Bool
+wordFits width i k n = cond (leb width mostWidth) (cond (ltb k width) (ltb (i * width + k) n) false) false
+
+-- what a writer of word k of entry i answers, and the area that it leaves
+pub record Patched (width i k value : ℕ) (w after : List ℕ) (answer : Bool) : Type 0 where
+  pub fitted : answer ≡ wordFits width i k (length w)
+  pub words : after ≡ cond (wordFits width i k (length w)) (set w (i * width + k) value) w
+
+-- an area with zeros from a word on
+abbrev pub clearedFrom : ℕ → List ℕ → List ℕ
+clearedFrom from w = take from w ++ replicate (length w - from) 0
 
 -- the places of the words in a function's entry
 abbrev pub parametersWord : ℕ
