@@ -4,3 +4,4 @@ pub mod Moves
 pub mod Sound
 pub mod Good
 pub mod Program
+pub mod Cells
