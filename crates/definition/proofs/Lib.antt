@@ -5,3 +5,5 @@ pub mod Sound
 pub mod Good
 pub mod Program
 pub mod Cells
+pub mod FunctionCode
+pub mod Keeps
