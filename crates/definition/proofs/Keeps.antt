@@ -223,3 +223,51 @@ module _ {m : Areas} {t : Totals} (c : Context) (holds : (area : ℕ) → Holds 
           (λ j x h f. local-words (c .localValues) j x (safe .parts .values) f & none) (omega arith) (safe .parts .names)
       publicsNamed : All (λ (e : List ℕ). (getD e 0 0 < A) × (getD e 2 0 < K)) (entriesFrom assemblyPublics 0 (c .assemblies))
       publicsNamed = entries-all assemblyPublics A 0 (λ j x h p. public-words (p .0) (p .1)) (omega arith) (safe .parts .publics)
+
+-- every table has its area's width
+
+property-wide : (i : ℕ) (ns : List ℕ) → Wide 2 (propertyEntries i ns)
+property-wide i [] = none
+property-wide i (n ∷ ns) = refl & property-wide i ns
+
+public-wide : (file : ℕ) (es : List Entry) → Wide 3 (publicEntries file es)
+public-wide file [] = none
+public-wide file (e ∷ es) = refl & public-wide file es
+
+local-wide : (o : Option ℕ) (file name : ℕ) → length (localWords o file name) ≡ 4
+local-wide none file name = refl
+local-wide (some c) file name = refl
+
+pub tables-wide : (c : Context) → Wides widths (tablesOf c)
+unfolding tablesOf
+tables-wide c =
+    none then functionsCode-wide (c .functions)
+    then entries-wide (constantEntry (c .pool .globals)) 3 (λ i x. refl & none) (c .pool .constants)
+    then functions-wide 0 (c .functions)
+    then entries-wide modelEntry 2 (λ i x. refl & none) (c .models)
+    then entries-wide modelProperties 2 (λ i x. property-wide i (x .properties)) (c .models)
+    then entries-wide methodEntry 3 (λ i x. refl & none) (c .methods)
+    then entries-wide (localEntry (c .localValues)) 4 (λ i x. local-wide (findName i (c .localValues)) (x .index) (x .name) & none) (c .localNames)
+    then entries-wide assemblyPublics 3 (λ i x. public-wide (x .index) (x .publics)) (c .assemblies)
+    then none
+    then none
+    then none
+    then entries-wide bookEntry 1 (λ i x. refl & none) (c .assemblies)
+    then end
+
+-- demand 3 of the areas, of those lengths, that a delivery leaves
+abbrev pub WordsKeep : List ℕ → Context → Type 0
+WordsKeep lengths c =
+    KeepsWithin (areasOf lengths (Delivery c)) (replyOf (Delivery c) .totals) (replyOf (Delivery c) .entryPoint) (replyOf (Delivery c) .globals)
+    (logsOf (c .functions))
+
+pub program-keeps : (lengths : List ℕ) (c : Context) → length lengths ≡ 13 → ProgramSafe c → OperandsFit c → WordsKeep lengths c
+unfolding areasOf replyOf
+program-keeps lengths c n safe fit = holds-within c holds whole safe fit
+  where
+    total : (area : ℕ) → getD (map (λ (es : Entries). length es) (tablesOf c)) area 0 ≡ length (getD (tablesOf c) area [])
+    total area = List·getD-map (λ (es : Entries). length es) (tablesOf c) area []
+    holds : (area : ℕ) → Holds (filledAll lengths (tablesOf c)) (map (λ (es : Entries). length es) (tablesOf c)) area (getD (tablesOf c) area [])
+    holds area = record { total = total area; cells = λ i k h q. table-word lengths (tables-wide c) (omega arith) area i k h q }
+    whole : (area : ℕ) → getD (map (λ (es : Entries). length es) (tablesOf c)) area 0 * widthOf area ≤ length (getD (filledAll lengths (tablesOf c)) area [])
+    whole area = rw (total area) (table-whole lengths (tables-wide c) (omega arith) area)

@@ -7,3 +7,4 @@ pub mod Program
 pub mod Cells
 pub mod FunctionCode
 pub mod Keeps
+pub mod Answer
