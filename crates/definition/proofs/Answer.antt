@@ -1,15 +1,15 @@
 -- The answers of the compile call: how each comes about (`Reached`), and so which rows refuse and with which errors, that a refusal leaves zeros, and
 -- that a delivery onto a context that keeps within itself keeps within itself in the words of its areas. Assumes nothing.
-use Prim.Native.Nat.{ℕ, zero, suc, _+_, _-_, _≤_, _<_, _%_}
+use Prim.Native.Nat.{ℕ, zero, suc, _+_, _-_, _<_, _%_}
 use native.Mathlib.Omega.{arith}
 use native.Mathlib.Nat.{sub-zero}
-use mathlib.Core.Path.{_≡_, refl, sym, ap, _∙_, subst}
+use mathlib.Core.Path.{_≡_, refl, ap, _∙_, subst}
 use mathlib.Core.Logic.{_≢_, _⊎_, inl, inr}
-use mathlib.Core.Bool.{Bool, true, false, cond, not, _||_}
+use mathlib.Core.Bool.{Bool, true, false, not, _||_}
 use mathlib.Core.Option.{Option, none, some}
 use mathlib.Core.List.{List, [], _∷_}
-use lib.ListN.{length, getD, set, replicate, getD-replicate}
-use lib.Seq.{getD-set-same, getD-set-other}
+use lib.ListN.{length, getD, replicate, getD-replicate}
+use lib.Seq.{getD-set-other}
 use lib.Dec.{eqb, leb, ltb}
 use Rattle.words.specs.Ast.{Document}
 use Rattle.words.specs.Areas.{errorsArea}
@@ -25,7 +25,7 @@ use Rattle.definition.specs.Uses.{Limits, firstOver}
 use Rattle.definition.specs.Compiler.{Error}
 use Rattle.definition.specs.Book.{Context, newContext}
 use Rattle.definition.specs.DependencySolver.{Ending, Delivered, Faulty, Ring, compileNeeded, missing, needed, filesOf}
-use Rattle.definition.specs.Program.{Entries, entriesFrom, errorEntry, errorTables, filled, filledAll}
+use Rattle.definition.specs.Program.{entriesFrom, errorEntry, errorTables}
 use Rattle.definition.specs.Answer.{Answer, Delivery, Refusal, answerEnding, answerBy, answerNeeded, answerBundle, answerDocuments, answerTwice}
 use Rattle.definition.specs.Answer.{answerShape, answerFrom, answer, twice, documentPlaces, limitsOf, ringErrors, areasOf}
 use Rattle.definition.proofs.Safe.{ProgramSafe}
@@ -98,18 +98,23 @@ reached c w lengths = shape (shape-row w)
   where
     l : Limits
     l = limitsOf lengths
+
     worked : (o : Option ℕ) (numbers : List ℕ) (ds : List Document) → Reached c (answerBy o (compileNeeded numbers ds c .ending))
     worked (some area) numbers ds = Before area row-9
     worked none numbers ds = Ended numbers ds _ refl
+
     needing : (o : Option ℕ) (numbers : List ℕ) (ds : List Document) → Reached c (answerNeeded o numbers ds l c)
     needing (some n) numbers ds = Before n row-6
     needing none numbers ds = worked (firstOver l (compileNeeded numbers ds c .uses)) numbers ds
+
     documents : (ds : List Document) → Reached c (answerDocuments ds l c)
     documents [] = Before 0 row-3
     documents (root ∷ others) = needing (missing (root ∷ others) (needed (filesOf (c .assemblies)) root others)) _ (root ∷ others)
+
     doubles : (o : Option ℕ) → Reached c (answerTwice o w l c)
     doubles (some i) = Before i row-5
     doubles none = documents (documentsOf w)
+
     shape : {s : Shape} → ShapeRow s → Reached c (answerShape s w l c)
     shape (refused p h) = Before p h
     shape fine = doubles (twice [] w (documentPlaces w))
@@ -124,10 +129,12 @@ refusals c w lengths r p es q = go (reached c w lengths) q
         let rows : r′ ≡ r = cc in
         let errors : es′ ≡ es = cc in
         subst (λ (k : ℕ). Row k es) rows (subst (λ (l : List Error). Row r′ l) errors h)
+
     ending : (e : Ending) → answerEnding e ≡ Refusal r p es → Row r es
     ending (Delivered d) e = absurd (let z : _≡_ {A = ℕ} 0 1 = cc in omega arith)
     ending (Faulty n l) e = move {p′ = n} (row-7 l) e
     ending (Ring l) e = move {p′ = length l} (row-8 (ringErrors l)) e
+
     go : {a : Answer} → Reached c a → a ≡ Refusal r p es → Row r es
     go (Before p′ h) e = move {p′ = p′} h e
     go (Ended numbers ds x y) e = ending x e
@@ -152,15 +159,16 @@ delivery-safe c₀ w lengths c q safe = go (reached c₀ w lengths) q
     ending numbers ds (Delivered d) y e = let z : d ≡ c = cc in worked-safe numbers ds c₀ c safe (rw z at y)
     ending numbers ds (Faulty n l) y e = absurd (let z : _≡_ {A = ℕ} 0 1 = cc in omega arith)
     ending numbers ds (Ring l) y e = absurd (let z : _≡_ {A = ℕ} 0 1 = cc in omega arith)
+
     go : {a : Answer} → Reached c₀ a → a ≡ Delivery c → ProgramSafe c
     go (Before p h) e = absurd (let z : _≡_ {A = ℕ} 0 1 = cc in omega arith)
     go (Ended numbers ds x y) e = ending numbers ds x y e
 
 -- demand 3, onto a standing context and onto a fresh one
-pub standing-keeps : (c₀ : Context) (w lengths : List ℕ) (c : Context) → length lengths ≡ 13 → ProgramSafe c₀ → answerFrom c₀ w lengths ≡ Delivery c
+pub standing-keeps : (c₀ : Context) (w lengths : List ℕ) (c : Context) → length lengths ≡ 13 → answerFrom c₀ w lengths ≡ Delivery c → ProgramSafe c₀
     → OperandsFit c → WordsKeep lengths c
-standing-keeps c₀ w lengths c n safe q fit = program-keeps lengths c n (delivery-safe c₀ w lengths c q safe) fit
+standing-keeps c₀ w lengths c n q safe fit = program-keeps lengths c n (delivery-safe c₀ w lengths c q safe) fit
 
 pub delivery-keeps : (w lengths : List ℕ) (c : Context) → length lengths ≡ 13 → answer w lengths ≡ Delivery c → OperandsFit c → WordsKeep lengths c
 unfolding answer
-delivery-keeps w lengths c n q fit = standing-keeps newContext w lengths c n fresh-safe q fit
+delivery-keeps w lengths c n q fit = standing-keeps newContext w lengths c n q fresh-safe fit

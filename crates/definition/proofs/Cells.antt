@@ -4,7 +4,7 @@ use Prim.Native.Nat.{ℕ, zero, suc, _+_, _-_, _*_, _≤_, _<_}
 use native.Mathlib.Nat.{zero-mul, suc-mul, zero-add}
 use native.Mathlib.Omega.{arith}
 use native.Mathlib.Decide.{decLt}
-use mathlib.Core.Path.{_≡_, refl, sym, ap, _∙_, subst}
+use mathlib.Core.Path.{_≡_, refl, sym, ap, _∙_}
 use mathlib.Core.List.{List, [], _∷_, _++_, append-assoc}
 use lib.ListN.{length, getD, take, replicate, length-append, List·getD-append, List·getD-eq-default}
 use lib.Seq.{getD-append-add}
@@ -64,6 +64,7 @@ pub data Wides : List ℕ → List Entries → Type 0 where
 
 infixr 30 _then_
 
+-- the table of an area
 pub wide-at : {ws : List ℕ} {ts : List Entries} → Wides ws ts → (area : ℕ) → Wide (getD ws area 0) (getD ts area [])
 wide-at end area = none
 wide-at (w then ws) zero = w

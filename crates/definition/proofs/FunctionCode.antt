@@ -1,16 +1,15 @@
 -- The code of functions in areas 1 and 3: an instruction's word is read back as the instruction, function j's entry names the first entry of its code,
 -- and from there its code stands. By induction over the functions, each with one position for each instruction. Assumes nothing.
 use Prim.Native.Nat.{ℕ, zero, suc, _+_, _*_, _/_, _%_, _^_, _≤_, _<_}
-use native.Mathlib.Nat.{zero-add, add-zero}
 use native.Mathlib.Omega.{arith}
-use mathlib.Core.Path.{_≡_, refl, sym, ap, _∙_, subst}
-use mathlib.Core.List.{List, [], _∷_, _++_}
+use mathlib.Core.Path.{_≡_, refl, ap, _∙_}
+use mathlib.Core.List.{List, [], _∷_}
 use lib.ListN.{length, getD, take}
-use Rattle.words.specs.Opcode.{Instruction, word, unword, nothing}
-use Rattle.definition.specs.FunctionState.{FunctionState, newFunctionState}
+use Rattle.words.specs.Opcode.{Instruction, word, unword}
+use Rattle.definition.specs.FunctionState.{newFunctionState}
 use Rattle.definition.specs.Book.{Function, Context, codeOf}
-use Rattle.definition.specs.Program.{Entries, entriesFrom, codeEntries, functionCode, functionEntry, functionEntries}
-use Rattle.definition.specs.Within.{All, none, _&_, Log, noLog, logOf, logsOf}
+use Rattle.definition.specs.Program.{entriesFrom, codeEntries, functionCode, functionEntry, functionEntries}
+use Rattle.definition.specs.Within.{All, none, _&_, noLog, logOf, logsOf}
 use Rattle.definition.proofs.Safe.{at, Each}
 use Rattle.definition.proofs.Cells.{Wide, all-at, entries-wide, entries-length, entries-at, sum-inside}
 
@@ -62,7 +61,7 @@ pub functionsCode-at : {fs : List Function} → All Sized fs → (j i : ℕ) →
     ≡ word (at (functionAt fs j .state .instructions) i) ∷ getD (functionAt fs j .state .positions) i 0 ∷ []
 functionsCode-at {fs} ss j i h k =
     entries-at functionCode (λ (f : Function). length (f .state .instructions)) 0
-      (λ n f s. code-length (f .state .instructions) (f .state .positions) s) ss j i noFunction h k
+    (λ n f s. code-length (f .state .instructions) (f .state .positions) s) ss j i noFunction h k
     ∙ code-entry (functionAt fs j .state .instructions) (functionAt fs j .state .positions) i (all-at ss j noFunction h) k
 
 pub functionsCode-wide : (fs : List Function) → Wide 2 (entriesFrom functionCode 0 fs)

@@ -1,15 +1,14 @@
 -- Demand 3 of the words of the areas: a context that keeps within itself (`ProgramSafe`), whose operands fit, is written into words that keep within
 -- themselves (`KeepsWithin`). Each area holds its entries (`Holds`), so a claim about each entry's words is a claim about the area's cells.
 -- Assumes nothing.
-use Prim.Native.Nat.{ℕ, zero, suc, _+_, _-_, _*_, _^_, _≤_, _<_}
+use Prim.Native.Nat.{ℕ, zero, suc, _+_, _*_, _≤_, _<_}
 use native.Mathlib.Nat.{zero-add, le-refl}
 use native.Mathlib.Omega.{arith}
 use mathlib.Core.Path.{_≡_, refl, sym, ap, _∙_, subst}
-use mathlib.Core.Logic.{_⊎_, inl, inr}
 use mathlib.Core.Bool.{Bool, true, false}
 use mathlib.Core.Option.{Option, none, some}
 use mathlib.Core.List.{List, [], _∷_, _++_, map}
-use lib.ListN.{length, getD, take, length-append, List·getD-map}
+use lib.ListN.{length, getD, take, List·getD-map}
 use lib.Seq.{take-suc, take-length}
 use Rattle.words.specs.Areas.{widths, widthOf, codeArea, constantsArea, functionsArea, modelsArea, propertiesArea, methodsArea, contextLocalsArea}
 use Rattle.words.specs.Areas.{publicNamesArea, booksArea, localsWord, rescueWord, startWord, lengthWord, functionFileWord}
@@ -17,15 +16,15 @@ use Rattle.words.specs.Object.{Constant, modelKind, functionKind}
 use Rattle.words.specs.Opcode.{Instruction, unword, word}
 use Rattle.definition.specs.Uses.{sumOf}
 use Rattle.definition.specs.FunctionState.{FunctionState, Entry, findName}
-use Rattle.definition.specs.Book.{Function, Model, Method, Assembly, Context, hasText, codeOf}
+use Rattle.definition.specs.Book.{Function, Context, hasText, codeOf}
 use Rattle.definition.specs.Program.{Entries, bit, entriesFrom, functionCode, constantEntry, functionEntry, functionEntries, modelEntry, propertyEntries}
 use Rattle.definition.specs.Program.{modelProperties, methodEntry, localWords, localEntry, publicEntries, assemblyPublics, bookEntry, tablesOf}
 use Rattle.definition.specs.Program.{globalDependencies, filledAll}
-use Rattle.definition.specs.Answer.{Answer, Delivery, replyOf, areasOf}
-use Rattle.definition.specs.Within.{All, none, _&_, Areas, Totals, totalOf, cell, instructionAt, Counts, Fits, Loop, Lands, Log, logOf, logsOf, loopsOf}
-use Rattle.definition.specs.Within.{FunctionWithin, EachEntry, EntryWithin, marked, KeepsWithin}
-use Rattle.definition.proofs.Safe.{at, Each, Landed, counts, FunctionSafe, Named, ProgramSafe}
-use Rattle.definition.proofs.Lists.{all-map, all-append}
+use Rattle.definition.specs.Answer.{Delivery, replyOf, areasOf}
+use Rattle.definition.specs.Within.{All, none, _&_, Areas, Totals, totalOf, cell, instructionAt, Counts, Fits, Loop, Lands, Log, logOf, logsOf}
+use Rattle.definition.specs.Within.{FunctionWithin, marked, KeepsWithin}
+use Rattle.definition.proofs.Safe.{at, Landed, counts, FunctionSafe, ProgramSafe}
+use Rattle.definition.proofs.Lists.{all-map}
 use Rattle.definition.proofs.Sound.{find-name}
 use Rattle.definition.proofs.Cells.{Wide, Wides, end, _then_, all-at, table-word, table-whole, entries-all, entries-wide, single-length}
 use Rattle.definition.proofs.FunctionCode.{OperandsFit, Sized, functionAt, noFunction, unword-word, functionsCode-length, functionsCode-at}
@@ -44,7 +43,8 @@ module _ {K C n : ℕ} {at′ : ℕ → Instruction} {f : FunctionState} (safe :
   lands : (e : Loop) → Landed (f .instructions) e → Lands at′ n e
   lands e r =
       let inside : e .after ≤ length (f .instructions) =
-            subst (λ (x : Instruction). Fits (counts (length (f .instructions)) K C f) (e .exit) x) (r .exit-lands .1) (safe .fits (e .exit) (r .exit-lands .0)) in
+      subst (λ (x : Instruction). Fits (counts (length (f .instructions)) K C f) (e .exit) x) (r .exit-lands .1)
+      (safe .fits (e .exit) (r .exit-lands .0)) in
       record {
         exit-lands = (omega (arith, r .exit-lands .0), same (e .exit) (r .exit-lands .0) ∙ r .exit-lands .1);
         breaks-land = all-map (λ b q. (omega (arith, q .0), same b (q .0) ∙ q .1)) (r .breaks-land);
@@ -59,45 +59,55 @@ module _ {m : Areas} {t : Totals} (c : Context) (safe : ProgramSafe c) (fit : Op
     (books : totalOf t booksArea ≡ length (c .assemblies)) where
   function-within : (j : ℕ) → j < length (c .functions) → FunctionWithin m t (logOf (functionAt (c .functions) j .state)) j
   function-within j h = record {
-      inside = omega (arith, starts, long, code .total, functionsCode-length sized, code-inside fs j h);
-      fits = λ i k. subst (λ (x : Instruction). Fits read i x) (sym (same i (omega (arith, long))))
+    inside = omega (arith, starts, long, code .total, functionsCode-length sized, code-inside fs j h);
+    fits = λ i k. subst (λ (x : Instruction). Fits read i x) (sym (same i (omega (arith, long))))
         (subst (λ (n : Counts). Fits n i (at l i)) (sym counted) (f-safe .fits i (omega (arith, long))));
-      rescue = omega (arith, word-of rescueWord (omega arith), long, f-safe .rescue);
-      loops = all-map (lands f-safe long same) (f-safe .loops);
-      breaks = f-safe .breaks;
-      file = omega (arith, word-of functionFileWord (omega arith), books, all-at (safe .parts .functions) j noFunction h .1);
-    }
+    rescue = omega (arith, word-of rescueWord (omega arith), long, f-safe .rescue);
+    loops = all-map (lands f-safe long same) (f-safe .loops);
+    breaks = f-safe .breaks;
+    file = omega (arith, word-of functionFileWord (omega arith), books, all-at (safe .parts .functions) j noFunction h .1);
+  }
     where
       fs : List Function
       fs = c .functions
+
       f : Function
       f = functionAt fs j
+
       l : List Instruction
       l = f .state .instructions
+
       f-safe : FunctionSafe (length (c .pool .constants)) (c .pool .localCount) (f .state)
       f-safe = all-at (safe .parts .functions) j noFunction h .0
+
       sized : All Sized fs
       sized = all-map (λ (x : Function) s. s .0 .sized) (safe .parts .functions)
+
       word-of : (k : ℕ) → k < 8 → cell m functionsArea j k ≡ getD (functionEntry (0 + codeOf (take j fs)) f) k 0
       word-of k q = functions .cells j k (omega (arith, functions-length 0 fs)) q ∙ ap (λ (e : List ℕ). getD e k 0) (functions-at 0 fs j h)
+
       starts : cell m functionsArea j startWord ≡ codeOf (take j fs)
       starts = word-of startWord (omega arith) ∙ zero-add _
+
       long : cell m functionsArea j lengthWord ≡ length l
       long = word-of lengthWord (omega arith)
+
       same : (i : ℕ) → i < length l → instructionAt m (cell m functionsArea j startWord + i) ≡ at l i
       same i k =
           let inside : codeOf (take j fs) + i < length (entriesFrom functionCode 0 fs) = omega (arith, functionsCode-length sized, code-inside fs j h) in
           let stands : cell m codeArea (codeOf (take j fs) + i) 0 ≡ word (at l i) =
-                code .cells (codeOf (take j fs) + i) 0 inside (omega arith) ∙ ap (λ (e : List ℕ). getD e 0 0) (functionsCode-at sized j i h k) in
+          code .cells (codeOf (take j fs) + i) 0 inside (omega arith) ∙ ap (λ (e : List ℕ). getD e 0 0) (functionsCode-at sized j i h k) in
           ap (λ n. instructionAt m (n + i)) starts ∙ ap unword stands ∙ unword-word (at l i) (all-at fit j noFunction h i k)
+
       read : Counts
       read = record {
-          top = cell m functionsArea j lengthWord;
-          locals = cell m functionsArea j localsWord;
-          constants = totalOf t constantsArea;
-          context = totalOf t contextLocalsArea;
-          this = f .state .thisReads;
-        }
+        top = cell m functionsArea j lengthWord;
+        locals = cell m functionsArea j localsWord;
+        constants = totalOf t constantsArea;
+        context = totalOf t contextLocalsArea;
+        this = f .state .thisReads;
+      }
+
       counted : read ≡ counts (length l) (length (c .pool .constants)) (c .pool .localCount) (f .state)
       counted = rw (long, word-of localsWord (omega arith), constants, context)
 
@@ -116,13 +126,15 @@ public-words : {A K file : ℕ} {es : List Entry} → file < A → All (λ (e : 
 public-words h none = none
 public-words h (k & ks) = (h, k) & public-words h ks
 
+-- a context local: its book, and its value if it has one
+abbrev Local : ℕ → ℕ → List ℕ → Type 0
+Local A K e = (getD e 0 0 < A) × (getD e 2 0 ≡ 1 → getD e 3 0 < K)
+
 local-words : {A C K : ℕ} (values : List Entry) (i : ℕ) (e : Entry) → All (λ (v : Entry). (v .name < C) × (v .index < K)) values → e .index < A
-    → (getD (localWords (findName i values) (e .index) (e .name)) 0 0 < A)
-    × (getD (localWords (findName i values) (e .index) (e .name)) 2 0 ≡ 1 → getD (localWords (findName i values) (e .index) (e .name)) 3 0 < K)
+    → Local A K (localWords (findName i values) (e .index) (e .name))
 local-words {A} {C} {K} values i e vs h = go (findName i values) refl
   where
-    go : (o : Option ℕ) → findName i values ≡ o
-        → (getD (localWords o (e .index) (e .name)) 0 0 < A) × (getD (localWords o (e .index) (e .name)) 2 0 ≡ 1 → getD (localWords o (e .index) (e .name)) 3 0 < K)
+    go : (o : Option ℕ) → findName i values ≡ o → Local A K (localWords o (e .index) (e .name))
     go none q = (h, λ z. absurd (omega arith))
     go (some n) q = (h, λ z. find-name i n (all-map (λ v r. r .1) vs) q)
 
@@ -154,73 +166,100 @@ module _ {m : Areas} {t : Totals} (c : Context) (holds : (area : ℕ) → Holds 
   holds-within : KeepsWithin m t (c .entryPoint) (globalDependencies (c .pool .globals) 0 (c .pool .constants)) (logsOf (c .functions))
   unfolding tablesOf
   holds-within = record {
-      whole = whole;
-      functions = λ j h.
+    whole = whole;
+    functions = λ j h.
         let k : j < length (c .functions) = omega (arith, functionCount) in
         subst (λ (g : Log). FunctionWithin m t g j) (sym (logs-at (c .functions) j k))
         (function-within c safe fit (holds codeArea) (holds functionsArea) constantCount contextCount bookCount j k);
-      constants = λ i h.
+    constants = λ i h.
         let (k, q) = held constantsHeld constantsNamed i h in
-        rw (constantsHeld .cells i 0 k (omega arith), constantsHeld .cells i 1 k (omega arith), constantsHeld .cells i 2 k (omega arith), modelCount, functionCount) q;
-      globals-counted =
-        sym (marks-summed (c .pool .globals) 0 (c .pool .constants)) ∙ (rw (constantsHeld .total) (rw (marked-sum constantsHeld _ (le-refl _), take-length) refl));
-      models = λ i h. let (k, q) = held modelsHeld modelsFiled i h in rw (modelsHeld .cells i 0 k (omega arith), bookCount) q;
-      properties = λ i h. let (k, q) = held propertiesHeld propertiesOwned i h in rw (propertiesHeld .cells i 0 k (omega arith), modelCount) q;
-      methods = λ i h.
+        rw (
+          constantsHeld .cells i 0 k (omega arith),
+          constantsHeld .cells i 1 k (omega arith),
+          constantsHeld .cells i 2 k (omega arith),
+          modelCount,
+          functionCount,
+        ) q;
+    globals-counted =
+        sym (marks-summed (c .pool .globals) 0 (c .pool .constants))
+        ∙ (rw (constantsHeld .total, marked-sum constantsHeld _ (le-refl _), take-length) refl);
+    models = λ i h. let (k, q) = held modelsHeld modelsFiled i h in rw (modelsHeld .cells i 0 k (omega arith), bookCount) q;
+    properties = λ i h. let (k, q) = held propertiesHeld propertiesOwned i h in rw (propertiesHeld .cells i 0 k (omega arith), modelCount) q;
+    methods = λ i h.
         let (k, q) = held methodsHeld methodsNamed i h in
         rw (methodsHeld .cells i 0 k (omega arith), methodsHeld .cells i 2 k (omega arith), modelCount, functionCount) q;
-      values = λ i h.
+    values = λ i h.
         let (k, q) = held localsHeld localsValued i h in
         rw (localsHeld .cells i 0 k (omega arith), localsHeld .cells i 2 k (omega arith), localsHeld .cells i 3 k (omega arith), bookCount, constantCount) q;
-      publics = λ i h.
+    publics = λ i h.
         let (k, q) = held publicsHeld publicsNamed i h in
         rw (publicsHeld .cells i 0 k (omega arith), publicsHeld .cells i 2 k (omega arith), bookCount, constantCount) q;
-      entry = rw functionCount (safe .parts .entry);
-    }
+    entry = rw functionCount (safe .parts .entry);
+  }
     where
       K : ℕ
       K = length (c .pool .constants)
+
       M : ℕ
       M = length (c .models)
+
       F : ℕ
       F = length (c .functions)
+
       A : ℕ
       A = length (c .assemblies)
+
       constantsHeld : Holds m t constantsArea (entriesFrom (constantEntry (c .pool .globals)) 0 (c .pool .constants))
       constantsHeld = holds constantsArea
+
       modelsHeld : Holds m t modelsArea (entriesFrom modelEntry 0 (c .models))
       modelsHeld = holds modelsArea
+
       propertiesHeld : Holds m t propertiesArea (entriesFrom modelProperties 0 (c .models))
       propertiesHeld = holds propertiesArea
+
       methodsHeld : Holds m t methodsArea (entriesFrom methodEntry 0 (c .methods))
       methodsHeld = holds methodsArea
+
       localsHeld : Holds m t contextLocalsArea (entriesFrom (localEntry (c .localValues)) 0 (c .localNames))
       localsHeld = holds contextLocalsArea
+
       publicsHeld : Holds m t publicNamesArea (entriesFrom assemblyPublics 0 (c .assemblies))
       publicsHeld = holds publicNamesArea
+
       functionCount : totalOf t functionsArea ≡ F
       functionCount = holds functionsArea .total ∙ functions-length 0 (c .functions)
+
       constantCount : totalOf t constantsArea ≡ K
       constantCount = constantsHeld .total ∙ single-length _ 0 (c .pool .constants)
+
       modelCount : totalOf t modelsArea ≡ M
       modelCount = modelsHeld .total ∙ single-length _ 0 (c .models)
+
       contextCount : totalOf t contextLocalsArea ≡ c .pool .localCount
       contextCount = localsHeld .total ∙ single-length _ 0 (c .localNames) ∙ safe .counted
+
       bookCount : totalOf t booksArea ≡ A
       bookCount = holds booksArea .total ∙ single-length _ 0 (c .assemblies)
+
       constantsNamed : All (λ (e : List ℕ). (getD e 0 0 ≡ modelKind → getD e 1 0 < M) × (getD e 0 0 ≡ functionKind → getD e 1 0 < F) × (getD e 2 0 ≤ 1))
           (entriesFrom (constantEntry (c .pool .globals)) 0 (c .pool .constants))
       constantsNamed = entries-all (constantEntry (c .pool .globals)) K 0
           (λ j x h n. (n .0, n .1, bit-small (hasText j (c .pool .globals))) & none) (omega arith) (safe .parts .constants)
+
       modelsFiled : All (λ (e : List ℕ). getD e 0 0 < A) (entriesFrom modelEntry 0 (c .models))
       modelsFiled = entries-all modelEntry M 0 (λ j x h f. f & none) (omega arith) (safe .parts .models)
+
       propertiesOwned : All (λ (e : List ℕ). getD e 0 0 < M) (entriesFrom modelProperties 0 (c .models))
       propertiesOwned = entries-all modelProperties M 0 (λ j x h f. property-words (x .properties) h) (omega arith) (safe .parts .models)
+
       methodsNamed : All (λ (e : List ℕ). (getD e 0 0 < M) × (getD e 2 0 < F)) (entriesFrom methodEntry 0 (c .methods))
       methodsNamed = entries-all methodEntry (length (c .methods)) 0 (λ j x h n. n & none) (omega arith) (safe .parts .methods)
-      localsValued : All (λ (e : List ℕ). (getD e 0 0 < A) × (getD e 2 0 ≡ 1 → getD e 3 0 < K)) (entriesFrom (localEntry (c .localValues)) 0 (c .localNames))
+
+      localsValued : All (Local A K) (entriesFrom (localEntry (c .localValues)) 0 (c .localNames))
       localsValued = entries-all (localEntry (c .localValues)) (length (c .localNames)) 0
           (λ j x h f. local-words (c .localValues) j x (safe .parts .values) f & none) (omega arith) (safe .parts .names)
+
       publicsNamed : All (λ (e : List ℕ). (getD e 0 0 < A) × (getD e 2 0 < K)) (entriesFrom assemblyPublics 0 (c .assemblies))
       publicsNamed = entries-all assemblyPublics A 0 (λ j x h p. public-words (p .0) (p .1)) (omega arith) (safe .parts .publics)
 
@@ -267,7 +306,9 @@ program-keeps lengths c n safe fit = holds-within c holds whole safe fit
   where
     total : (area : ℕ) → getD (map (λ (es : Entries). length es) (tablesOf c)) area 0 ≡ length (getD (tablesOf c) area [])
     total area = List·getD-map (λ (es : Entries). length es) (tablesOf c) area []
+
     holds : (area : ℕ) → Holds (filledAll lengths (tablesOf c)) (map (λ (es : Entries). length es) (tablesOf c)) area (getD (tablesOf c) area [])
     holds area = record { total = total area; cells = λ i k h q. table-word lengths (tables-wide c) (omega arith) area i k h q }
+
     whole : (area : ℕ) → getD (map (λ (es : Entries). length es) (tablesOf c)) area 0 * widthOf area ≤ length (getD (filledAll lengths (tablesOf c)) area [])
     whole area = rw (total area) (table-whole lengths (tables-wide c) (omega arith) area)
