@@ -63,7 +63,6 @@ pub data Wides : List ℕ → List Entries → Type 0 where
   _then_ : {w : ℕ} {ws : List ℕ} {t : Entries} {ts : List Entries} → Wide w t → Wides ws ts → Wides (w ∷ ws) (t ∷ ts)
 
 infixr 30 _then_
-
 -- the table of an area
 pub wide-at : {ws : List ℕ} {ts : List Entries} → Wides ws ts → (area : ℕ) → Wide (getD ws area 0) (getD ts area [])
 wide-at end area = none
