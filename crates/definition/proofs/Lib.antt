@@ -4,3 +4,7 @@ pub mod Moves
 pub mod Sound
 pub mod Good
 pub mod Program
+pub mod Cells
+pub mod FunctionCode
+pub mod Keeps
+pub mod Answer
