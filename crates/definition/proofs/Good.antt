@@ -360,7 +360,12 @@ if-yields {l} {r} {g} L R G = record {
       let g₆ : GoodSolid w₆ = R .gives w₅ (g₅ .good) e in
       let p₅ : at (code w₅) j ≡ toInstruction Jump 0 = getD-set-other (code w₄) t j _ nothing (omega arith)
       ∙ getD-append-seam (code w₃) (toInstruction Jump 0) [] nothing in
-      let q₅ : j < length (code w₅) = omega (arith, length-set (code w₄) t (toInstruction JumpIf (next w₄)), length-append (code w₃) (toInstruction Jump 0 ∷ [])) in
+      let q₅ : j < length (code w₅) = omega (
+        arith,
+        length-set (code w₄) t (toInstruction JumpIf (next w₄)),
+        length-append (code w₃)
+            (toInstruction Jump 0 ∷ []),
+      ) in
       let d₅ : at (code w₅) j .opcode ≢ 1 = not-pop Jump 0 (omega arith) p₅ in
       let k₆ : (j < length (code w₆)) × (at (code w₆) j ≡ at (code w₅) j) = R .moves w₅ .kept .keeps j q₅ d₅ in
       let apart : All (All (λ b. b ≢ j)) (w₆ .function .breakScopes) = subst (All (All (λ b. b ≢ j))) (sym (R .moves w₅ .breaks))

@@ -327,7 +327,8 @@ skip-moves w = moves-refl w
 pub rescue-moves : (t : Token) → Moving (compileRescue t)
 unfolding compileRescue
 rescue-moves t w = cond-case (Moves w) (ltb 1 (w .function .depth)) (λ h. error-moves 4 t w)
-    (λ h. moves-function w _ (return-kept _ (w .function)) (return-same _ (w .function) .breaks) (omega (arith, return-same (t .position) (w .function) .locals)))
+    (λ h. moves-function w _ (return-kept _ (w .function)) (return-same _ (w .function) .breaks)
+    (omega (arith, return-same (t .position) (w .function) .locals)))
 
 module _ {l r g : Step} (L : Moving l) (R : Moving r) (G : Moving g) where
   pub infix-moves : (t : Token) → Moving (compileInfixExpression t l r g)

@@ -410,7 +410,8 @@ module _ {K C : ℕ} where
       other k o t a q = (
         omega (arith, same, q .0),
         patch-other bs n l k
-            (all-map (λ b p c. let z : t ≡ 0 = ap (λ (y : Instruction). y .operand) (sym (q .1) ∙ ap (λ m. at l m) (sym c) ∙ p .1) in omega arith) waits) ∙ q .1,
+            (all-map (λ b p c. let z : t ≡ 0 = ap (λ (y : Instruction). y .operand) (sym (q .1) ∙ ap (λ m. at l m) (sym c) ∙ p .1) in omega arith) waits)
+            ∙ q .1,
       )
 
       land : (r : Loop) → Landed l r → Landed l′ r
