@@ -1,0 +1,32 @@
+-- An entry more of an area: with the mark set nothing changes; where there is room the entry is written behind those in use; else the mark is the
+-- area's number (01, row 9; docs/DECISIONS.md)
+use Prim.Native.Nat.{ℕ, _+_, _-_, _*_}
+use mathlib.Core.Path.{_≡_}
+use mathlib.Core.Bool.{Bool, cond}
+use mathlib.Core.List.{List, _++_}
+use lib.ListN.{length, take, drop, replicate}
+use lib.Dec.{eqb, ltb}
+use Rattle.words.specs.Areas.{entriesIn, setEntry}
+use Rattle.building.specs.declared.taking.Taken.{Taken}
+
+abbrev pub taken : ℕ → ℕ → Taken
+taken full count = record { full = full; count = count }
+
+-- whether there is room for one more at a width, in an area of n words
+abbrev pub hasRoom : ℕ → ℕ → ℕ → Bool
+hasRoom width count n = ltb count (entriesIn width n)
+
+abbrev pub takenOf : ℕ → ℕ → ℕ → ℕ → ℕ → Taken
+takenOf area width full count n = cond (eqb full 0) (cond (hasRoom width count n) (taken full (count + 1)) (taken area count)) (taken full count)
+
+abbrev pub tookWords : ℕ → ℕ → List ℕ → List ℕ → List ℕ
+tookWords full count entry w =
+    cond (eqb full 0) (cond (hasRoom (length entry) count (length w)) (setEntry (length entry) count entry w) w) w
+
+pub record Took (area full count : ℕ) (entry w : List ℕ) (r : Taken) (after : List ℕ) : Type 0 where
+  pub reply : r ≡ takenOf area (length entry) full count (length w)
+  pub words : after ≡ tookWords full count entry w
+
+-- entries given up, from entry i on up to the count: zeros in their place
+abbrev pub givenUp : ℕ → ℕ → ℕ → List ℕ → List ℕ
+givenUp width i count w = take (i * width) w ++ (replicate ((count - i) * width) 0 ++ drop (i * width + (count - i) * width) w)

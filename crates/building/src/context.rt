@@ -1,0 +1,1 @@
+// `backend/compiler.rs`: context locals, and the functions' records.
