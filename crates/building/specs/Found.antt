@@ -1,10 +1,11 @@
 -- Searches: an answer of the code is `Found`, one of the definitions an option
-use Prim.Native.Nat.{ℕ, zero, suc, _+_}
-use mathlib.Core.Bool.{Bool, cond, _&&_}
+use Prim.Native.Nat.{ℕ, zero, suc, _+_, _-_}
+use mathlib.Core.Bool.{Bool, cond}
 use mathlib.Core.Option.{Option, none, some}
 use mathlib.Core.List.{List}
 use lib.Dec.{eqb}
 use Rattle.words.specs.Areas.{entryField}
+use Rattle.words.specs.Object.{Constant, constantOf, sameConstant}
 use Rattle.building.specs.declared.scopes.Found.{Found}
 use Rattle.building.specs.declared.scopes.Found.the-variants.{At, Nothing}
 
@@ -17,13 +18,23 @@ unfoldable pub findNewest : ℕ → ℕ → ℕ → List ℕ → Option ℕ
 findNewest zero i name w = none
 findNewest (suc k) i name w = cond (eqb (entryField 2 (i + k) 0 w) name) (some (entryField 2 (i + k) 1 w)) (findNewest k i name w)
 
--- the first of k constants from entry i on with a kind and a value
-unfoldable pub findConstantC : ℕ → ℕ → ℕ → ℕ → List ℕ → Option ℕ
-findConstantC zero i kind value w = none
-findConstantC (suc k) i kind value w =
-    cond (eqb (entryField 3 i 0 w) kind && eqb (entryField 3 i 1 w) value) (some i) (findConstantC k (i + 1) kind value w)
+-- the first of k entries from entry i on that a test takes
+unfoldable pub firstFrom : (ℕ → Bool) → ℕ → ℕ → Option ℕ
+firstFrom test zero i = none
+firstFrom test (suc k) i = cond (test i) (some i) (firstFrom test k (i + 1))
 
--- the first of k context locals from entry i on with a name
-unfoldable pub findContextC : ℕ → ℕ → ℕ → List ℕ → Option ℕ
-findContextC zero i name w = none
-findContextC (suc k) i name w = cond (eqb (entryField 4 i 1 w) name) (some i) (findContextC k (i + 1) name w)
+-- whether constant i of area 2 is the same as c
+abbrev pub isConstant : Constant → List ℕ → ℕ → Bool
+isConstant c w i = sameConstant c (constantOf (entryField 3 i 0 w) (entryField 3 i 1 w))
+
+-- the first of the constants that is the same as c
+abbrev pub findConstantC : ℕ → Constant → List ℕ → Option ℕ
+findConstantC count c w = firstFrom (isConstant c w) count 0
+
+-- whether context local i of area 7 has a name
+abbrev pub isNamed : ℕ → List ℕ → ℕ → Bool
+isNamed name w i = eqb (entryField 4 i 1 w) name
+
+-- the first of a book's context locals, from entry `start` up to the count, with a name
+abbrev pub findContextLocalC : ℕ → ℕ → ℕ → List ℕ → Option ℕ
+findContextLocalC start count name w = firstFrom (isNamed name w) (count - start) start

@@ -6,7 +6,7 @@ use mathlib.Core.List.{List, [], _∷_}
 use lib.ListN.{length, set}
 use lib.Dec.{eqb, ltb}
 use Rattle.words.specs.Areas.{constantsArea, errorsArea, wordFits}
-use Rattle.words.specs.Object.{isShared}
+use Rattle.words.specs.Object.{constantOf, isShared}
 use Rattle.building.specs.declared.function_state.FunctionState.{FunctionState}
 use Rattle.building.specs.Found.{findConstantC}
 use Rattle.building.specs.State.{withConstants, withErrors}
@@ -36,21 +36,27 @@ addBy none kind value s k = addNoCheckC kind value s k
 unfoldable pub addConstantC : ℕ → ℕ → FunctionState → List ℕ → Pooling
 addConstantC kind value s k =
     unlessFull s
-    (cond (isShared kind) (addBy (findConstantC (s .constants) 0 kind value k) kind value s k) (addNoCheckC kind value s k))
+    (cond (isShared kind) (addBy (findConstantC (s .constants) (constantOf kind value) k) kind value s k) (addNoCheckC kind value s k))
     (pooling 0 s k)
+
+-- word k of entry i anew, where it is a word of the area
+abbrev pub withWord : ℕ → ℕ → ℕ → ℕ → List ℕ → List ℕ
+withWord width i k value w = cond (wordFits width i k (length w)) (set w (i * width + k) value) w
 
 -- `global_dependencies.insert`: the third word of a constant in use
 unfoldable pub markGlobalC : ℕ → FunctionState → List ℕ → List ℕ
-markGlobalC i s k = unlessFull s (cond (ltb i (s .constants)) (cond (wordFits 3 i 2 (length k)) (set k (i * 3 + 2) 1) k) k) k
+markGlobalC i s k = unlessFull s (cond (ltb i (s .constants)) (withWord 3 i 2 1 k) k) k
 
 -- the state and the errors
 pub record Erring : Type 0 where
   pub state : FunctionState
   pub errors : List ℕ
 
+abbrev pub erring : FunctionState → List ℕ → Erring
+erring s e = record { state = s; errors = e }
+
 -- `push_error`
 unfoldable pub pushErrorC : ℕ → ℕ → ℕ → ℕ → FunctionState → List ℕ → Erring
-pushErrorC number position kind value s e = record {
-  state = withErrors (takenOf errorsArea 4 (s .full) (s .errors) (length e)) s;
-  errors = tookWords (s .full) (s .errors) (number ∷ position ∷ kind ∷ value ∷ []) e;
-}
+pushErrorC number position kind value s e =
+    erring (withErrors (takenOf errorsArea 4 (s .full) (s .errors) (length e)) s)
+    (tookWords (s .full) (s .errors) (number ∷ position ∷ kind ∷ value ∷ []) e)

@@ -1,1 +1,88 @@
 // `backend/compiler.rs`: context locals, and the functions' records.
+ghost use mathlib.Core.Path.{_≡_};
+ghost use Rattle.words.specs.Areas.{functionsArea};
+ghost use Rattle.building.specs.Found.{foundOf, findContextLocalC};
+ghost use Rattle.building.specs.Taking.{Took, taken};
+ghost use Rattle.building.specs.Context.{localing, defineContextC, setValueC, bit, functionWords};
+use crate::function_state;
+use crate::function_state::FunctionState;
+use crate::scopes::Found;
+use crate::taking;
+use crate::taking::Taken;
+use words::areas;
+
+// The words of a context local's entry.
+const NAME: usize = 1;
+
+const VALUE_MARK: usize = 2;
+
+const CONSTANT: usize = 3;
+
+// What `define_context_local` answers: the local, if it is new, then the first full area and how many context locals there are.
+pub struct ContextLocal {
+    pub found: Found,
+    pub full: u64,
+    pub count: usize,
+}
+
+// The first of this book's context locals, from `start` on, with a name: `locals.get`.
+pub fn find_context_local(locals: &[u64], start: usize, count: usize, name: u64) -> Found
+    ensures { λ r. ⌜ r ≡ foundOf (findContextLocalC start count name (now (locals .entry))) ⌝ }
+{
+    let mut i = start;
+    while i < count {
+        if areas::entry_word(locals, areas::CONTEXT_LOCAL_WORDS, i, NAME) == name {
+            return Found::At(i as u64);
+        }
+        i += 1;
+    }
+    Found::Nothing
+}
+
+// `define_local` of `CompilerState`: a name that is there keeps its local, and no local is new; none with the mark set.
+pub fn define_context_local(
+    locals: &mut [u64],
+    full: u64,
+    start: usize,
+    count: usize,
+    file: u64,
+    name: u64,
+) -> ContextLocal
+    ensures { λ r. ⌜ localing (r .found) (taken (r .full) (r .count)) (now (locals .exit)) ≡ defineContextC full start count file name (now (locals .entry)) ⌝ }
+{
+    if full != 0 {
+        return ContextLocal {
+            found: Found::Nothing,
+            full,
+            count,
+        };
+    }
+    let there = find_context_local(locals, start, count, name);
+    if let Found::At(_) = there {
+        return ContextLocal {
+            found: Found::Nothing,
+            full,
+            count,
+        };
+    }
+    let t = taking::take4(locals, areas::CONTEXT_LOCALS, full, count, file, name, 0, 0);
+    ContextLocal {
+        found: Found::At(count as u64),
+        full: t.full,
+        count: t.count,
+    }
+}
+
+// `local_values.insert`: the value of a context local in use.
+pub fn set_value(locals: &mut [u64], full: u64, count: usize, index: u64, constant: u64)
+    ensures { λ _. ⌜ now (locals .exit) ≡ setValueC full count index constant (now (locals .entry)) ⌝ }
+{
+    if full != 0 {
+        return;
+    }
+    let i = index as usize;
+    if i < count {
+        areas::write_word(locals, areas::CONTEXT_LOCAL_WORDS, i, VALUE_MARK, 1);
+        areas::write_word(locals, areas::CONTEXT_LOCAL_WORDS, i, CONSTANT, constant);
+    }
+}

@@ -1,0 +1,54 @@
+-- `building::pool::find_constant` meets its contract. The invariant: what is found from the first constant on is what is found from here on.
+-- The measure is what is left of the count. Assumes nothing.
+-- Made from Proof.answers by `answers make`: edit that file, and not this one.
+use mathlib.Core.Path.{_≡_, sym, _∙_}
+use Prim.Native.Nat.{_-_, _≤_}
+use Rattle.words.specs.Object.{constantOf}
+use Rattle.building.specs.Found.{isConstant, firstFrom}
+use Rattle.building.proofs.Searches.{first-start, first-here, first-next, first-end}
+use Rattle.building.proofs.pool.find_constant.Statement.{statement}
+use Rattle.building.proofs.pool.find_constant.Tie as tie
+use native.Mathlib.Omega.{arith}
+
+abbrev Inv-loop : tie.InvT-loop
+Inv-loop constants count kind value i₀ i = firstFrom (isConstant (constantOf kind value) constants) (count - i) i ≡ firstFrom (isConstant
+    (constantOf kind value) constants) count 0
+
+abbrev μ-loop : tie.MeasureT-loop
+μ-loop constants count kind value i₀ i = count - i
+
+loop-holds : tie.Need-loop-holds Inv-loop μ-loop
+loop-holds c = first-start (isConstant (constantOf (c .before .args .kind) (c .before .args .value)) (c .before .args .constants .now)) (c .before .args .count)
+
+returns : tie.Need-returns Inv-loop μ-loop
+returns c =
+    let c5 = c .before .before .before .before .before in
+    first-here (isConstant (constantOf (c5 .args .kind) (c5 .args .value)) (c5 .args .constants .now)) (c5 .args .count) (c .before .before .before .loop .i)
+    (c5 .args .count) 0
+    (c .before .before .loop-test .taken) (sym (c .before .same-constant .ensures) ∙ c .if1 .taken) (c .before .before .before .loop .inv)
+
+loop-again : tie.Need-loop-again Inv-loop μ-loop
+loop-again c =
+    let c5 = c .before .before .before .before .before in
+    first-next (isConstant (constantOf (c5 .args .kind) (c5 .args .value)) (c5 .args .constants .now)) (c5 .args .count) (c .before .before .before .loop .i)
+    (c5 .args .count) 0
+    (c .before .before .loop-test .taken) (sym (c .before .same-constant .ensures) ∙ c .if1 .left) (c .before .before .before .loop .inv)
+
+returns-2 : tie.Need-returns-2 Inv-loop μ-loop
+returns-2 c = first-end (isConstant (constantOf (c .before .before .before .args .kind) (c .before .before .before .args .value))
+    (c .before .before .before .args .constants .now)) (c .before .before .before .args .count) (c .before .loop .i) (c .before .before .before .args .count) 0
+    (c .loop-test .left) (c .before .loop .inv)
+
+pub find-constant-spec : {M : Type 1} → statement M
+find-constant-spec =
+    tie.close
+    (tie.spec
+    Inv-loop
+    μ-loop
+    loop-holds
+    (λ c κs. tt)
+    returns
+    (λ c. omega arith)
+    (λ c. omega arith)
+    loop-again
+    returns-2)
