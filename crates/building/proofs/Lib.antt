@@ -1,3 +1,4 @@
 pub mod Filling
 pub mod Searches
 pub mod PoolWays
+pub mod PoolLaws
