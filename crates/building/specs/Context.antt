@@ -1,11 +1,12 @@
 -- What the routines of `context.rt` make of the context locals (area 7) and the functions' records (area 3), on any words
 use Prim.Native.Nat.{ℕ}
-use mathlib.Core.Bool.{Bool, true, false, cond}
+use mathlib.Core.Bool.{cond}
 use mathlib.Core.Option.{Option, none, some}
 use mathlib.Core.List.{List, [], _∷_}
 use lib.ListN.{length}
 use lib.Dec.{eqb, ltb}
 use Rattle.words.specs.Areas.{contextLocalsArea}
+use Rattle.definition.specs.Program.{bit}
 use Rattle.building.specs.declared.taking.Taken.{Taken}
 use Rattle.building.specs.declared.function_state.FunctionState.{FunctionState}
 use Rattle.building.specs.declared.scopes.Found.{Found}
@@ -40,10 +41,6 @@ defineContextC full start count file name w =
 unfoldable pub setValueC : ℕ → ℕ → ℕ → ℕ → List ℕ → List ℕ
 setValueC full count i constant w =
     cond (eqb full 0) (cond (ltb i count) (withWord 4 i 3 constant (withWord 4 i 2 1 w)) w) w
-
-abbrev pub bit : Bool → ℕ
-bit true = 1
-bit false = 0
 
 -- a function's entry
 abbrev pub functionWords : FunctionState → ℕ → ℕ → List ℕ

@@ -1,9 +1,10 @@
 // `backend/compiler.rs`: context locals, and the functions' records.
 ghost use mathlib.Core.Path.{_≡_};
 ghost use Rattle.words.specs.Areas.{functionsArea};
+ghost use Rattle.definition.specs.Program.{bit};
 ghost use Rattle.building.specs.Found.{foundOf, findContextLocalC};
 ghost use Rattle.building.specs.Taking.{Took, taken};
-ghost use Rattle.building.specs.Context.{localing, defineContextC, setValueC, bit, functionWords};
+ghost use Rattle.building.specs.Context.{localing, defineContextC, setValueC, functionWords};
 use crate::function_state;
 use crate::function_state::FunctionState;
 use crate::scopes::Found;
@@ -85,4 +86,37 @@ pub fn set_value(locals: &mut [u64], full: u64, count: usize, index: u64, consta
         areas::write_word(locals, areas::CONTEXT_LOCAL_WORDS, i, VALUE_MARK, 1);
         areas::write_word(locals, areas::CONTEXT_LOCAL_WORDS, i, CONSTANT, constant);
     }
+}
+
+// A flag as a word.
+fn bit_of(flag: bool) -> u64
+    ensures { λ r. ⌜ r ≡ bit flag ⌝ }
+{
+    if flag { 1 } else { 0 }
+}
+
+// `add_function`: the function's entry in area 3.
+pub fn add_function(
+    functions: &mut [u64],
+    full: u64,
+    count: usize,
+    state: FunctionState,
+    file: u64,
+    name: u64,
+) -> Taken
+    ensures { λ r. ⌜ Took functionsArea full count (functionWords state file name) (now (functions .entry)) r (now (functions .exit)) ⌝ }
+{
+    let mark = bit_of(state.is_instance);
+    let length = function_state::get_next_instruction_index(state);
+    let words = [
+        state.parameter_count as u64,
+        state.local_count,
+        state.rescue_position as u64,
+        mark,
+        state.base as u64,
+        length as u64,
+        file,
+        name,
+    ];
+    taking::take8(functions, areas::FUNCTIONS, full, count, words)
 }
