@@ -1,4 +1,5 @@
 pub mod Filling
+pub mod Room
 pub mod Searches
 pub mod PoolWays
 pub mod PoolLaws
