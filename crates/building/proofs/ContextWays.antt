@@ -6,14 +6,17 @@ use mathlib.Core.Bool.{Bool, true, false}
 use mathlib.Core.Option.{Option, none, some}
 use mathlib.Core.List.{List, [], _∷_}
 use borrow.Author.Tests.{eq-eqb, ne-eqb, lt-ltb, le-ltb}
-use Rattle.words.specs.Areas.{Patched, contextLocalsArea}
+use Rattle.words.specs.Areas.{Patched, contextLocalsArea, functionsArea}
+use Rattle.definition.specs.Program.{bit}
+use Rattle.building.specs.declared.function_state.FunctionState.{FunctionState}
 use Rattle.building.specs.declared.scopes.Found.{Found}
 use Rattle.building.specs.declared.scopes.Found.the-variants.{At, Nothing}
 use Rattle.building.specs.declared.taking.Taken.{Taken}
 use Rattle.building.specs.Taking.{Took, taken}
 use Rattle.building.specs.Found.{foundOf, findContextLocalC}
 use Rattle.building.specs.Pool.{withWord}
-use Rattle.building.specs.Context.{localing, defineContextBy, defineContextC, setValueC}
+use Rattle.building.specs.Emission.{nextC}
+use Rattle.building.specs.Context.{localing, defineContextBy, defineContextC, setValueC, functionWords}
 
 -- `define_context_local`
 module _ (full start count file name : ℕ) (w : List ℕ) where
@@ -56,3 +59,11 @@ module _ (full count i constant : ℕ) (w : List ℕ) where
       → after ≡ setValueC full count i constant w
   unfolding setValueC
   value-in z h p q = rw (eq-eqb full 0 z, lt-ltb i count h) (q .words ∙ ap (λ (x : List ℕ). withWord 4 i 3 constant x) (p .words))
+
+-- `add_function`
+pub function-way : (full count : ℕ) (s : FunctionState) (file name : ℕ) (w : List ℕ) {mark own : ℕ} → mark ≡ bit (s .«is_instance») → own ≡ nextC s
+    → {t : Taken} {after : List ℕ}
+    → Took functionsArea full count
+    (s .«parameter_count» ∷ s .«local_count» ∷ s .«rescue_position» ∷ mark ∷ s .base ∷ own ∷ file ∷ name ∷ []) w t after
+    → Took functionsArea full count (functionWords s file name) w t after
+function-way full count s file name w m o took = rw (m, o) at took
