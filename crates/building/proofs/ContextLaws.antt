@@ -102,7 +102,8 @@ locals-more file name {start} {count} {l} {l′} {es} {s} f f′ L = record {
         → getD (s .locals ++ (here ∷ [])) i nobody ≡ entryOf (entryWord 4 (start + i) 1 l′) (start + i)
     go i (yes q) h =
         let old : start + i < count = omega (arith, L .up-to) in
-        let kept : getD (es ++ (entry ∷ [])) (start + i) [] ≡ getD es (start + i) [] = List·getD-append es (entry ∷ []) [] (start + i) (omega (arith, f .count)) in
+        let kept : getD (es ++ (entry ∷ [])) (start + i) [] ≡ getD es (start + i) [] =
+        List·getD-append es (entry ∷ []) [] (start + i) (omega (arith, f .count)) in
         let word : entryWord 4 (start + i) 1 l ≡ entryWord 4 (start + i) 1 l′ =
         name-at f (start + i) old ∙ sym (ap (λ (x : List ℕ). getD x 1 0) kept) ∙ sym (name-at f′ (start + i) (omega arith)) in
         List·getD-append (s .locals) (here ∷ []) nobody i q ∙ L .each i q ∙ ap (λ (x : ℕ). entryOf x (start + i)) word

@@ -141,6 +141,18 @@ with-errors C t e′ number token f = record {
   locals = C .locals;
 }
 
+-- a pool in memory stands for the definition's, and the number is its number unless something is full
+record Pooled (κ : Limits) (earlier : Entries) (c n b e : List ℕ) (p : Pooling) (a : Added) : Type 0 where
+  held : Held κ earlier (machine (p .state) c (p .constants) n b e) (a .work)
+  index : p .state .full ≡ 0 → p .index ≡ a .index
+
+-- `add_constant` with nothing full, by whether the kind is shared and what the search found
+abbrev adding : Bool → Option ℕ → ℕ → ℕ → FunctionState → List ℕ → Pooling
+adding t o kind value s k = cond t (addBy o kind value s k) (addNoCheckC kind value s k)
+
+abbrev added : Bool → Option ℕ → ℕ → ℕ → Work → Added
+added t o kind value w = cond t (addConstantBy o (constantOf kind value) w) (addConstantNoCheck (constantOf kind value) w)
+
 module _ {κ : Limits} {earlier : Entries} {s : FunctionState} {c k n b e : List ℕ} {w : Work} (H : Held κ earlier (machine s c k n b e) w) where
   -- how many constants and errors there are
   constants-count : s .full ≡ 0 → s .constants ≡ length (w .context .constants)
@@ -155,15 +167,13 @@ module _ {κ : Limits} {earlier : Entries} {s : FunctionState} {c k n b e : List
     -- `add_constant_no_check`
     no-check : (t : Bool) → eqb (s .full) 0 ≡ t → (u : Bool) → hasRoom 3 (s .constants) (length k) ≡ u
         → Held κ earlier
-        (machine
-        (state.withConstants (cond t (cond u (taken (s .full) (s .constants + 1)) (taken constantsArea (s .constants))) (taken (s .full) (s .constants))) s) c
+        (machine (state.withConstants (cond t (cond u (taken (s .full) (s .constants + 1)) (taken 2 (s .constants))) (taken (s .full) (s .constants))) s) c
         (cond t (cond u (setEntry 3 (s .constants) (kind ∷ value ∷ 0 ∷ []) k) k) k) n b e)
         (addConstantNoCheck (constantOf kind value) w .work)
-    no-check false q u r =
-        held-full (addConstantNoCheck (constantOf kind value) w .work) (using′ constantsArea (length (w .context .constants ++ (constantOf kind value ∷ []))) ∷ [])
-        refl (eqb-false (s .full) 0 q) H
+    no-check false q u r = held-full (addConstantNoCheck (constantOf kind value) w .work) (_ ∷ []) refl (eqb-false (s .full) 0 q) H
     no-check true q false r =
         let z = eqb-true (s .full) 0 q in
+        let past = ltb-false (s .constants) (entriesIn 3 (length k)) r in
         record {
           code-cap = H .code-cap;
           constants-cap = H .constants-cap;
@@ -171,18 +181,17 @@ module _ {κ : Limits} {earlier : Entries} {s : FunctionState} {c k n b e : List
           breaks-cap = H .breaks-cap;
           errors-cap = H .errors-cap;
           full = over-here κ _ (w .uses) (H .full) z
-              (limit-over (w .context .constants) (constantOf kind value) (H .constants-cap) (ltb-false (s .constants) (entriesIn 3 (length k)) r)
-              (constants-count z))
-              (omega arith);
+              (limit-over (w .context .constants) (constantOf kind value) (H .constants-cap) past (constants-count z)) (omega arith);
           rest = λ y. absurd (omega (arith, y));
         }
     no-check true q true r =
         let z = eqb-true (s .full) 0 q in
         let C = H .rest z in
         let lt = ltb-true (s .constants) (entriesIn 3 (length k)) r in
+        let entry = kind ∷ value ∷ 0 ∷ [] in
         record {
           code-cap = H .code-cap;
-          constants-cap = ap (λ (m : ℕ). entriesIn 3 m) (setEntry-length 3 (s .constants) (kind ∷ value ∷ 0 ∷ []) k refl (room-fits 3 (s .constants) (length k) lt))
+          constants-cap = ap (λ (m : ℕ). entriesIn 3 m) (setEntry-length 3 (s .constants) entry k refl (room-fits 3 (s .constants) (length k) lt))
               ∙ H .constants-cap;
           names-cap = H .names-cap;
           breaks-cap = H .breaks-cap;
@@ -190,10 +199,13 @@ module _ {κ : Limits} {earlier : Entries} {s : FunctionState} {c k n b e : List
           full = over-fits κ _ (w .uses) (H .full) z
               (limit-fits (w .context .constants) (constantOf kind value) (H .constants-cap) lt (constants-count z));
           rest = λ y. with-constants C (taken (s .full) (s .constants + 1)) _ (w .context .constants ++ (constantOf kind value ∷ [])) (w .context .globals)
-              (rw (constants-more (w .context .globals) (w .context .constants) (constantOf kind value) (C .marks))
-              (filled-more (kind ∷ value ∷ 0 ∷ []) refl lt (C .constants)))
+              (rw (constants-more (w .context .globals) (w .context .constants) (constantOf kind value) (C .marks)) (filled-more entry refl lt (C .constants)))
               (marks-longer (w .context .constants) (constantOf kind value) (C .marks));
         }
+
+    no-check-now : Held κ earlier (machine (addNoCheckC kind value s k .state) c (addNoCheckC kind value s k .constants) n b e)
+        (addConstantNoCheck (constantOf kind value) w .work)
+    no-check-now = no-check (eqb (s .full) 0) refl (hasRoom 3 (s .constants) (length k)) refl
 
     -- the constant is found where the definition finds it
     find-law : s .full ≡ 0 → findConstantC (s .constants) (constantOf kind value) k ≡ findConstant (constantOf kind value) (w .context .constants) 0
@@ -202,73 +214,39 @@ module _ {κ : Limits} {earlier : Entries} {s : FunctionState} {c k n b e : List
         (λ j h. rw (zero-add j) (ap (λ (d : Constant). sameConstant (constantOf kind value) d)
         (constant-there (w .context .globals) (w .context .constants) (H .rest z .constants) j h))))
 
-    no-check-now : Held κ earlier (machine (addNoCheckC kind value s k .state) c (addNoCheckC kind value s k .constants) n b e)
-        (addConstantNoCheck (constantOf kind value) w .work)
-    no-check-now = no-check (eqb (s .full) 0) refl (hasRoom 3 (s .constants) (length k)) refl
-
     -- with the mark set, whatever the definition does
-    add-full : (s .full ≡ 0 → ⊥) → (t : Bool) (o : Option ℕ)
-        → Held κ earlier (machine s c k n b e) (cond t (addConstantBy o (constantOf kind value) w) (addConstantNoCheck (constantOf kind value) w) .work)
-    add-full ne true (some i) = H
-    add-full ne true none = held-full (addConstantNoCheck (constantOf kind value) w .work) (_ ∷ []) refl ne H
-    add-full ne false o = held-full (addConstantNoCheck (constantOf kind value) w .work) (_ ∷ []) refl ne H
+    add-full : (s .full ≡ 0 → ⊥) → (t : Bool) (o : Option ℕ) → Pooled κ earlier c n b e (pooling 0 s k) (added t o kind value w)
+    add-full ne true (some i) = record { held = H; index = λ z. absurd (ne z) }
+    add-full ne true none = record {
+      held = held-full (addConstantNoCheck (constantOf kind value) w .work) (_ ∷ []) refl ne H;
+      index = λ z. absurd (ne z);
+    }
+    add-full ne false o = record {
+      held = held-full (addConstantNoCheck (constantOf kind value) w .work) (_ ∷ []) refl ne H;
+      index = λ z. absurd (ne z);
+    }
 
-    add-live : (t : Bool) (o o′ : Option ℕ) → o ≡ o′
-        → Held κ earlier
-        (machine (cond t (addBy o kind value s k) (addNoCheckC kind value s k) .state) c (cond t (addBy o kind value s k) (addNoCheckC kind value s k) .constants)
-        n b e)
-        (cond t (addConstantBy o′ (constantOf kind value) w) (addConstantNoCheck (constantOf kind value) w) .work)
-    add-live t o o′ q = rw q (go t o′)
-      where
-        go : (t : Bool) (o : Option ℕ)
-            → Held κ earlier
-            (machine (cond t (addBy o kind value s k) (addNoCheckC kind value s k) .state) c (cond t (addBy o kind value s k) (addNoCheckC kind value s k) .constants)
-            n b e)
-            (cond t (addConstantBy o (constantOf kind value) w) (addConstantNoCheck (constantOf kind value) w) .work)
-        go true (some i) = H
-        go true none = no-check-now
-        go false o = no-check-now
+    add-live : s .full ≡ 0 → (t : Bool) (o : Option ℕ) → Pooled κ earlier c n b e (adding t o kind value s k) (added t o kind value w)
+    add-live z true (some i) = record { held = H; index = λ y. refl }
+    add-live z true none = record { held = no-check-now; index = λ y. constants-count z }
+    add-live z false o = record { held = no-check-now; index = λ y. constants-count z }
 
-    add-now : Held κ earlier (machine (addConstantC kind value s k .state) c (addConstantC kind value s k .constants) n b e)
-        (addConstant (constantOf kind value) w .work)
+    add-now : Pooled κ earlier c n b e (addConstantC kind value s k) (addConstant (constantOf kind value) w)
     unfolding addConstantC addConstant
     add-now = go (eqb (s .full) 0) refl
       where
+        same-found : {o o′ : Option ℕ} → o ≡ o′ → Pooled κ earlier c n b e (adding (isShared kind) o′ kind value s k) (added (isShared kind) o′ kind value w)
+            → Pooled κ earlier c n b e (adding (isShared kind) o kind value s k) (added (isShared kind) o′ kind value w)
+        same-found q P = rw q P
+
         go : (f : Bool) → eqb (s .full) 0 ≡ f
-            → (let p = cond f (cond (isShared kind) (addBy (findConstantC (s .constants) (constantOf kind value) k) kind value s k) (addNoCheckC kind value s k))
-            (pooling 0 s k) in
-            Held κ earlier (machine (p .state) c (p .constants) n b e)
-            (cond (isShared kind) (addConstantBy (findConstant (constantOf kind value) (w .context .constants) 0) (constantOf kind value) w)
-            (addConstantNoCheck (constantOf kind value) w) .work))
+            → Pooled κ earlier c n b e
+            (cond f (adding (isShared kind) (findConstantC (s .constants) (constantOf kind value) k) kind value s k) (pooling 0 s k))
+            (added (isShared kind) (findConstant (constantOf kind value) (w .context .constants) 0) kind value w)
         go false q = add-full (eqb-false (s .full) 0 q) (isShared kind) (findConstant (constantOf kind value) (w .context .constants) 0)
-        go true q = add-live (isShared kind) (findConstantC (s .constants) (constantOf kind value) k)
-            (findConstant (constantOf kind value) (w .context .constants) 0) (find-law (eqb-true (s .full) 0 q))
-
-    -- the number, where nothing is full
-    index-live : s .full ≡ 0 → (t : Bool) (o o′ : Option ℕ) → o ≡ o′
-        → cond t (addBy o kind value s k) (addNoCheckC kind value s k) .index
-        ≡ cond t (addConstantBy o′ (constantOf kind value) w) (addConstantNoCheck (constantOf kind value) w) .index
-    index-live z t o o′ q = rw q (go t o′)
-      where
-        go : (t : Bool) (o : Option ℕ) → cond t (addBy o kind value s k) (addNoCheckC kind value s k) .index
-            ≡ cond t (addConstantBy o (constantOf kind value) w) (addConstantNoCheck (constantOf kind value) w) .index
-        go true (some i) = refl
-        go true none = constants-count z
-        go false o = constants-count z
-
-    index-now : addConstantC kind value s k .state .full ≡ 0 → addConstantC kind value s k .index ≡ addConstant (constantOf kind value) w .index
-    unfolding addConstantC addConstant
-    index-now = go (eqb (s .full) 0) refl
-      where
-        go : (f : Bool) → eqb (s .full) 0 ≡ f
-            → (let p = cond f (cond (isShared kind) (addBy (findConstantC (s .constants) (constantOf kind value) k) kind value s k) (addNoCheckC kind value s k))
-            (pooling 0 s k) in
-            p .state .full ≡ 0 → p .index
-            ≡ cond (isShared kind) (addConstantBy (findConstant (constantOf kind value) (w .context .constants) 0) (constantOf kind value) w)
-            (addConstantNoCheck (constantOf kind value) w) .index)
-        go false q z = absurd (eqb-false (s .full) 0 q z)
-        go true q z = index-live (eqb-true (s .full) 0 q) (isShared kind) (findConstantC (s .constants) (constantOf kind value) k)
-            (findConstant (constantOf kind value) (w .context .constants) 0) (find-law (eqb-true (s .full) 0 q))
+        go true q =
+            let z = eqb-true (s .full) 0 q in
+            same-found (find-law z) (add-live z (isShared kind) (findConstant (constantOf kind value) (w .context .constants) 0))
 
   -- a mark more
   mark-live : s .full ≡ 0 → (i : ℕ) → i < length (w .context .constants) → Held κ earlier (machine s c (set k (i * 3 + 2) 1) n b e) (markGlobal i w)
@@ -366,19 +344,20 @@ module _ {κ : Limits} {earlier : Entries} {s : FunctionState} {c k n b e : List
 pub add-constant-law : {κ : Limits} {earlier : Entries} {s : FunctionState} {c k n b e : List ℕ} {w : Work} (kind value : ℕ) {i : ℕ} {r : FunctionState}
     {k′ : List ℕ} → pooling i r k′ ≡ addConstantC kind value s k → Held κ earlier (machine s c k n b e) w
     → Held κ earlier (machine r c k′ n b e) (addConstant (constantOf kind value) w .work)
-add-constant-law kind value q H = rw (ap (λ (p : Pooling). p .state) q, ap (λ (p : Pooling). p .constants) q) (add-now H kind value)
+add-constant-law kind value q H = rw (ap (λ (p : Pooling). p .state) q, ap (λ (p : Pooling). p .constants) q) (add-now H kind value .held)
 
 -- the number that `add_constant` answers, where nothing is full afterwards
 pub add-constant-index : {κ : Limits} {earlier : Entries} {s : FunctionState} {c k n b e : List ℕ} {w : Work} (kind value : ℕ) {i : ℕ} {r : FunctionState}
     {k′ : List ℕ} → pooling i r k′ ≡ addConstantC kind value s k → Held κ earlier (machine s c k n b e) w → r .full ≡ 0
     → i ≡ addConstant (constantOf kind value) w .index
 add-constant-index kind value q H z =
-    ap (λ (p : Pooling). p .index) q ∙ index-now H kind value (sym (ap (λ (p : Pooling). p .state .full) q) ∙ z)
+    ap (λ (p : Pooling). p .index) q ∙ add-now H kind value .index (sym (ap (λ (p : Pooling). p .state .full) q) ∙ z)
 
 -- and it is one of the constants
 pub add-constant-inside : (c : Constant) (w : Work) → addConstant c w .index < length (addConstant c w .work .context .constants)
 add-constant-inside c w =
-    added-case (λ (a : Added). a .index < length (a .work .context .constants)) c w (rw (length-append (w .context .constants) (c ∷ [])) (omega arith)) (λ i h. h)
+    let longer = length-append (w .context .constants) (c ∷ []) in
+    added-case (λ (a : Added). a .index < length (a .work .context .constants)) c w (rw longer (omega arith)) (λ i h. h)
 
 -- `global_dependencies.insert`; the number matters only where nothing is full
 pub mark-global-law : {κ : Limits} {earlier : Entries} {s : FunctionState} {c k n b e : List ℕ} {w : Work} (i i′ : ℕ) {k′ : List ℕ}
