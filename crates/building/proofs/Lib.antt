@@ -1,3 +1,4 @@
 pub mod Filling
 pub mod Room
 pub mod Emitting
+pub mod EmissionLaws
