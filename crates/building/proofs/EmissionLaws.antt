@@ -354,7 +354,7 @@ module _ {κ : Limits} {earlier : Entries} {s : struct.FunctionState} {c k n b e
 
 -- `emit_return`
 
-emit-full : (x p : ℕ) (m : Coded) → (m .state .full ≡ 0 → ⊥) → emitC x p m ≡ m
+pub emit-full : (x p : ℕ) (m : Coded) → (m .state .full ≡ 0 → ⊥) → emitC x p m ≡ m
 unfolding emitC
 emit-full x p m h = rw (ne-eqb (m .state .full) 0 h)
 
@@ -410,7 +410,7 @@ module _ {κ : Limits} {earlier : Entries} {m : Machine} {k n b e : List ℕ} {w
 
 -- what fills area 1 when an instruction is emitted is the code with it
 module _ {κ : Limits} {earlier : Entries} {s : struct.FunctionState} {c k n b e : List ℕ} {w : Work} (H : Held κ earlier (machine s c k n b e) w) where
-  emit-over : (x p : ℕ) (i : Instruction) → s .full ≡ 0 → (emitC x p (coded s c) .state .full ≡ 0 → ⊥)
+  pub emit-over : (x p : ℕ) (i : Instruction) → s .full ≡ 0 → (emitC x p (coded s c) .state .full ≡ 0 → ⊥)
       → Overfull κ (emitC x p (coded s c)) (w .before + length (w .function .instructions ++ (i ∷ [])))
   unfolding emitC
   emit-over x p i z h = go (ltb (s .code) (entriesIn 2 (length c))) refl (rw (eq-eqb (s .full) 0 z) at h)

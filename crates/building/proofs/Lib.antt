@@ -2,3 +2,5 @@ pub mod Filling
 pub mod Room
 pub mod Emitting
 pub mod EmissionLaws
+pub mod StateLaws
+pub mod BreakLaws
