@@ -9,10 +9,8 @@ use Rattle.words.specs.Areas.{functionsArea, contextLocalsArea, entryWord, word
 use Rattle.building.specs.declared.taking.Taken.{Taken}
 use Rattle.building.specs.declared.function_state.FunctionState.{FunctionState}
 use Rattle.building.specs.Found.{findContextC}
-use Rattle.building.specs.Taking.{taken, takenOf, tookWords, givenUp}
-use Rattle.building.specs.Emission.{nextC, unlessFull}
-use Rattle.building.specs.State.{withScope}
-use Rattle.building.specs.Scopes.{Naming, naming}
+use Rattle.building.specs.Taking.{taken, takenOf, tookWords}
+use Rattle.building.specs.Emission.{nextC}
 
 -- `locals.get`: the first of this book's entries, from `start` up to the count, with the name
 abbrev pub findContextLocalC : ℕ → ℕ → ℕ → List ℕ → Option ℕ
@@ -52,7 +50,3 @@ bit false = 0
 abbrev pub functionWords : FunctionState → ℕ → ℕ → List ℕ
 functionWords s file name =
     s .«parameter_count» ∷ s .«local_count» ∷ s .«rescue_position» ∷ bit (s .«is_instance») ∷ s .base ∷ nextC s ∷ file ∷ name ∷ []
-
--- all names of the function given up: its outermost scope ends
-unfoldable pub endFunctionC : Naming → Naming
-endFunctionC m = unlessFull (m .state) (naming (withScope 0 0 (m .state)) (givenUp 2 0 (m .state .names) (m .names))) m

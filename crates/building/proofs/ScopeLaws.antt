@@ -1,0 +1,1 @@
+-- Scopes and locals: what the routines of `scopes.rt` make of memory is what the definition's methods of the same name make of its state. Assumes nothing.
