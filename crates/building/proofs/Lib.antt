@@ -1,3 +1,3 @@
--- Laws that several proofs use, and the laws of the routines.
+pub mod Filling
 mod Searches
 pub mod ScopeLaws

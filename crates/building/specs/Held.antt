@@ -82,10 +82,10 @@ pub record Contents (earlier : Entries) (m : Machine) (w : Work) : Type 0 where
   pub parameters : m .state .«parameter_count» ≡ w .function .parameterCount
   pub locals : m .state .«local_count» ≡ w .function .localCount % 2 ^ 64
 
--- no area is 0, as a mark too
-abbrev pub markOf : Option ℕ → ℕ
-markOf none = 0
-markOf (some area) = area
+-- the mark for the first note beyond its area; no area is 0, so that 0 is no area's mark
+pub data Marks : Option ℕ → ℕ → Type 0 where
+  unmarked : Marks none 0
+  marked : {area : ℕ} → 0 < area → Marks (some area) area
 
 -- an area's length in entries is the limit
 abbrev pub Sized : Limits → ℕ → List ℕ → Type 0
@@ -98,7 +98,7 @@ pub record Held (κ : Limits) (earlier : Entries) (m : Machine) (w : Work) : Typ
   pub names-cap : Sized κ scopeNamesArea (m .names)
   pub breaks-cap : Sized κ breaksArea (m .breaks)
   pub errors-cap : Sized κ errorsArea (m .errors)
-  pub full : m .state .full ≡ markOf (firstOver κ (w .uses))
+  pub full : Marks (firstOver κ (w .uses)) (m .state .full)
   pub rest : m .state .full ≡ 0 → Contents earlier m w
 
 -- area 7 names the book's context locals from entry `start` up to the count, and those are the definition's `locals`

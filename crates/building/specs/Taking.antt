@@ -3,10 +3,11 @@
 use Prim.Native.Nat.{ℕ, _+_, _-_, _*_}
 use mathlib.Core.Path.{_≡_}
 use mathlib.Core.Bool.{Bool, cond}
-use mathlib.Core.List.{List, _++_}
-use lib.ListN.{length, take, drop, replicate}
-use lib.Dec.{eqb, ltb}
-use Rattle.words.specs.Areas.{entriesIn, setEntry}
+use mathlib.Core.List.{List}
+use lib.ListN.{length, replicate}
+use lib.Seq.{sets}
+use lib.Dec.{eqb, ltb, leb}
+use Rattle.words.specs.Areas.{entriesIn, setEntry, mostWidth}
 use Rattle.building.specs.declared.taking.Taken.{Taken}
 
 abbrev pub taken : ℕ → ℕ → Taken
@@ -27,6 +28,10 @@ pub record Took (area full count : ℕ) (entry w : List ℕ) (r : Taken) (after 
   pub reply : r ≡ takenOf area (length entry) full count (length w)
   pub words : after ≡ tookWords full count entry w
 
--- entries given up, from entry i on up to the count: zeros in their place
+-- words from place a up to b zero, those that there are
+abbrev pub zeroed : ℕ → ℕ → List ℕ → List ℕ
+zeroed a b w = sets w a (replicate (b - a) 0)
+
+-- entries given up, from entry i on up to the count: zeros in their place; nothing at a width that no area has
 abbrev pub givenUp : ℕ → ℕ → ℕ → List ℕ → List ℕ
-givenUp width i count w = take (i * width) w ++ (replicate ((count - i) * width) 0 ++ drop (i * width + (count - i) * width) w)
+givenUp width i count w = cond (leb width mostWidth) (zeroed (i * width) (count * width) w) w
