@@ -1,3 +1,4 @@
 pub mod Filling
 mod Searches
+mod ScopeNames
 pub mod ScopeLaws

@@ -1,1 +1,143 @@
--- Scopes and locals: what the routines of `scopes.rt` make of memory is what the definition's methods of the same name make of its state. Assumes nothing.
+-- Scopes and locals: what the routines of `scopes.rt` make of memory is what the definition's methods of the same name make of its state, and what they
+-- find is what those find. By the mark, by what the innermost scope has, and by whether area 9 has room. Assumes nothing.
+use Prim.Native.Nat.{ℕ, _+_, _-_, _%_, _^_, _<_, _≤_, min}
+use native.Mathlib.Nat.{mod-add-mod}
+use native.Mathlib.Omega.{arith}
+use mathlib.Core.Path.{_≡_, refl, sym, ap, _∙_}
+use mathlib.Core.Bool.{Bool, true, false, cond}
+use mathlib.Core.Option.{Option, none, some}
+use mathlib.Core.List.{List, [], _∷_, _++_, append-assoc, append-nil}
+use lib.ListN.{length}
+use lib.Seq.{length-sets}
+use lib.Dec.{eqb, ltb}
+use borrow.Author.Tests.{eqb-true, eqb-false, ltb-true, ltb-false}
+use Rattle.words.specs.Areas.{entriesIn}
+use Rattle.definition.specs.FunctionState as Definition
+use Rattle.definition.specs.FunctionState.{Entry, FunctionState, tail, innermost, findName, findLocal, enterScope, exitScope, defineLocal}
+use Rattle.definition.specs.FunctionState.{defineAnonymousLocal}
+use Rattle.definition.specs.Uses.{Limits, total}
+use Rattle.definition.specs.Compiler.{Work, withFunction, doing}
+use Rattle.definition.specs.Program.{Entries}
+use Rattle.building.specs.declared.function_state.FunctionState as struct
+use Rattle.building.specs.Found.{foundOf, wrapped, findNewest}
+use Rattle.building.specs.State.{withScope, withLocalCount}
+use Rattle.building.specs.Taking.{givenUp}
+use Rattle.building.specs.Scopes.{Naming, naming, findLocalC, findInScopeC, enterScopeC, exitScopeC, endFunctionC, defineAnonymousC, insertC}
+use Rattle.building.specs.Held.{Machine, machine, Filled, nameEntries, oldestFirst, isOpen, Contents, Held}
+use Rattle.building.proofs.Filling.{filled-less, filled-more, names-length, Capped, capped, held-full, held-step}
+use Rattle.building.proofs.ScopeNames.{names-wide, names-split, total-split, found-in-scope, found-in-scopes}
+
+-- other names, scopes and locals, and all else as it was
+contents-named : {E : Entries} {s : struct.FunctionState} {c k n b e : List ℕ} {w : Work} (names scope locals : ℕ) (n′ : List ℕ)
+    (ss : List (List Entry)) (count : ℕ) → Contents E (machine s c k n b e) w
+    → Filled 2 n′ (nameEntries ss) names → scope ≡ total (tail ss) → locals ≡ count % 2 ^ 64
+    → Contents E (machine (withLocalCount locals (withScope names scope s)) c k n′ b e)
+    (withFunction (Definition.withScopes ss (Definition.withLocalCount count (w .function))) w)
+contents-named names scope locals n′ ss count C f p q = record {
+  before = C .before;
+  sized = C .sized;
+  code = C .code;
+  base = C .base;
+  constants = C .constants;
+  marks = C .marks;
+  names = f;
+  scope = p;
+  breaks = C .breaks;
+  loop = C .loop;
+  in-loop = C .in-loop;
+  errors = C .errors;
+  depth = C .depth;
+  rescue = C .rescue;
+  is-instance = C .is-instance;
+  parameters = C .parameters;
+  locals = q;
+}
+
+module _ {κ : Limits} {E : Entries} {s : struct.FunctionState} {c k n b e : List ℕ} {w : Work} (H : Held κ E (machine s c k n b e) w) where
+  -- searches, where nothing is full
+
+  live : s .full ≡ 0 → s .names ≡ total (w .function .scopes)
+  live z = H .rest z .names .count ∙ names-length (w .function .scopes)
+
+  pub find-law : (name : ℕ) → s .full ≡ 0 → findLocalC name (naming s n) ≡ wrapped (findLocal name (w .function))
+  find-law name z =
+      rw (live z) (found-in-scopes name {n = s .names} (w .function .scopes) [] (rw (append-nil (nameEntries (w .function .scopes))) (H .rest z .names)))
+
+  pub find-in-scope-law : (name : ℕ) → s .full ≡ 0 → findInScopeC name (naming s n) ≡ wrapped (findName name (innermost (w .function .scopes)))
+  find-in-scope-law name z =
+      let ss = w .function .scopes in
+      let C = H .rest z in
+      let own : s .names - s .«scope_base» ≡ length (innermost ss) = omega (arith, live z, C .scope, total-split ss) in
+      let f : Filled 2 n (nameEntries (tail ss) ++ (oldestFirst (innermost ss) ++ [])) (s .names) =
+          rw (append-nil (oldestFirst (innermost ss)), ← names-split ss) (C .names) in
+      rw (own, C .scope) (found-in-scope name (tail ss) (innermost ss) [] f)
+
+  -- a step that changes names, scopes and locals alone, where nothing is full
+  named-step : s .full ≡ 0 → (names scope locals : ℕ) (n′ : List ℕ) (ss : List (List Entry)) (count : ℕ) → length n′ ≡ length n
+      → Filled 2 n′ (nameEntries ss) names → scope ≡ total (tail ss) → locals ≡ count % 2 ^ 64
+      → Held κ E (machine (withLocalCount locals (withScope names scope s)) c k n′ b e)
+      (withFunction (Definition.withScopes ss (Definition.withLocalCount count (w .function))) w)
+  named-step z names scope locals n′ ss count long f p q =
+      held-step {m′ = machine (withLocalCount locals (withScope names scope s)) c k n′ b e}
+      (Definition.withScopes ss (Definition.withLocalCount count (w .function))) H z z
+      (record { code = H .code-cap; constants = H .constants-cap; names = rw long (H .names-cap); breaks = H .breaks-cap; errors = H .errors-cap })
+      (contents-named names scope locals n′ ss count (H .rest z) f p q)
+
+  -- with the mark set nothing changes, and the notes of a step on the function change no mark
+  marked-step : (f : FunctionState) → eqb (s .full) 0 ≡ false → Held κ E (machine s c k n b e) (withFunction f w)
+  marked-step f q = held-full (withFunction f w) (_ ∷ _ ∷ _ ∷ []) refl (eqb-false (s .full) 0 q) H
+
+  -- `enter_scope`
+  pub enter-law : Held κ E (machine (enterScopeC s) c k n b e) (doing enterScope w)
+  enter-law = go (eqb (s .full) 0) refl
+    where
+      go : (t : Bool) → eqb (s .full) 0 ≡ t → Held κ E (machine (cond t (withScope (s .names) (s .names) s) s) c k n b e) (doing enterScope w)
+      go false q = marked-step (enterScope (w .function)) q
+      go true q =
+          let z = eqb-true (s .full) 0 q in
+          let C = H .rest z in
+          named-step z (s .names) (s .names) (s .«local_count») n ([] ∷ w .function .scopes) (w .function .localCount) refl
+          (rw (append-nil (nameEntries (w .function .scopes))) (C .names)) (live z) (C .locals)
+
+  -- `define_anonymous_local`
+  one-more : s .full ≡ 0 → (s .«local_count» + 1) % 2 ^ 64 ≡ (w .function .localCount + 1) % 2 ^ 64
+  one-more z = rw (H .rest z .locals) (mod-add-mod (w .function .localCount) (2 ^ 64) 1)
+
+  pub anonymous-law : Held κ E (machine (defineAnonymousC s) c k n b e) (doing defineAnonymousLocal w)
+  anonymous-law = go (eqb (s .full) 0) refl
+    where
+      go : (t : Bool) → eqb (s .full) 0 ≡ t
+          → Held κ E (machine (cond t (withLocalCount ((s .«local_count» + 1) % 2 ^ 64) s) s) c k n b e) (doing defineAnonymousLocal w)
+      go false q = marked-step (defineAnonymousLocal (w .function)) q
+      go true q =
+          let z = eqb-true (s .full) 0 q in
+          let C = H .rest z in
+          named-step z (s .names) (s .«scope_base») ((s .«local_count» + 1) % 2 ^ 64) n (w .function .scopes) (w .function .localCount + 1) refl
+          (C .names) (C .scope) (one-more z)
+
+  -- the innermost scope's names given up
+  ended : s .full ≡ 0
+      → Filled 2 (givenUp 2 (s .«scope_base») (s .names) n) (nameEntries (tail (w .function .scopes))) (min (s .«scope_base») (s .names))
+  ended z =
+      let ss = w .function .scopes in
+      let C = H .rest z in
+      let base : s .«scope_base» ≡ length (nameEntries (tail ss)) = C .scope ∙ sym (names-length (tail ss)) in
+      let low : min (s .«scope_base») (s .names) ≡ length (nameEntries (tail ss)) = omega (arith, base, live z, C .scope, total-split ss) in
+      rw (low, base) (filled-less (nameEntries (tail ss)) (oldestFirst (innermost ss)) (omega arith) (names-wide (tail ss)) (rw (← names-split ss) (C .names)))
+
+  -- `exit_scope`, where `start` is that of the scope around
+  pub exit-law : {start : ℕ} {s′ : struct.FunctionState} {n′ : List ℕ} → naming s′ n′ ≡ exitScopeC start (naming s n)
+      → (s .full ≡ 0 → start ≡ total (tail (tail (w .function .scopes)))) → Held κ E (machine s′ c k n′ b e) (doing exitScope w)
+  unfolding exitScopeC
+  exit-law {start} {s′} {n′} q around = rw (ap (λ (m : Naming). m .state) q, ap (λ (m : Naming). m .names) q) (go (eqb (s .full) 0) refl)
+    where
+      low : Naming
+      low = naming (withScope (min (s .«scope_base») (s .names)) start s) (givenUp 2 (s .«scope_base») (s .names) n)
+
+      go : (t : Bool) → eqb (s .full) 0 ≡ t
+          → Held κ E (machine (cond t low (naming s n) .state) c k (cond t low (naming s n) .names) b e) (doing exitScope w)
+      go false p = marked-step (exitScope (w .function)) p
+      go true p =
+          let z = eqb-true (s .full) 0 p in
+          named-step z (min (s .«scope_base») (s .names)) start (s .«local_count») (givenUp 2 (s .«scope_base») (s .names) n)
+          (tail (w .function .scopes)) (w .function .localCount) (simp length-sets) (ended z) (around z) (H .rest z .locals)
