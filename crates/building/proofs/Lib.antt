@@ -1,4 +1,5 @@
 pub mod Filling
 mod Searches
+mod Naming
 mod ScopeNames
 pub mod ScopeLaws

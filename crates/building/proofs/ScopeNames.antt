@@ -11,14 +11,14 @@ use lib.ListN.{length, getD, length-append}
 use lib.Seq.{getD-append-add, getD-at}
 use lib.Dec.{eqb}
 use Rattle.words.specs.Areas.{entryField}
-use Rattle.definition.specs.FunctionState.{Entry, findName, findScopes, orElse, tail, innermost}
+use Rattle.definition.specs.FunctionState.{Entry, findName, findScopes, orElse, tail, innermost, insertName}
 use Rattle.definition.specs.Uses.{total}
 use Rattle.definition.specs.Program.{Entries}
 use Rattle.definition.specs.Within.{none as nil, _&_}
 use Rattle.definition.proofs.Lists.{all-append}
 use Rattle.definition.proofs.Cells.{Wide}
 use Rattle.building.specs.Found.{findNewest, wrapped}
-use Rattle.building.specs.Held.{Filled, nameEntry, oldestFirst, nameEntries}
+use Rattle.building.specs.Held.{Filled, nameEntry, oldestFirst, nameEntries, isOpen}
 use Rattle.building.proofs.Filling.{filled-field, oldest-length, names-length}
 
 -- entries and their width
@@ -38,6 +38,20 @@ names-split (s ∷ ss) = refl
 pub total-split : (ss : List (List Entry)) → total ss ≡ total (tail ss) + length (innermost ss)
 total-split [] = refl
 total-split (s ∷ ss) = omega arith
+
+-- a name more in the innermost scope
+module _ (e : Entry) where
+  pub names-insert : (ss : List (List Entry)) → isOpen ss ≡ true → nameEntries (insertName e ss) ≡ nameEntries ss ++ (nameEntry e ∷ [])
+  names-insert [] q = absurd (let z : _≡_ {A = ℕ} 0 1 = cc in omega arith)
+  names-insert (s ∷ ss) q = sym (append-assoc (nameEntries ss) (oldestFirst s) (nameEntry e ∷ []))
+
+  pub total-insert : (ss : List (List Entry)) → isOpen ss ≡ true → total (insertName e ss) ≡ total ss + 1
+  total-insert [] q = absurd (let z : _≡_ {A = ℕ} 0 1 = cc in omega arith)
+  total-insert (s ∷ ss) q = omega arith
+
+  pub tail-insert : (ss : List (List Entry)) → tail (insertName e ss) ≡ tail ss
+  tail-insert [] = refl
+  tail-insert (s ∷ ss) = refl
 
 -- an answer of two searches
 cond-wrapped : (b : Bool) (i : ℕ) (o : Option ℕ) → cond b (some (i % 2 ^ 64)) (wrapped o) ≡ wrapped (cond b (some i) o)

@@ -54,6 +54,36 @@ pub fn enter_scope(state: FunctionState) -> FunctionState
     s
 }
 
+// `exit_scope`: `start` is where the names of the scope around start. The scope's own are given up.
+pub fn exit_scope(names: &mut [u64], state: FunctionState, start: usize) -> FunctionState
+    ensures { λ r. ⌜ naming r (now (names .exit)) ≡ exitScopeC start (naming state (now (names .entry))) ⌝ }
+{
+    let mut s = state;
+    if s.full != 0 {
+        return s;
+    }
+    taking::give_up(names, areas::SCOPE_NAME_WORDS, s.scope_base, s.names);
+    if s.scope_base < s.names {
+        s.names = s.scope_base;
+    }
+    s.scope_base = start;
+    s
+}
+
+// The function ends, and its outermost scope with it: all names are given up.
+pub fn end_function(names: &mut [u64], state: FunctionState) -> FunctionState
+    ensures { λ r. ⌜ naming r (now (names .exit)) ≡ endFunctionC (naming state (now (names .entry))) ⌝ }
+{
+    let mut s = state;
+    if s.full != 0 {
+        return s;
+    }
+    taking::give_up(names, areas::SCOPE_NAME_WORDS, 0, s.names);
+    s.names = 0;
+    s.scope_base = 0;
+    s
+}
+
 // `define_anonymous_local`
 pub fn define_anonymous_local(state: FunctionState) -> FunctionState
     ensures { λ r. ⌜ r ≡ defineAnonymousC state ⌝ }
