@@ -89,7 +89,7 @@ module _ {κ : Limits} {E : Entries} {s : struct.FunctionState} {c k n b e : Lis
       let C = H .rest z in
       let own : s .names - s .«scope_base» ≡ length (innermost ss) = omega (arith, live z, C .scope, total-split ss) in
       let f : Filled 2 n (nameEntries (tail ss) ++ (oldestFirst (innermost ss) ++ [])) (s .names) =
-          rw (append-nil (oldestFirst (innermost ss)), ← names-split ss) (C .names) in
+      rw (append-nil (oldestFirst (innermost ss)), ← names-split ss) (C .names) in
       rw (own, C .scope) (found-in-scope name (tail ss) (innermost ss) [] f)
 
   -- a step that changes names, scopes and locals alone, where nothing is full
@@ -214,7 +214,7 @@ module _ {κ : Limits} {E : Entries} {s : struct.FunctionState} {c k n b e : Lis
     inserted false h =
         let z = eqb-true (s .full) 0 q in
         let beyond : limitOf κ scopeNamesArea < total (insertName entry (w .function .scopes)) =
-            omega (arith, H .names-cap, ltb-false (s .names) (entriesIn 2 (length n)) h, live z, total-insert entry (w .function .scopes) open′) in
+        omega (arith, H .names-cap, ltb-false (s .names) (entriesIn 2 (length n)) h, live z, total-insert entry (w .function .scopes) open′) in
         record {
           code-cap = H .code-cap;
           constants-cap = H .constants-cap;
@@ -263,6 +263,47 @@ module _ {κ : Limits} {E : Entries} {s : struct.FunctionState} {c k n b e : Lis
     unfolding defineC defineLocal
     define-found z =
         let same : defineC name (naming s n) .found ≡ wrapped (defineLocal name (w .function) .found) =
-            rw (eq-eqb (s .full) 0 z)
-            (found-go name z (findInScopeC name (naming s n)) (findName name (innermost (w .function .scopes))) (find-in-scope-law name z)) in
+        rw (eq-eqb (s .full) 0 z)
+        (found-go name z (findInScopeC name (naming s n)) (findName name (innermost (w .function .scopes))) (find-in-scope-law name z)) in
         D .found ∙ ap foundOf same
+
+-- the mark stays: where nothing is full after a step, nothing was before it
+
+pub enter-mark : (s : struct.FunctionState) → enterScopeC s .full ≡ s .full
+enter-mark s = go (eqb (s .full) 0)
+  where
+    go : (t : Bool) → cond t (withScope (s .names) (s .names) s) s .full ≡ s .full
+    go true = refl
+    go false = refl
+
+pub anonymous-mark : (s : struct.FunctionState) → defineAnonymousC s .full ≡ s .full
+anonymous-mark s = go (eqb (s .full) 0)
+  where
+    go : (t : Bool) → cond t (withLocalCount ((s .«local_count» + 1) % 2 ^ 64) s) s .full ≡ s .full
+    go true = refl
+    go false = refl
+
+module _ (s s′ : struct.FunctionState) (n n′ : List ℕ) where
+  -- a state and its names, or others with the same mark
+  same-mark : (t : Bool) (m : Naming) → m .state .full ≡ s .full → naming s′ n′ ≡ cond t m (naming s n) → s′ .full ≡ s .full
+  same-mark true m e q = ap (λ (x : Naming). x .state .full) q ∙ e
+  same-mark false m e q = ap (λ (x : Naming). x .state .full) q
+
+  pub exit-mark : (start : ℕ) → naming s′ n′ ≡ exitScopeC start (naming s n) → s′ .full ≡ s .full
+  unfolding exitScopeC
+  exit-mark start q = same-mark (eqb (s .full) 0) _ refl q
+
+  pub end-mark : naming s′ n′ ≡ endFunctionC (naming s n) → s′ .full ≡ s .full
+  unfolding endFunctionC
+  end-mark q = same-mark (eqb (s .full) 0) _ refl q
+
+pub define-mark : {name : ℕ} {s : struct.FunctionState} {n : List ℕ} {r : Defined} {n′ : List ℕ} → Defines name (naming s n) r n′
+    → r .state .full ≡ 0 → s .full ≡ 0
+unfolding defineC
+define-mark {name} {s} {n} {r} {n′} D z = go (eqb (s .full) 0) refl (D .memory)
+  where
+    go : (t : Bool) → eqb (s .full) 0 ≡ t
+        → naming (r .state) n′ ≡ cond t (defineBy (findInScopeC name (naming s n)) name (naming s n)) (record { found = none; memory = naming s n }) .memory
+        → s .full ≡ 0
+    go true e q = eqb-true (s .full) 0 e
+    go false e q = sym (ap (λ (m : Naming). m .state .full) q) ∙ z

@@ -91,16 +91,16 @@ shows pre [] post f = shown
 shows {l} {n} pre (e ∷ s) post f =
     let g : Filled 2 l (pre ++ (oldestFirst s ++ (nameEntry e ∷ post))) n = rw (append-assoc (oldestFirst s) (nameEntry e ∷ []) post) at f in
     let here : getD (pre ++ (oldestFirst s ++ (nameEntry e ∷ post))) (length pre + length s) [] ≡ nameEntry e =
-        getD-append-add pre (oldestFirst s ++ (nameEntry e ∷ post)) (length s) []
-        ∙ getD-at (oldestFirst s) (nameEntry e) post [] (length s) (oldest-length s) in
+    getD-append-add pre (oldestFirst s ++ (nameEntry e ∷ post)) (length s) []
+    ∙ getD-at (oldestFirst s) (nameEntry e) post [] (length s) (oldest-length s) in
     let before : length pre + length s < n =
-        omega (
-          arith,
-          g .count,
-          length-append pre (oldestFirst s ++ (nameEntry e ∷ post)),
-          length-append (oldestFirst s) (nameEntry e ∷ post),
-          oldest-length s,
-        ) in
+    omega (
+      arith,
+      g .count,
+      length-append pre (oldestFirst s ++ (nameEntry e ∷ post)),
+      length-append (oldestFirst s) (nameEntry e ∷ post),
+      oldest-length s,
+    ) in
     newest (filled-field (length pre + length s) 0 (omega arith) before (omega arith) g ∙ ap (λ (x : List ℕ). getD x 0 0) here)
     (filled-field (length pre + length s) 1 (omega arith) before (omega arith) g ∙ ap (λ (x : List ℕ). getD x 1 0) here)
     (shows pre s (nameEntry e ∷ post) g)
