@@ -108,8 +108,8 @@ module _ {κ : Limits} {E : Entries} {s : struct.FunctionState} {c k n b e : Lis
   marked-step f q = held-full (withFunction f w) (_ ∷ _ ∷ _ ∷ []) refl (eqb-false (s .full) 0 q) H
 
   -- `enter_scope`
-  pub enter-law : Held κ E (machine (enterScopeC s) c k n b e) (doing enterScope w)
-  enter-law = go (eqb (s .full) 0) refl
+  pub enter-law : {s′ : struct.FunctionState} → s′ ≡ enterScopeC s → Held κ E (machine s′ c k n b e) (doing enterScope w)
+  enter-law same = rw same (go (eqb (s .full) 0) refl)
     where
       go : (t : Bool) → eqb (s .full) 0 ≡ t → Held κ E (machine (cond t (withScope (s .names) (s .names) s) s) c k n b e) (doing enterScope w)
       go false q = marked-step (enterScope (w .function)) q
@@ -119,12 +119,12 @@ module _ {κ : Limits} {E : Entries} {s : struct.FunctionState} {c k n b e : Lis
           named-step z (s .names) (s .names) (s .«local_count») n ([] ∷ w .function .scopes) (w .function .localCount) refl
           (rw (append-nil (nameEntries (w .function .scopes))) (C .names)) (live z) (C .locals)
 
-  -- `define_anonymous_local`
+  -- `define_anonymous_local`: both counts wrap alike
   one-more : s .full ≡ 0 → (s .«local_count» + 1) % 2 ^ 64 ≡ (w .function .localCount + 1) % 2 ^ 64
   one-more z = rw (H .rest z .locals) (mod-add-mod (w .function .localCount) (2 ^ 64) 1)
 
-  pub anonymous-law : Held κ E (machine (defineAnonymousC s) c k n b e) (doing defineAnonymousLocal w)
-  anonymous-law = go (eqb (s .full) 0) refl
+  pub anonymous-law : {s′ : struct.FunctionState} → s′ ≡ defineAnonymousC s → Held κ E (machine s′ c k n b e) (doing defineAnonymousLocal w)
+  anonymous-law same = rw same (go (eqb (s .full) 0) refl)
     where
       go : (t : Bool) → eqb (s .full) 0 ≡ t
           → Held κ E (machine (cond t (withLocalCount ((s .«local_count» + 1) % 2 ^ 64) s) s) c k n b e) (doing defineAnonymousLocal w)
