@@ -1,4 +1,5 @@
 pub mod Filling
+pub mod Room
 mod Searches
 mod Naming
 mod ScopeNames

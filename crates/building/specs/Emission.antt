@@ -3,14 +3,14 @@
 use Prim.Native.Nat.{ℕ, zero, suc, _+_, _-_, _*_, _/_, _^_, min}
 use mathlib.Core.Bool.{Bool, true, false, cond}
 use mathlib.Core.List.{List, [], _∷_}
-use lib.ListN.{length, set}
+use lib.ListN.{length}
 use lib.Dec.{eqb, ltb}
-use Rattle.words.specs.Areas.{codeArea, breaksArea, entryField, writeEntry, wordFits}
+use Rattle.words.specs.Areas.{codeArea, breaksArea, entryField, writeEntry}
 use Rattle.words.specs.Opcode.{toInstruction, word, Pop, PushConstant, ReturnOp, Jump}
 use Rattle.words.specs.Object.{NULL}
 use Rattle.building.specs.declared.function_state.FunctionState.{FunctionState}
-use Rattle.building.specs.State.{withCode, withCodeCount, withBreaks, withLoop}
-use Rattle.building.specs.Taking.{takenOf, tookWords, givenUp}
+use Rattle.building.specs.State.{withCode, withCodeCount, withBreaks, withLoop, withDepth, withRescue, withParameters, mostDepth}
+use Rattle.building.specs.Taking.{takenOf, tookWords, givenUp, writeWord}
 
 -- the state and the code area
 pub record Coded : Type 0 where
@@ -41,8 +41,12 @@ emitC w p m =
     coded (withCode (takenOf codeArea 2 (m .state .full) (m .state .code) (length (m .code))) (m .state))
     (tookWords (m .state .full) (m .state .code) (w ∷ p ∷ []) (m .code))
 
+-- at the last position: `emit_opcode_without_position`, and null
+abbrev pub emitLastC : ℕ → Coded → Coded
+emitLastC w m = emitC w (lastPositionC m) m
+
 abbrev pub emitNullC : Coded → Coded
-emitNullC m = emitC (word (toInstruction PushConstant NULL)) (lastPositionC m) m
+emitNullC m = emitLastC (word (toInstruction PushConstant NULL)) m
 
 -- the last entry given up
 abbrev pub popC : Coded → Coded
@@ -68,9 +72,7 @@ emitReturnC p m =
 unfoldable pub replaceC : ℕ → ℕ → Coded → Coded
 replaceC index w m =
     unlessFull (m .state)
-    (cond (ltb index (nextC (m .state)))
-    (coded (m .state)
-    (cond (wordFits 2 (m .state .base + index) 0 (length (m .code))) (set (m .code) ((m .state .base + index) * 2) w) (m .code))) m) m
+    (cond (ltb index (nextC (m .state))) (coded (m .state) (writeWord 2 (m .state .base + index) 0 w (m .code))) m) m
 
 -- the function's code given back (error 8)
 unfoldable pub dropC : Coded → Coded
@@ -118,3 +120,17 @@ exitBreakC start inside m =
     breaking (withLoop (min (s .«break_base») (s .breaks)) start inside s)
     (patchC (s .breaks - s .«break_base») (s .«break_base») (word (toInstruction Jump (nextC s))) s (m .breaks) (m .code))
     (givenUp 1 (s .«break_base») (s .breaks) (m .breaks))) m
+
+-- a statement deeper, and back to a depth
+abbrev pub deeperC : FunctionState → FunctionState
+deeperC s = unlessFull s (withDepth (min mostDepth (s .depth + 1)) s) s
+
+abbrev pub depthC : ℕ → FunctionState → FunctionState
+depthC n s = unlessFull s (withDepth n s) s
+
+-- the rescue part starts at the next instruction
+abbrev pub rescueC : FunctionState → FunctionState
+rescueC s = unlessFull s (withRescue (nextC s) s) s
+
+abbrev pub parametersC : Bool → ℕ → FunctionState → FunctionState
+parametersC b n s = unlessFull s (withParameters b n s) s

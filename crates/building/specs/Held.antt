@@ -12,6 +12,7 @@ use Rattle.definition.specs.Compiler.{Work, CompilerState}
 use Rattle.definition.specs.Program.{Entries, flat, codeEntries, constantEntry, errorEntry, entriesFrom}
 use Rattle.definition.specs.Within.{All}
 use Rattle.building.specs.declared.function_state.FunctionState as struct
+use Rattle.building.specs.State.{mostDepth}
 
 -- the state and the areas that functions are built in
 pub record Machine : Type 0 where
@@ -58,9 +59,6 @@ breakEntries (s ∷ ss) = breakEntries ss ++ breakEntry s
 abbrev pub isOpen : {A : Type 0} → List A → Bool
 isOpen [] = false
 isOpen (x ∷ xs) = true
-
-abbrev pub mostDepth : ℕ
-mostDepth = 2 ^ 64 - 1
 
 -- where nothing is full: `earlier` is the code of the functions before this one
 pub record Contents (earlier : Entries) (m : Machine) (w : Work) : Type 0 where

@@ -1,8 +1,12 @@
 -- The struct `FunctionState` of `function_state.rt`: fresh, and with fields anew
-use Prim.Native.Nat.{ℕ}
+use Prim.Native.Nat.{ℕ, _-_, _^_}
 use mathlib.Core.Bool.{Bool, false}
 use Rattle.building.specs.declared.taking.Taken.{Taken}
 use Rattle.building.specs.declared.function_state.FunctionState.{FunctionState}
+
+-- a depth that is greater counts as this
+abbrev pub mostDepth : ℕ
+mostDepth = 2 ^ 64 - 1
 
 -- `FunctionState::new`
 abbrev pub begun : ℕ → ℕ → ℕ → ℕ → FunctionState

@@ -1,13 +1,13 @@
 -- An entry more of an area: with the mark set nothing changes; where there is room the entry is written behind those in use; else the mark is the
 -- area's number (01, row 9; docs/DECISIONS.md)
-use Prim.Native.Nat.{ℕ, _+_, _-_, _*_}
+use Prim.Native.Nat.{ℕ, _+_, _-_, _*_, min}
 use mathlib.Core.Path.{_≡_}
 use mathlib.Core.Bool.{Bool, cond}
 use mathlib.Core.List.{List}
-use lib.ListN.{length, replicate}
+use lib.ListN.{length, set, replicate}
 use lib.Seq.{sets}
 use lib.Dec.{eqb, ltb, leb}
-use Rattle.words.specs.Areas.{entriesIn, setEntry, mostWidth}
+use Rattle.words.specs.Areas.{entriesIn, setEntry, wordFits, mostWidth}
 use Rattle.building.specs.declared.taking.Taken.{Taken}
 
 abbrev pub taken : ℕ → ℕ → Taken
@@ -27,6 +27,14 @@ tookWords full count entry w =
 pub record Took (area full count : ℕ) (entry w : List ℕ) (r : Taken) (after : List ℕ) : Type 0 where
   pub reply : r ≡ takenOf area (length entry) full count (length w)
   pub words : after ≡ tookWords full count entry w
+
+-- word k of entry i anew, where it is there
+abbrev pub writeWord : ℕ → ℕ → ℕ → ℕ → List ℕ → List ℕ
+writeWord width i k value w = cond (wordFits width i k (length w)) (set w (i * width + k) value) w
+
+-- where entry i starts in an area of n words, or the area's end where that comes first; at a width that no area has, 0
+abbrev pub startOf : ℕ → ℕ → ℕ → ℕ
+startOf width i n = cond (leb width mostWidth) (min (i * width) n) 0
 
 -- words from place a up to b zero, those that there are
 abbrev pub zeroed : ℕ → ℕ → List ℕ → List ℕ
