@@ -9,3 +9,7 @@ pub mod Emitting
 pub mod EmissionLaws
 pub mod StateLaws
 pub mod BreakLaws
+pub mod NewestFirst
+pub mod Naming
+pub mod ScopeNames
+pub mod ScopeLaws

@@ -1,5 +1,5 @@
 -- Searches: an answer of the code is `Found`, one of the definitions an option
-use Prim.Native.Nat.{ℕ, zero, suc, _+_, _-_}
+use Prim.Native.Nat.{ℕ, zero, suc, _+_, _-_, _%_, _^_}
 use mathlib.Core.Bool.{Bool, cond}
 use mathlib.Core.Option.{Option, none, some}
 use mathlib.Core.List.{List}
@@ -12,6 +12,11 @@ use Rattle.building.specs.declared.scopes.Found.the-variants.{At, Nothin
 abbrev pub foundOf : Option ℕ → Found
 foundOf none = Nothing
 foundOf (some i) = At i
+
+-- a local's number as it stands in 64 bits
+abbrev pub wrapped : Option ℕ → Option ℕ
+wrapped none = none
+wrapped (some i) = some (i % 2 ^ 64)
 
 -- the local of a name among k entries of area 9 that end below entry i + k, the newest first
 unfoldable pub findNewest : ℕ → ℕ → ℕ → List ℕ → Option ℕ

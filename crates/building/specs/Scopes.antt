@@ -1,5 +1,6 @@
 -- What the routines of `scopes.rt` make of the state and of area 9, on any state and any words
 use Prim.Native.Nat.{ℕ, _+_, _-_, _%_, _^_, min}
+use mathlib.Core.Path.{_≡_}
 use mathlib.Core.Bool.{Bool, cond}
 use mathlib.Core.Option.{Option, none, some}
 use mathlib.Core.List.{List, [], _∷_}
@@ -7,9 +8,8 @@ use lib.ListN.{length}
 use lib.Dec.{eqb}
 use Rattle.words.specs.Areas.{scopeNamesArea}
 use Rattle.building.specs.declared.function_state.FunctionState.{FunctionState}
-use Rattle.building.specs.declared.scopes.Found.{Found}
-use Rattle.building.specs.declared.scopes.Found.the-variants.{At, Nothing}
-use Rattle.building.specs.Found.{findNewest}
+use Rattle.building.specs.declared.scopes.Defined.{Defined}
+use Rattle.building.specs.Found.{foundOf, findNewest}
 use Rattle.building.specs.State.{withNames, withScope, withLocalCount}
 use Rattle.building.specs.Taking.{takenOf, tookWords, givenUp}
 use Rattle.building.specs.Emission.{unlessFull}
@@ -40,6 +40,10 @@ exitScopeC start m =
     unlessFull (m .state)
     (naming (withScope (min (m .state .«scope_base») (m .state .names)) start (m .state)) (givenUp 2 (m .state .«scope_base») (m .state .names) (m .names))) m
 
+-- all names of the function given up: its outermost scope ends
+unfoldable pub endFunctionC : Naming → Naming
+endFunctionC m = unlessFull (m .state) (naming (withScope 0 0 (m .state)) (givenUp 2 0 (m .state .names) (m .names))) m
+
 -- a local more, where an area was not full by it
 abbrev pub countedC : FunctionState → FunctionState
 countedC s = unlessFull s (withLocalCount ((s .«local_count» + 1) % 2 ^ 64) s) s
@@ -67,3 +71,8 @@ defineBy none name m = record { found = some (m .state .«local_count»); memory
 -- `define_local`: with the mark set, no local
 unfoldable pub defineC : ℕ → Naming → Definition
 defineC name m = unlessFull (m .state) (defineBy (findInScopeC name m) name m) (record { found = none; memory = m })
+
+-- what `define_local` answers, and the area that it leaves
+pub record Defines (name : ℕ) (m : Naming) (r : Defined) (after : List ℕ) : Type 0 where
+  pub found : r .found ≡ foundOf (defineC name m .found)
+  pub memory : naming (r .state) after ≡ defineC name m .memory

@@ -1,10 +1,142 @@
 // `backend/function_state.rs`: scopes and locals, flat in area 9.
 ghost use mathlib.Core.Path.{_≡_};
+ghost use Prim.Native.Nat.{_-_};
 ghost use Rattle.building.specs.Found.{foundOf, findNewest};
+ghost use Rattle.building.specs.Scopes.{naming, findLocalC, enterScopeC, exitScopeC, endFunctionC, defineAnonymousC, insertC, Defines};
+use crate::function_state::FunctionState;
+use crate::taking;
 use words::areas;
 
 // What a search finds.
 pub enum Found {
     At(u64),
     Nothing,
+}
+
+// What `define_local` gives: the local's number, or nothing where the innermost scope has the name.
+pub struct Defined {
+    pub found: Found,
+    pub state: FunctionState,
+}
+
+// The local of a name among the entries from `from` up to the count, the newest first.
+fn find_newest(names: &[u64], from: usize, count: usize, name: u64) -> Found
+    ensures { λ r. ⌜ r ≡ foundOf (findNewest (count - from) from name (now (names .entry))) ⌝ }
+{
+    let mut i = count;
+    while from < i {
+        i -= 1;
+        let other = areas::entry_word(names, areas::SCOPE_NAME_WORDS, i, 0);
+        if other == name {
+            let local = areas::entry_word(names, areas::SCOPE_NAME_WORDS, i, 1);
+            return Found::At(local);
+        }
+    }
+    Found::Nothing
+}
+
+// `find_local`
+pub fn find_local(names: &[u64], state: FunctionState, name: u64) -> Found
+    ensures { λ r. ⌜ r ≡ foundOf (findLocalC name (naming state (now (names .entry)))) ⌝ }
+{
+    find_newest(names, 0, state.names, name)
+}
+
+// `enter_scope`
+pub fn enter_scope(state: FunctionState) -> FunctionState
+    ensures { λ r. ⌜ r ≡ enterScopeC state ⌝ }
+{
+    let mut s = state;
+    if s.full != 0 {
+        return s;
+    }
+    s.scope_base = s.names;
+    s
+}
+
+// `exit_scope`: `start` is where the names of the scope around start. The scope's own are given up.
+pub fn exit_scope(names: &mut [u64], state: FunctionState, start: usize) -> FunctionState
+    ensures { λ r. ⌜ naming r (now (names .exit)) ≡ exitScopeC start (naming state (now (names .entry))) ⌝ }
+{
+    let mut s = state;
+    if s.full != 0 {
+        return s;
+    }
+    taking::give_up(names, areas::SCOPE_NAME_WORDS, s.scope_base, s.names);
+    if s.scope_base < s.names {
+        s.names = s.scope_base;
+    }
+    s.scope_base = start;
+    s
+}
+
+// The function ends, and its outermost scope with it: all names are given up.
+pub fn end_function(names: &mut [u64], state: FunctionState) -> FunctionState
+    ensures { λ r. ⌜ naming r (now (names .exit)) ≡ endFunctionC (naming state (now (names .entry))) ⌝ }
+{
+    let mut s = state;
+    if s.full != 0 {
+        return s;
+    }
+    taking::give_up(names, areas::SCOPE_NAME_WORDS, 0, s.names);
+    s.names = 0;
+    s.scope_base = 0;
+    s
+}
+
+// `define_anonymous_local`
+pub fn define_anonymous_local(state: FunctionState) -> FunctionState
+    ensures { λ r. ⌜ r ≡ defineAnonymousC state ⌝ }
+{
+    let mut s = state;
+    if s.full != 0 {
+        return s;
+    }
+    s.local_count = std::num::wrapping_add_u64(s.local_count, 1);
+    s
+}
+
+// The innermost scope's name for the next local.
+fn insert(names: &mut [u64], state: FunctionState, name: u64) -> FunctionState
+    ensures { λ r. ⌜ naming r (now (names .exit)) ≡ insertC name (naming state (now (names .entry))) ⌝ }
+{
+    let t = taking::take2(
+        names,
+        areas::SCOPE_NAMES,
+        state.full,
+        state.names,
+        name,
+        state.local_count,
+    );
+    let mut s = state;
+    s.full = t.full;
+    s.names = t.count;
+    define_anonymous_local(s)
+}
+
+// `define_local`
+pub fn define_local(names: &mut [u64], state: FunctionState, name: u64) -> Defined
+    ensures { λ r. ⌜ Defines name (naming state (now (names .entry))) r (now (names .exit)) ⌝ }
+{
+    if state.full != 0 {
+        return Defined {
+            found: Found::Nothing,
+            state,
+        };
+    }
+    let known = find_newest(names, state.scope_base, state.names, name);
+    match known {
+        Found::At(_) => Defined {
+            found: Found::Nothing,
+            state,
+        },
+        Found::Nothing => {
+            let local = state.local_count;
+            let s = insert(names, state, name);
+            Defined {
+                found: Found::At(local),
+                state: s,
+            }
+        }
+    }
 }

@@ -1,0 +1,52 @@
+-- `building::scopes::find_newest` meets its contract. The invariant: what is left to search answers what was asked. The measure is how much is left.
+-- Assumes nothing.
+-- Made from Proof.answers by `answers make`: edit that file, and not this one.
+use mathlib.Core.Path.{_≡_, refl}
+use Prim.Native.Nat.{_-_}
+use Rattle.building.specs.Found.{findNewest}
+use Rattle.building.proofs.NewestFirst.{newest-none, newest-here, newest-next}
+use Rattle.building.proofs.scopes.find_newest.Statement.{statement}
+use Rattle.building.proofs.scopes.find_newest.Tie as tie
+use borrow.Author.Needs.{needs}
+use native.Mathlib.Omega.{arith}
+
+abbrev Inv-loop : tie.InvT-loop
+Inv-loop names from count name i₀ i = findNewest (count - from) from name names ≡ findNewest (i - from) from name names
+
+abbrev μ-loop : tie.MeasureT-loop
+μ-loop names from count name i₀ i = i
+
+loop-holds : tie.Need-loop-holds Inv-loop μ-loop
+loop-holds c = refl
+
+returns : tie.Need-returns Inv-loop μ-loop
+returns c =
+    let c6 = c .before .before .before .before .before .before in
+    newest-here _ (c6 .args .from) (c .before .before .before .before .loop .i) (c6 .args .name) (c6 .args .names .now)
+    (c .before .before .before .before .loop .inv) _ _
+    (c .before .before .before .loop-test .taken) (c .before .before .entry-word .ensures) (c .before .if1 .taken) (c .entry-word2 .ensures)
+
+loop-again : tie.Need-loop-again Inv-loop μ-loop
+loop-again c =
+    let c5 = c .before .before .before .before .before in
+    newest-next _ (c5 .args .from) (c .before .before .before .loop .i) (c5 .args .name) (c5 .args .names .now) (c .before .before .before .loop .inv) _
+    (c .before .before .loop-test .taken) (c .before .entry-word .ensures) (c .if1 .left)
+
+returns-2 : tie.Need-returns-2 Inv-loop μ-loop
+returns-2 c = newest-none _ (c .before .before .before .args .from) (c .before .loop .i) (c .before .before .before .args .name)
+    (c .before .before .before .args .names .now) (c .before .loop .inv) (c .loop-test .left)
+
+pub find-newest-spec : {M : Type 1} → statement M
+find-newest-spec =
+    tie.close
+    (tie.spec
+    Inv-loop
+    μ-loop
+    loop-holds
+    (λ c. omega arith)
+    (λ c κs. search needs)
+    (λ c κs. search needs)
+    returns
+    (λ c. omega arith)
+    loop-again
+    returns-2)
