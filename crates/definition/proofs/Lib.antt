@@ -16,3 +16,4 @@ pub mod Counts
 pub mod Tables
 pub mod Delivery
 pub mod Scopes
+pub mod Steady
