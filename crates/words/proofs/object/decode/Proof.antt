@@ -38,8 +38,7 @@ returns-4 c = simp (
   ne-eqb (c .before .before .before .before .args .kind) 0 (c .before .before .before .if1 .left),
   eq-eqb
       (c .before .before .before .before .args .kind) 1 (c .before .before .if3 .taken),
-  ne-eqb (c .before .before .before .before .args .value) 0
-      (c .before .if4 .left),
+  ne-eqb (c .before .before .before .before .args .value) 0 (c .before .if4 .left),
   eq-eqb (c .before .before .before .before .args .value) 1 (c .if5 .taken),
 )
 
@@ -49,8 +48,7 @@ returns-5 c = simp (
   ne-eqb (c .before .before .before .before .args .kind) 0 (c .before .before .before .if1 .left),
   eq-eqb
       (c .before .before .before .before .args .kind) 1 (c .before .before .if3 .taken),
-  ne-eqb (c .before .before .before .before .args .value) 0
-      (c .before .if4 .left),
+  ne-eqb (c .before .before .before .before .args .value) 0 (c .before .if4 .left),
   ne-eqb (c .before .before .before .before .args .value) 1 (c .if5 .left),
 )
 
@@ -73,8 +71,7 @@ returns-7 c =
     simp (
       ne-eqb (c5 .args .kind) 0 (c .before .before .before .before .if1 .left),
       ne-eqb (c5 .args .kind) 1 (c .before .before .before .if3 .left),
-      ne-eqb
-          (c5 .args .kind) 2 (c .before .before .if6 .left),
+      ne-eqb (c5 .args .kind) 2 (c .before .before .if6 .left),
       eq-eqb (c5 .args .kind) 3 (c .before .if7 .taken),
     )
     (ap (λ (x : Ieee·Float). Is (Float x)) (c .float-of-word .ensures))
@@ -86,10 +83,10 @@ returns-8 c =
     simp (
       ne-eqb (c5 .args .kind) 0 (c .before .before .before .before .if1 .left),
       ne-eqb (c5 .args .kind) 1 (c .before .before .before .if3 .left),
-      ne-eqb
-          (c5 .args .kind) 2 (c .before .before .if6 .left),
+      ne-eqb (c5 .args .kind) 2 (c .before .before .if6 .left),
       ne-eqb (c5 .args .kind) 3 (c .before .if7 .left),
-      le-ltb (c5 .args .value) (2 ^ 32) (c .if8 .taken),
+      le-ltb (c5 .args .value) (2 ^ 32)
+          (c .if8 .taken),
     )
 
 returns-9 : tie.Need-returns-9
@@ -100,11 +97,10 @@ returns-9 c =
     simp (
       ne-eqb (c6 .args .kind) 0 (c5 .if1 .left),
       ne-eqb (c6 .args .kind) 1 (c .before .before .before .before .if3 .left),
-      ne-eqb (c6 .args .kind) 2
-          (c .before .before .before .if6 .left),
+      ne-eqb (c6 .args .kind) 2 (c .before .before .before .if6 .left),
       ne-eqb (c6 .args .kind) 3 (c .before .before .if7 .left),
-      lt-ltb (c6 .args .value) (2 ^ 32)
-          (c .before .if8 .left),
+      lt-ltb (c6 .args .value)
+          (2 ^ 32) (c .before .if8 .left),
     )
     (c .numbered .ensures)
 
