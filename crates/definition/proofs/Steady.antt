@@ -51,11 +51,11 @@ steady-refl w = record { depth = refl; locals = refl; before = refl; uses = same
 
 pub steady-trans : {a b c : Work} → Steady a b → Steady b c → Steady a c
 steady-trans m n = record {
-    depth = n .depth ∙ m .depth;
-    locals = n .locals ∙ m .locals;
-    before = n .before ∙ m .before;
-    uses = longer-trans (m .uses) (n .uses);
-  }
+  depth = n .depth ∙ m .depth;
+  locals = n .locals ∙ m .locals;
+  before = n .before ∙ m .before;
+  uses = longer-trans (m .uses) (n .uses);
+}
 
 -- a change of the function state alone that keeps the depth
 pub steady-function : (w : Work) (f : FunctionState) → f .depth ≡ w .function .depth → Steady w (withFunction f w)
@@ -109,6 +109,7 @@ steady-constant c w = cond-case (λ (a : Added). Steady w (a .work)) (isShared (
   where
     plain : Steady w (addConstantNoCheck c w .work)
     plain = record { depth = refl; locals = refl; before = refl; uses = more same }
+
     go : (o : Option ℕ) → Steady w (Compiler.addConstantBy o c w .work)
     go none = plain
     go (some i) = steady-refl w
@@ -131,6 +132,7 @@ steady-name l c g n p w = go (Emission.findLocal n (w .function))
     inner : (o : Option ℕ) → Steady w (Compiler.emitNameInContext o c g n p w)
     inner none = steady-global g n p w
     inner (some i) = steady-emit _ p w
+
     go : (o : Option ℕ) → Steady w (Compiler.emitNameBy o l c g n p w)
     go none = inner (findName n (w .compiler .locals))
     go (some i) = steady-emit _ p w
@@ -256,6 +258,7 @@ steady-valued {a} A t w = steady-trans (steady-define (t .value) w) (go (defineL
   where
     v : Work
     v = withFunction (defineLocal (t .value) (w .function) .state) w
+
     go : (o : Option ℕ) → Steady v (Compiler.valuedBy o t a v)
     go none = steady-error 1 t v
     go (some i) = steady-trans (A v) (steady-emit _ _ _)
@@ -266,6 +269,7 @@ steady-bare n t w = steady-trans (steady-define (t .value) w) (go (defineLocal (
   where
     v : Work
     v = withFunction (defineLocal (t .value) (w .function) .state) w
+
     go : (o : Option ℕ) → Steady v (Compiler.bareBy o n t v)
     go none = steady-error n t v
     go (some i) = steady-refl v
@@ -277,16 +281,18 @@ steady-rescue t w = cond-case (Steady w) (ltb 1 (w .function .depth)) (λ h. ste
 pub steady-deeper : {a : Step} → Steadily a → Steadily (deeper a)
 unfolding deeper
 steady-deeper {a} A w = record {
-    depth = ap (λ n. n - 1) (s .depth) ∙ down (w .function .depth);
-    locals = s .locals;
-    before = s .before;
-    uses = more (more (more (longer-trans (more (more (more same))) (s .uses))));
-  }
+  depth = ap (λ n. n - 1) (s .depth) ∙ down (w .function .depth);
+  locals = s .locals;
+  before = s .before;
+  uses = more (more (more (longer-trans (more (more (more same))) (s .uses))));
+}
   where
     w₁ : Work
     w₁ = doing (λ f. Emission.withDepth (f .depth + 1) f) w
+
     s : Steady w₁ (a w₁)
     s = A w₁
+
     down : (n : ℕ) → n + 1 - 1 ≡ n
     down n = omega arith
 
@@ -295,6 +301,7 @@ steady-deeper {a} A w = record {
 mutual
   unfolding compileExpression compileIntegerExpression compileFloatExpression compileStringExpression compileBooleanExpression compileNullExpression
       compileIdentifierExpression compileAssignName
+
   pub steady-expression : (e : Expression) → Steadily (compileExpression e)
   steady-expression (Identifier t) = steady-name _ _ _ _ _
   steady-expression (This t) = steady-this t
