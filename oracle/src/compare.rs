@@ -1,0 +1,374 @@
+//! The real Rust against the independent reading, bundle by bundle.
+
+use crate::areas::{answer, capacities, padded, Answer, Areas, Counts, Lengths, Reply, AREAS, ENTRY_WORDS, UNLIMITED};
+use crate::generate::{case, Case, Sizes};
+use crate::model::{compile, first_beyond, Run};
+use crate::random::Random;
+use crate::real::{run, Outcome};
+use crate::records::{records, trees, words, Node};
+use crate::records::flatten;
+
+/// Code that the Rust, which has no areas, is still let to make.
+const MAX_CODE: usize = 4_000_000;
+
+const AREA_FULL: u64 = 9;
+
+/// A side that answers a bundle for areas of given lengths. The model is one; the static library of
+/// this repository is to be another (src/ours.rs).
+pub trait Side {
+    fn name(&self) -> &str;
+    fn compile(&mut self, words: &[u64], lengths: &Lengths) -> (Reply, Areas);
+}
+
+pub struct Model;
+
+impl Side for Model {
+    fn name(&self) -> &str {
+        "model"
+    }
+
+    fn compile(&mut self, words: &[u64], lengths: &Lengths) -> (Reply, Areas) {
+        let run = compile(words, lengths);
+        (run.reply, padded(&run.areas, lengths))
+    }
+}
+
+#[derive(Clone, Debug, Default, PartialEq, Eq)]
+pub struct Tally {
+    pub cases: u64,
+    pub records: u64,
+    /// Cases that the Rust answered (delivered, or rows 6 to 8).
+    pub compared: u64,
+    pub rows: [u64; 10],
+    pub panics: u64,
+    /// `this` numbered as `main`.
+    pub inexpressible: u64,
+    /// Too much code for the Rust to be let loose on.
+    pub oversized: u64,
+    pub errors: [u64; 12],
+    /// Lengths tried on the model, and row 9 by area.
+    pub lengths: u64,
+    pub full: [u64; AREAS],
+    pub differences: u64,
+}
+
+/// What one case showed.
+struct Verdict {
+    row: u64,
+    outcome: Seen,
+    errors: Vec<u64>,
+}
+
+enum Seen {
+    Compared,
+    Panicked,
+    Inexpressible,
+    Oversized,
+    NotForTheRust,
+}
+
+fn limited() -> Lengths {
+    let mut lengths = UNLIMITED;
+    lengths[0] = MAX_CODE;
+    lengths
+}
+
+/// Compares the model's answer without limits to the Rust's.
+fn judge(case: &Case) -> Result<(Verdict, Run), String> {
+    let model = compile(&case.words, &limited());
+    let row = model.reply.row;
+    if let Some(expected) = case.expected {
+        if expected != (row, model.reply.place) {
+            return Err(format!("broken to answer {expected:?}, the model answers {:?}", model.reply));
+        }
+    }
+    let mut verdict = Verdict { row, outcome: Seen::NotForTheRust, errors: Vec::new() };
+    if row == AREA_FULL {
+        verdict.outcome = Seen::Oversized;
+        return Ok((verdict, model));
+    }
+    if (1..=5).contains(&row) {
+        return Ok((verdict, model));
+    }
+    let ours = answer(&model.reply, &model.areas);
+    if let Answer::Refused { errors, .. } = &ours {
+        verdict.errors = errors.iter().map(|error| error[0]).collect();
+    }
+    let theirs = run(&records(&case.words));
+    verdict.outcome = match theirs {
+        Outcome::Inexpressible => Seen::Inexpressible,
+        Outcome::Panicked if model.panics => Seen::Panicked,
+        Outcome::Panicked => return Err("the Rust panics, the model does not expect it".to_string()),
+        Outcome::Answer(_) if model.panics => return Err("the model expects a panic of the Rust".to_string()),
+        Outcome::Answer(theirs) if theirs == ours => Seen::Compared,
+        Outcome::Answer(theirs) => return Err(difference(&theirs, &ours)),
+    };
+    Ok((verdict, model))
+}
+
+/// The first lines in which the two answers differ.
+fn difference(theirs: &Answer, ours: &Answer) -> String {
+    let (left, right) = (format!("{theirs:#?}"), format!("{ours:#?}"));
+    let unequal = left.lines().zip(right.lines()).enumerate().find(|(_, (a, b))| a != b);
+    match unequal {
+        Some((line, (a, b))) => format!("line {line} of the answer: the Rust {a:?}, the model {b:?}"),
+        None => format!("answers of {} and {} lines", left.lines().count(), right.lines().count()),
+    }
+}
+
+/// Lengths in words worth trying: exactly what is needed, one entry short, small, and plenty.
+pub fn lengths(random: &mut Random, peaks: &Counts) -> Lengths {
+    let style = random.below(4);
+    let short = random.index(AREAS);
+    std::array::from_fn(|i| {
+        let peak = peaks[i] as usize;
+        let entries = match style {
+            0 => peak,
+            1 if i == short => peak.saturating_sub(1),
+            1 => peak + random.index(3),
+            2 => random.index(peak + 2),
+            _ => peak + random.index(40),
+        };
+        // A tail shorter than an entry counts for nothing.
+        entries * ENTRY_WORDS[i] + random.index(ENTRY_WORDS[i])
+    })
+}
+
+/// Row 9 met and row 9 foretold from the run without limits must agree; anything else must be the
+/// same answer as without limits.
+fn judge_lengths(case: &Case, free: &Run, lengths: &Lengths) -> Result<u64, String> {
+    let foretold = first_beyond(free, &capacities(lengths));
+    let tight = compile(&case.words, lengths);
+    let expected = match foretold {
+        Some(place) if free.reply.row == 0 || free.reply.row >= 7 => Reply::refusal(AREA_FULL, place),
+        _ => free.reply,
+    };
+    if tight.reply != expected {
+        return Err(format!("lengths {lengths:?}: foretold {expected:?}, met {:?}", tight.reply));
+    }
+    let areas = if tight.reply.row == AREA_FULL { Areas::default() } else { free.areas.clone() };
+    if tight.areas != areas {
+        return Err(format!("lengths {lengths:?}: other words than without limits"));
+    }
+    Ok(if expected.row == AREA_FULL { expected.place } else { 0 })
+}
+
+/// Compares a third side with the model for these lengths.
+pub fn judge_side(side: &mut dyn Side, words: &[u64], lengths: &Lengths) -> Result<(), String> {
+    let (reply, areas) = side.compile(words, lengths);
+    let (expected, expected_areas) = Model.compile(words, lengths);
+    if reply != expected {
+        return Err(format!("lengths {lengths:?}: the model {expected:?}, {} {reply:?}", side.name()));
+    }
+    for i in 0..AREAS {
+        if let Some(at) = (0..lengths[i]).find(|&at| areas[i][at] != expected_areas[i][at]) {
+            let (here, there) = (expected_areas[i][at], areas[i][at]);
+            return Err(format!("area {} word {at}: the model {here}, {} {there}", i + 1, side.name()));
+        }
+    }
+    Ok(())
+}
+
+/// Everything about one case; lengths come from the case's own stream, so that shrinking keeps them alike.
+fn judge_all(case: &Case, stream: u64, side: &mut Option<&mut dyn Side>) -> Result<(Verdict, Vec<u64>), String> {
+    let (verdict, free) = judge(case)?;
+    let mut full = Vec::new();
+    if !matches!(verdict.outcome, Seen::Oversized) {
+        let mut random = Random::new(stream);
+        let peaks = free.peaks();
+        for _ in 0..3 {
+            let lengths = lengths(&mut random, &peaks);
+            full.push(judge_lengths(case, &free, &lengths)?);
+            if let Some(side) = side {
+                judge_side(*side, &case.words, &lengths)?;
+            }
+        }
+    }
+    Ok((verdict, full))
+}
+
+pub struct Difference {
+    pub index: u64,
+    pub message: String,
+    pub shrunk: Vec<u64>,
+}
+
+/// Compares cases `0..count` of a seed. Stops counting nothing; keeps the first difference, shrunk.
+pub fn compare(seed: u64, count: u64, sizes: Sizes, mut side: Option<&mut dyn Side>) -> (Tally, Option<Difference>) {
+    let mut tally = Tally::default();
+    let mut first = None;
+    for index in 0..count {
+        let made = case(seed, index, sizes);
+        let stream = seed ^ index.rotate_left(32);
+        tally.cases += 1;
+        tally.records += made.words.len() as u64 / 4;
+        match judge_all(&made, stream, &mut side) {
+            Ok((verdict, full)) => tally.add(&verdict, &full),
+            Err(message) => {
+                tally.differences += 1;
+                if first.is_none() {
+                    let shrunk = shrink(&made.words, |words| {
+                        let smaller = Case { words: words.to_vec(), expected: None };
+                        judge_all(&smaller, stream, &mut side).is_err()
+                    });
+                    first = Some(Difference { index, message, shrunk });
+                }
+            }
+        }
+    }
+    (tally, first)
+}
+
+impl Tally {
+    fn add(&mut self, verdict: &Verdict, full: &[u64]) {
+        match verdict.outcome {
+            Seen::Compared => self.compared += 1,
+            Seen::Panicked => self.panics += 1,
+            Seen::Inexpressible => self.inexpressible += 1,
+            Seen::Oversized => {
+                self.oversized += 1;
+                return;
+            }
+            Seen::NotForTheRust => {}
+        }
+        self.rows[verdict.row as usize] += 1;
+        for &error in &verdict.errors {
+            self.errors[error as usize] += 1;
+        }
+        self.lengths += full.len() as u64;
+        for &area in full.iter().filter(|&&area| area != 0) {
+            self.full[area as usize - 1] += 1;
+        }
+    }
+
+    pub fn print(&self) {
+        println!("cases {}, records {}", self.cases, self.records);
+        println!("compared with the Rust {}", self.compared);
+        println!("delivered {}", self.rows[0]);
+        for row in 2..=8 {
+            println!("refused by row {row}: {}", self.rows[row]);
+        }
+        let errors: Vec<String> = (1..12).map(|n| format!("{n}: {}", self.errors[n])).collect();
+        println!("errors listed, by number: {}", errors.join(", "));
+        println!("panics of emit_return {}", self.panics);
+        println!("`this` numbered as `main`, not for the Rust {}", self.inexpressible);
+        println!("more than {} code entries, not for the Rust {}", MAX_CODE / ENTRY_WORDS[0], self.oversized);
+        let full: Vec<String> = self.full.iter().enumerate().map(|(i, n)| format!("{}: {n}", i + 1)).collect();
+        println!("lengths tried {}, row 9 by area: {}", self.lengths, full.join(", "));
+        println!("differences {}", self.differences);
+    }
+}
+
+/// Makes words smaller for as long as they still differ.
+pub fn shrink(start: &[u64], mut differs: impl FnMut(&[u64]) -> bool) -> Vec<u64> {
+    let mut best = start.to_vec();
+    loop {
+        let before = best.len();
+        best = match trees(&best) {
+            Some(nodes) => shrink_trees(nodes, &mut differs),
+            None => shrink_records(best, &mut differs),
+        };
+        if best.len() >= before {
+            return best;
+        }
+    }
+}
+
+/// One pass: takes nodes out, alone and in pairs, or puts a child in its parent's place.
+fn shrink_trees(mut nodes: Vec<Node>, differs: &mut impl FnMut(&[u64]) -> bool) -> Vec<u64> {
+    let mut path: Vec<usize> = vec![0];
+    loop {
+        let mut changed = false;
+        for edit in 0..4 {
+            let mut smaller = nodes.clone();
+            if edit_at(&mut smaller, &path, edit) && differs(&flatten(&smaller)) {
+                nodes = smaller;
+                changed = true;
+                break;
+            }
+        }
+        if !changed && !advance(&nodes, &mut path) || !exists(&nodes, &path) && !retreat(&nodes, &mut path) {
+            return flatten(&nodes);
+        }
+    }
+}
+
+fn list_at<'a>(nodes: &'a mut Vec<Node>, path: &[usize]) -> &'a mut Vec<Node> {
+    let mut list = nodes;
+    for &child in &path[..path.len() - 1] {
+        list = &mut list[child].children;
+    }
+    list
+}
+
+fn edit_at(nodes: &mut Vec<Node>, path: &[usize], edit: usize) -> bool {
+    let place = path[path.len() - 1];
+    let list = list_at(nodes, path);
+    match edit {
+        0 if place < list.len() => drop(list.remove(place)),
+        1 if place + 1 < list.len() => drop(list.drain(place..place + 2)),
+        2 | 3 if place < list.len() => {
+            let children = &list[place].children;
+            let Some(child) = (if edit == 2 { children.first() } else { children.last() }) else { return false };
+            list[place] = child.clone();
+        }
+        _ => return false,
+    }
+    true
+}
+
+fn exists(nodes: &[Node], path: &[usize]) -> bool {
+    let mut list = nodes;
+    for (depth, &child) in path.iter().enumerate() {
+        let Some(node) = list.get(child) else { return false };
+        if depth + 1 == path.len() {
+            return true;
+        }
+        list = &node.children;
+    }
+    false
+}
+
+/// To the next node in record order.
+fn advance(nodes: &[Node], path: &mut Vec<usize>) -> bool {
+    path.push(0);
+    if exists(nodes, path) {
+        return true;
+    }
+    path.pop();
+    *path.last_mut().expect("a path is never empty") += 1;
+    exists(nodes, path) || retreat(nodes, path)
+}
+
+/// Up and on, after the last of a list.
+fn retreat(nodes: &[Node], path: &mut Vec<usize>) -> bool {
+    while path.len() > 1 {
+        path.pop();
+        *path.last_mut().expect("a path is never empty") += 1;
+        if exists(nodes, path) {
+            return true;
+        }
+    }
+    false
+}
+
+/// For words whose spans do not nest: takes out runs of records, from long to short.
+fn shrink_records(best: Vec<u64>, differs: &mut impl FnMut(&[u64]) -> bool) -> Vec<u64> {
+    let rest: Vec<u64> = best[best.len() / 4 * 4..].to_vec();
+    let mut list = records(&best);
+    let mut length = list.len();
+    while length > 0 {
+        let mut at = 0;
+        while at + length <= list.len() {
+            let mut smaller = list.clone();
+            smaller.drain(at..at + length);
+            if differs(&[words(&smaller), rest.clone()].concat()) {
+                list = smaller;
+            } else {
+                at += length;
+            }
+        }
+        length /= 2;
+    }
+    [words(&list), rest].concat()
+}

@@ -1,0 +1,152 @@
+//! Bundles broken on purpose: each tree rule, words, and the length. Where the way of breaking says
+//! which record is at fault, the case says so.
+
+use crate::generate::Case;
+use crate::random::Random;
+use crate::records::{flatten, kind, records, words, Node, MAX_TEXT, RECORD_WORDS};
+use crate::shape::check;
+
+const BAD_LENGTH: u64 = 2;
+const BAD_SHAPE: u64 = 3;
+
+pub fn damage(random: &mut Random, documents: Vec<Node>) -> Case {
+    let whole = flatten(&documents);
+    if whole.is_empty() || check(&whole).is_err() {
+        return Case { words: whole, expected: None };
+    }
+    match random.below(10) {
+        0..=3 => field(random, &whole),
+        4..=6 => tree(random, documents),
+        7 => cut(random, whole),
+        8 => shuffled(random, &whole),
+        _ => bits(random, whole),
+    }
+}
+
+/// One field of one record out of its range: that record is at fault.
+fn field(random: &mut Random, whole: &[u64]) -> Case {
+    let mut list = records(whole);
+    let at = random.index(list.len());
+    let count = list.len() as u64;
+    let r = &mut list[at];
+    let mut known = true;
+    match random.below(9) {
+        0 => r.kind = random.pick(&[0, 2, 9, 18, 19, 26, 29, 48, 50, 1 << 32, u64::MAX, 257, 295]),
+        1 => r.span = 0,
+        2 => r.span = random.pick(&[count + 1, u64::MAX, 1 << 32, u64::MAX - at as u64, (1 << 62) + r.span]),
+        3 if kind::has_no_position(r.kind) => r.position = random.pick(&[1, 65_536, u64::MAX]),
+        3 => r.position = random.pick(&[1 << 32, u64::MAX, 65_536 * 65_536 + r.position, 1 << 63]),
+        4 if kind::holds_text(r.kind) => r.value = random.pick(&[0, MAX_TEXT + 1, u64::MAX, r.value | 1 << 40]),
+        4 => {
+            let limit = match r.kind {
+                kind::BOOLEAN => 1,
+                kind::PREFIX => 2,
+                kind::INFIX => 19,
+                kind::INTEGER | kind::FLOAT => return Case { words: whole.to_vec(), expected: None },
+                _ => 0,
+            };
+            r.value = random.pick(&[limit + 1, limit + 2, u64::MAX, 1 << 32]);
+        }
+        // What follows may leave a good tree, or put another record at fault.
+        5 => {
+            known = false;
+            r.kind = random.pick(&kind::ALL);
+        }
+        6 => {
+            known = false;
+            r.span = if random.chance(500) { r.span + 1 } else { r.span - 1 };
+        }
+        7 => {
+            known = false;
+            r.value = random.below(25);
+        }
+        _ => {
+            known = false;
+            r.position = random.pick(&[0, 1, 0xFFFF_FFFF]);
+        }
+    }
+    // A span that is too long stops the parent's hop, so the record itself is at fault.
+    Case { words: words(&list), expected: known.then_some((BAD_SHAPE, at as u64)) }
+}
+
+/// A path to some node, by child numbers; the first is the document.
+fn path(random: &mut Random, documents: &[Node]) -> Vec<usize> {
+    let mut out = vec![random.index(documents.len())];
+    let mut node = &documents[out[0]];
+    while !node.children.is_empty() && random.chance(850) {
+        let child = random.index(node.children.len());
+        out.push(child);
+        node = &node.children[child];
+    }
+    out
+}
+
+fn at_path<'a>(documents: &'a mut [Node], path: &[usize]) -> &'a mut Node {
+    let mut node = &mut documents[path[0]];
+    for &child in &path[1..] {
+        node = &mut node.children[child];
+    }
+    node
+}
+
+/// The tree changed and spans made anew: children missing, too many, of another kind, out of order.
+fn tree(random: &mut Random, mut documents: Vec<Node>) -> Case {
+    let path = path(random, &documents);
+    let spare = Node::leaf(random.pick(&kind::ALL), 0, random.below(4));
+    let other_this = random.between(1, 50);
+    let action = random.below(7);
+    let (first, second) = (random.next() as usize, random.next() as usize);
+    let node = at_path(&mut documents, &path);
+    let count = node.children.len();
+    match action {
+        0 if count > 0 => drop(node.children.remove(first % count)),
+        1 => node.children.insert(first % (count + 1), spare),
+        2 if count > 0 => node.children[first % count] = spare,
+        3 if count > 1 => node.children.swap(first % count, second % count),
+        4 if count > 0 => {
+            let twin = node.children[first % count].clone();
+            node.children.insert(second % (count + 1), twin);
+        }
+        5 => {
+            let parameter = Node::leaf(kind::THIS_PARAMETER, 0, other_this);
+            node.children.insert(first % (count + 1), parameter);
+        }
+        _ => node.children.truncate(first % (count + 1)),
+    }
+    Case { words: flatten(&documents), expected: None }
+}
+
+fn cut(random: &mut Random, mut whole: Vec<u64>) -> Case {
+    if random.chance(300) {
+        let more = random.between(1, 9);
+        for _ in 0..more {
+            let word = random.pick(&[0, 1, u64::MAX, 25, 40]);
+            whole.push(word);
+        }
+    } else {
+        whole.truncate(random.index(whole.len()));
+    }
+    let odd = whole.len() % RECORD_WORDS != 0;
+    Case { words: whole, expected: odd.then_some((BAD_LENGTH, 0)) }
+}
+
+/// Records taken out, doubled or exchanged, with spans as they were.
+fn shuffled(random: &mut Random, whole: &[u64]) -> Case {
+    let mut list = records(whole);
+    let (a, b) = (random.index(list.len()), random.index(list.len()));
+    match random.below(4) {
+        0 => drop(list.remove(a)),
+        1 => list.insert(b, list[a]),
+        2 => list.swap(a, b),
+        _ => list.reverse(),
+    }
+    Case { words: words(&list), expected: None }
+}
+
+fn bits(random: &mut Random, mut whole: Vec<u64>) -> Case {
+    for _ in 0..random.between(1, 3) {
+        let at = random.index(whole.len());
+        whole[at] ^= 1 << random.pick(&[0, 1, 2, 3, 4, 5, 6, 16, 20, 31, 32, 63]);
+    }
+    Case { words: whole, expected: None }
+}

@@ -1,0 +1,14 @@
+//! The oracle: the original back end built unchanged, an independent reading of it, bundles to try
+//! both on, and their comparison. See README.md.
+
+pub mod areas;
+pub mod books;
+pub mod compare;
+pub mod damage;
+pub mod documents;
+pub mod generate;
+pub mod model;
+pub mod random;
+pub mod real;
+pub mod records;
+pub mod shape;
