@@ -3,11 +3,14 @@
 
 pub mod areas;
 pub mod books;
+pub mod columns;
 pub mod compare;
 pub mod damage;
 pub mod documents;
 pub mod generate;
+pub mod listing;
 pub mod model;
+pub mod pieces;
 pub mod random;
 pub mod real;
 pub mod records;
