@@ -14,9 +14,10 @@ pub fn damage(random: &mut Random, documents: Vec<Node>) -> Case {
     if whole.is_empty() || check(&whole).is_err() {
         return Case { words: whole, expected: None };
     }
-    match random.below(10) {
+    match random.below(12) {
         0..=3 => field(random, &whole),
         4..=6 => tree(random, documents),
+        10 | 11 => arity(random, documents),
         7 => cut(random, whole),
         8 => shuffled(random, &whole),
         _ => bits(random, whole),
@@ -114,6 +115,54 @@ fn tree(random: &mut Random, mut documents: Vec<Node>) -> Case {
         _ => node.children.truncate(first % (count + 1)),
     }
     Case { words: flatten(&documents), expected: None }
+}
+
+/// Index of the record at a path.
+fn index_of(documents: &[Node], path: &[usize]) -> u64 {
+    let mut list = documents;
+    let mut index = 0;
+    for (depth, &child) in path.iter().enumerate() {
+        index += list[..child].iter().map(Node::size).sum::<usize>() + usize::from(depth > 0);
+        list = &list[child].children;
+    }
+    index as u64
+}
+
+/// A child less than is due: the parent is at fault. A child more than there may be: that child is.
+fn arity(random: &mut Random, mut documents: Vec<Node>) -> Case {
+    let path = path(random, &documents);
+    let index = index_of(&documents, &path);
+    let more = random.chance(500);
+    let which = random.next() as usize;
+    let node = at_path(&mut documents, &path);
+    let count = node.children.len();
+    let (least, most) = match node.kind {
+        kind::APPLY | kind::INFIX | kind::INSTANCE_GET | kind::INDEX_GET => (2, 2),
+        kind::EXPRESSION | kind::PREFIX => (1, 1),
+        kind::IF => (2, 3),
+        kind::FOR => (2, usize::MAX),
+        kind::CALL => (1, usize::MAX),
+        kind::LOCAL_DEFINITION | kind::INCLUDE | kind::LOCAL => (count, usize::MAX),
+        kind::RETURN..=kind::RESCUE | kind::IDENTIFIER..=kind::BOOLEAN | kind::NAME | kind::THIS_PARAMETER => (0, 0),
+        kind::OTHER_TOKEN | kind::ABSENT => (0, 0),
+        _ => (0, usize::MAX),
+    };
+    let mut expected = None;
+    if more && most != usize::MAX {
+        node.children.truncate(most);
+        while node.children.len() < most {
+            node.children.push(Node::leaf(kind::BLOCK, 0, 0));
+        }
+        let place = index + node.size() as u64;
+        node.children.push(Node::leaf(kind::NULL, 0, 0));
+        expected = Some((BAD_SHAPE, place));
+    } else if least > 0 && count >= least {
+        // One less than due, whatever the kinds of those that stay.
+        node.children.truncate(least);
+        node.children.remove(which % least);
+        expected = Some((BAD_SHAPE, index));
+    }
+    Case { words: flatten(&documents), expected }
 }
 
 fn cut(random: &mut Random, mut whole: Vec<u64>) -> Case {

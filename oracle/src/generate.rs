@@ -26,6 +26,9 @@ pub enum Sizes {
 /// has no areas that would stop it.
 const MAX_DOUBLINGS: u32 = 7;
 
+/// Written out, since the bits of `f64::NAN` are not promised.
+const NAN: u64 = 0x7FF8_0000_0000_0000;
+
 /// What a name of a book stands for, as far as implement and apply care.
 #[derive(Clone, Copy, PartialEq, Eq)]
 enum Meaning {
@@ -165,7 +168,7 @@ impl Generator {
     fn float(&mut self) -> u64 {
         match self.random.below(6) {
             0 => self.random.next(),
-            1 => self.random.pick(&[f64::NAN.to_bits(), f64::NAN.to_bits() ^ 1 << 63, 0x7FF0_0000_0000_0001, 1 << 63]),
+            1 => self.random.pick(&[NAN, NAN | 1 << 63, 0x7FF0_0000_0000_0001, 1 << 63]),
             _ => self.random.pick(&[0.5f64, 1.0, -0.0, 0.0, f64::INFINITY, 1.35]).to_bits(),
         }
     }
@@ -201,8 +204,10 @@ impl Generator {
     /// Defines a name in the innermost scope; a repeated one is a slip.
     fn defined_name(&mut self) -> u64 {
         let mut name = self.text();
-        let scope = self.scopes.last().expect("inside a function");
-        if scope.contains(&name) && !self.slip() {
+        let scope = self.scopes.last().expect("inside a function").clone();
+        if !scope.is_empty() && self.slip() {
+            name = self.random.pick(&scope);
+        } else if scope.contains(&name) {
             name = self.fresh();
         }
         self.scopes.last_mut().expect("inside a function").push(name);
@@ -389,6 +394,12 @@ impl Generator {
                 children.push(self.name(name));
             }
         }
+        if method && self.slip() {
+            children.push(self.leaf(kind::THIS_PARAMETER, self.this));
+        }
+        if self.slip() {
+            children.push(self.unknown_operation());
+        }
         let count = self.random.pick(&[0, 1, 1, 2, 3, 4, 6]);
         // Level 1 is the document, 2 the function or the implement.
         let level = if method { 4 } else { 3 };
@@ -397,6 +408,13 @@ impl Generator {
         children.extend(body);
         self.scopes.clear();
         self.node(kind, name, children)
+    }
+
+    /// A statement that leaves a lone Pop, on which `emit_return` panics.
+    fn unknown_operation(&mut self) -> Node {
+        let parts = vec![self.leaf_expression(), self.leaf_expression()];
+        let inner = self.node(kind::INFIX, 19, parts);
+        self.node(kind::EXPRESSION, 0, vec![inner])
     }
 
     /// One statement that goes down to the deepest level allowed, with little beside the way.
@@ -565,7 +583,9 @@ impl Generator {
         let mut properties: Vec<u64> = Vec::new();
         for _ in 0..count {
             let mut property = self.text();
-            if properties.contains(&property) && !self.slip() {
+            if !properties.is_empty() && self.slip() {
+                property = self.random.pick(&properties);
+            } else if properties.contains(&property) {
                 property = self.fresh();
             }
             properties.push(property);
@@ -592,7 +612,13 @@ impl Generator {
     /// A name that stands for a model, or anything as a slip; none where there is neither.
     fn model_name(&mut self, plan: &BookPlan) -> Option<u64> {
         if self.slip() {
-            return Some(if self.random.chance(300) { self.fresh() } else { self.text() });
+            let others: Vec<u64> =
+                plan.names.iter().filter(|(_, &m)| m == Meaning::Other).map(|(&name, _)| name).collect();
+            return Some(match self.random.below(3) {
+                0 => self.fresh(),
+                1 if !others.is_empty() => self.random.pick(&others),
+                _ => self.text(),
+            });
         }
         let models: Vec<u64> = plan.names.iter().filter(|(_, &m)| m == Meaning::Model).map(|(&name, _)| name).collect();
         if models.is_empty() {
@@ -726,13 +752,45 @@ fn books(g: &mut Generator, sizes: Sizes) -> Vec<Node> {
     }
     let root = out.pop().expect("at least one book");
     g.random.shuffle(&mut out);
-    if !out.is_empty() && g.random.chance(25) {
-        let twin = out[g.random.index(out.len())].clone();
-        let place = g.random.index(out.len() + 1);
+    out.insert(0, root);
+    if g.random.chance(15) {
+        let mut twin = out[g.random.index(out.len())].clone();
+        if g.random.chance(500) {
+            twin.children.clear();
+        }
+        let place = g.random.between(1, out.len() as u64) as usize;
         out.insert(place, twin);
     }
-    out.insert(0, root);
     out
+}
+
+/// The first record at level 65, counted over the trees.
+fn first_too_deep(nodes: &[Node], level: usize, index: &mut u64) -> Option<u64> {
+    for node in nodes {
+        if level > MAX_LEVEL {
+            return Some(*index);
+        }
+        *index += 1;
+        if let Some(found) = first_too_deep(&node.children, level + 1, index) {
+            return Some(found);
+        }
+    }
+    None
+}
+
+/// What a well-made bundle answers by its depth and its file numbers alone.
+fn foretold(documents: &[Node]) -> Option<(u64, u64)> {
+    if let Some(index) = first_too_deep(documents, 1, &mut 0) {
+        return Some((4, index));
+    }
+    let mut index = 0;
+    for (number, document) in documents.iter().enumerate() {
+        if documents[..number].iter().any(|earlier| earlier.value == document.value) {
+            return Some((5, index));
+        }
+        index += document.size() as u64;
+    }
+    None
 }
 
 /// Case `index` of a seed.
@@ -753,5 +811,5 @@ pub fn case(seed: u64, index: u64, sizes: Sizes) -> Case {
     if damaged {
         return damage(&mut g.random, documents);
     }
-    Case { words: flatten(&documents), expected: None }
+    Case { words: flatten(&documents), expected: foretold(&documents) }
 }

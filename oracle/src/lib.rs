@@ -10,8 +10,11 @@ pub mod documents;
 pub mod generate;
 pub mod listing;
 pub mod model;
+#[cfg(feature = "link")]
+pub mod ours;
 pub mod pieces;
 pub mod random;
 pub mod real;
 pub mod records;
+pub mod sample;
 pub mod shape;

@@ -259,7 +259,7 @@ pub fn more() -> Vec<(&'static str, Vec<u64>)> {
                 leaf(kind::BOOLEAN, 1),
                 leaf(kind::BOOLEAN, 0),
                 leaf(kind::INTEGER, 1 << 63),
-                leaf(kind::FLOAT, f64::NAN.to_bits()),
+                leaf(kind::FLOAT, 0x7FF8_0000_0000_0000),
                 leaf(kind::STRING, 4),
                 leaf(kind::THIS, 0),
                 identifier(4),

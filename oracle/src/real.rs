@@ -314,12 +314,33 @@ impl Driven<'_> {
                 filename: Token::new(TokenValue::String(self.texts.string(*file)), Position::none()),
             }));
         }
+        let printed = cfg!(debug_assertions).then(|| self.printed_public(context));
         let probe = Document { definitions, filename: "probe".to_string() };
         compile_document(&probe, context).expect("includes give no errors");
         let program = context.to_program();
         assert_eq!(program.local_count, locals + asked.len());
         let answers = asked.into_iter().enumerate();
-        answers.filter_map(|(i, key)| program.local_values.get(&(locals + i)).map(|&c| (key, c as u64))).collect()
+        let public =
+            answers.filter_map(|(i, key)| program.local_values.get(&(locals + i)).map(|&c| (key, c as u64))).collect();
+        assert!(printed.is_none_or(|printed| printed == public), "the probe misses a public name");
+        public
+    }
+
+    /// The same as the context prints it: slower, and bound to the form of `Debug`, so that it only
+    /// confirms the probe in tests.
+    fn printed_public(&self, context: &CompilerContext) -> BTreeMap<(u64, u64), u64> {
+        let text = format!("{context:?}");
+        let mut public = BTreeMap::new();
+        for book in text.split("AssemblyState {").skip(1) {
+            let after = |label: &str| book.split_once(label).expect("a field of AssemblyState").1;
+            let index = after("index: ").split(',').next().and_then(|digits| digits.parse().ok()).expect("a number");
+            let list = after("public_indices: {").split('}').next().expect("split gives one");
+            for pair in list.split(", ").filter(|pair| !pair.is_empty()) {
+                let (name, constant) = pair.split_once(": ").expect("a name and a constant");
+                public.insert((index, self.texts.number(name.trim_matches('"'))), constant.parse().expect("a number"));
+            }
+        }
+        public
     }
 
     /// Names of context locals are kept nowhere, so they are asked for: every book is compiled again
