@@ -5,8 +5,7 @@ use crate::generate::{case, Case, Sizes};
 use crate::model::{compile, first_beyond, Run};
 use crate::random::Random;
 use crate::real::{run, Outcome};
-use crate::records::{records, trees, words, Node};
-use crate::records::flatten;
+use crate::records::{flatten, records, trees, words, Node};
 
 /// Code that the Rust, which has no areas, is still let to make.
 const MAX_CODE: usize = 4_000_000;
@@ -193,8 +192,19 @@ pub struct Difference {
     pub shrunk: Vec<u64>,
 }
 
-/// Compares cases `0..count` of a seed. Stops counting nothing; keeps the first difference, shrunk.
-pub fn compare(seed: u64, count: u64, sizes: Sizes, mut side: Option<&mut dyn Side>) -> (Tally, Option<Difference>) {
+/// Which cases to compare.
+#[derive(Clone, Copy, Debug)]
+pub struct Plan {
+    pub seed: u64,
+    pub count: u64,
+    pub sizes: Sizes,
+    /// Whether the first difference ends it, not shrunk.
+    pub stop: bool,
+}
+
+/// Compares cases `0..count` of a seed; answers the counts and the first difference, shrunk.
+pub fn compare(plan: Plan, mut side: Option<&mut dyn Side>) -> (Tally, Option<Difference>) {
+    let Plan { seed, count, sizes, stop } = plan;
     let mut tally = Tally::default();
     let mut first = None;
     for index in 0..count {
@@ -206,6 +216,9 @@ pub fn compare(seed: u64, count: u64, sizes: Sizes, mut side: Option<&mut dyn Si
             Ok((verdict, full)) => tally.add(&verdict, &full),
             Err(message) => {
                 tally.differences += 1;
+                if stop {
+                    return (tally, Some(Difference { index, message, shrunk: made.words }));
+                }
                 if first.is_none() {
                     let shrunk = shrink(&made.words, |words| {
                         let smaller = Case { words: words.to_vec(), expected: None };
@@ -259,9 +272,17 @@ impl Tally {
     }
 }
 
+/// Tries of one shrinking; the smallest found by then is good enough.
+const SHRINK_TRIES: usize = 4000;
+
 /// Makes words smaller for as long as they still differ.
 pub fn shrink(start: &[u64], mut differs: impl FnMut(&[u64]) -> bool) -> Vec<u64> {
     let mut best = start.to_vec();
+    let mut tries = 0;
+    let mut differs = |words: &[u64]| {
+        tries += 1;
+        tries <= SHRINK_TRIES && differs(words)
+    };
     loop {
         let before = best.len();
         best = match trees(&best) {
@@ -274,82 +295,68 @@ pub fn shrink(start: &[u64], mut differs: impl FnMut(&[u64]) -> bool) -> Vec<u64
     }
 }
 
-/// One pass: takes nodes out, alone and in pairs, or puts a child in its parent's place.
+/// From the documents down: takes children out in runs, then puts children in their parents' places.
 fn shrink_trees(mut nodes: Vec<Node>, differs: &mut impl FnMut(&[u64]) -> bool) -> Vec<u64> {
-    let mut path: Vec<usize> = vec![0];
+    let mut depth = 0;
     loop {
-        let mut changed = false;
-        for edit in 0..4 {
+        let parents = paths(&nodes, depth);
+        if parents.is_empty() {
+            return flatten(&nodes);
+        }
+        // Backwards, so that the paths still to come stay right.
+        for path in parents.iter().rev() {
+            take_out_runs(&mut nodes, path, differs);
+            put_up_children(&mut nodes, path, differs);
+        }
+        depth += 1;
+    }
+}
+
+/// Paths of this length to nodes that have children; the empty path is the bundle itself.
+fn paths(nodes: &[Node], length: usize) -> Vec<Vec<usize>> {
+    if length == 0 {
+        return if nodes.is_empty() { Vec::new() } else { vec![Vec::new()] };
+    }
+    let below = |(place, node): (usize, &Node)| {
+        let rest = paths(&node.children, length - 1).into_iter();
+        rest.map(move |path| [vec![place], path].concat()).collect::<Vec<_>>()
+    };
+    nodes.iter().enumerate().flat_map(below).collect()
+}
+
+fn children_at<'a>(nodes: &'a mut Vec<Node>, path: &[usize]) -> &'a mut Vec<Node> {
+    path.iter().fold(nodes, |list, &child| &mut list[child].children)
+}
+
+fn take_out_runs(nodes: &mut Vec<Node>, path: &[usize], differs: &mut impl FnMut(&[u64]) -> bool) {
+    let mut length = children_at(nodes, path).len();
+    while length > 0 {
+        let mut at = 0;
+        while at + length <= children_at(nodes, path).len() {
             let mut smaller = nodes.clone();
-            if edit_at(&mut smaller, &path, edit) && differs(&flatten(&smaller)) {
-                nodes = smaller;
-                changed = true;
+            children_at(&mut smaller, path).drain(at..at + length);
+            if differs(&flatten(&smaller)) {
+                *nodes = smaller;
+            } else {
+                at += length;
+            }
+        }
+        length /= 2;
+    }
+}
+
+fn put_up_children(nodes: &mut Vec<Node>, path: &[usize], differs: &mut impl FnMut(&[u64]) -> bool) {
+    for place in 0..children_at(nodes, path).len() {
+        let heirs = children_at(nodes, path)[place].children.clone();
+        for heir in heirs {
+            let mut smaller = nodes.clone();
+            children_at(&mut smaller, path)[place] = heir;
+            if differs(&flatten(&smaller)) {
+                *nodes = smaller;
                 break;
             }
         }
-        if !changed && !advance(&nodes, &mut path) || !exists(&nodes, &path) && !retreat(&nodes, &mut path) {
-            return flatten(&nodes);
-        }
     }
-}
-
-fn list_at<'a>(nodes: &'a mut Vec<Node>, path: &[usize]) -> &'a mut Vec<Node> {
-    let mut list = nodes;
-    for &child in &path[..path.len() - 1] {
-        list = &mut list[child].children;
-    }
-    list
-}
-
-fn edit_at(nodes: &mut Vec<Node>, path: &[usize], edit: usize) -> bool {
-    let place = path[path.len() - 1];
-    let list = list_at(nodes, path);
-    match edit {
-        0 if place < list.len() => drop(list.remove(place)),
-        1 if place + 1 < list.len() => drop(list.drain(place..place + 2)),
-        2 | 3 if place < list.len() => {
-            let children = &list[place].children;
-            let Some(child) = (if edit == 2 { children.first() } else { children.last() }) else { return false };
-            list[place] = child.clone();
-        }
-        _ => return false,
-    }
-    true
-}
-
-fn exists(nodes: &[Node], path: &[usize]) -> bool {
-    let mut list = nodes;
-    for (depth, &child) in path.iter().enumerate() {
-        let Some(node) = list.get(child) else { return false };
-        if depth + 1 == path.len() {
-            return true;
-        }
-        list = &node.children;
-    }
-    false
-}
-
-/// To the next node in record order.
-fn advance(nodes: &[Node], path: &mut Vec<usize>) -> bool {
-    path.push(0);
-    if exists(nodes, path) {
-        return true;
-    }
-    path.pop();
-    *path.last_mut().expect("a path is never empty") += 1;
-    exists(nodes, path) || retreat(nodes, path)
-}
-
-/// Up and on, after the last of a list.
-fn retreat(nodes: &[Node], path: &mut Vec<usize>) -> bool {
-    while path.len() > 1 {
-        path.pop();
-        *path.last_mut().expect("a path is never empty") += 1;
-        if exists(nodes, path) {
-            return true;
-        }
-    }
-    false
 }
 
 /// For words whose spans do not nest: takes out runs of records, from long to short.

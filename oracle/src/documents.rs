@@ -19,8 +19,14 @@ impl Texts {
     /// A bundle may number `this` as 1, which is `main`; no string is both, so the Rust can then be
     /// driven only where nothing depends on which of the two it is.
     pub fn consistent(&self, records: &[Record]) -> bool {
-        let is_function = |r: &Record| matches!(r.kind, kind::FUNCTION | kind::PUBLIC_FUNCTION);
-        self.this != Some(MAIN) || !records.iter().any(|r| is_function(r) && r.value == MAIN)
+        if self.this != Some(MAIN) {
+            return true;
+        }
+        // Only a function of a book, not a method, becomes the entry point by its name.
+        let is_main = |at: &usize| {
+            matches!(records[*at].kind, kind::FUNCTION | kind::PUBLIC_FUNCTION) && records[*at].value == MAIN
+        };
+        !documents(records).into_iter().any(|at| children(records, at).iter().any(is_main))
     }
 
     pub fn string(&self, number: u64) -> String {
@@ -40,6 +46,17 @@ impl Texts {
             _ => string.strip_prefix('t').and_then(|digits| digits.parse().ok()).expect("a string of ours"),
         }
     }
+}
+
+/// Indices of the documents of a bundle.
+fn documents(records: &[Record]) -> Vec<usize> {
+    let mut out = Vec::new();
+    let mut at = 0;
+    while at < records.len() {
+        out.push(at);
+        at += records[at].span as usize;
+    }
+    out
 }
 
 /// How positions are given to the Rust: as they are, or as the number of the record plus one, which
@@ -274,12 +291,7 @@ impl Builder<'_> {
 
     /// Every document of the bundle, in order, with its file number.
     pub fn documents(&self) -> Vec<(u64, usize, Document)> {
-        let mut out = Vec::new();
-        let mut at = 0;
-        while at < self.records.len() {
-            out.push((self.records[at].value, at, self.document(at)));
-            at += self.records[at].span as usize;
-        }
-        out
+        let places = documents(self.records).into_iter();
+        places.map(|at| (self.records[at].value, at, self.document(at))).collect()
     }
 }

@@ -1,6 +1,6 @@
 //! Commands of the oracle; see README.md.
 
-use oracle::compare::{compare, Difference, Side};
+use oracle::compare::{compare, Difference, Plan, Side};
 use oracle::generate::{case, Sizes};
 use oracle::{columns, listing, sample};
 use std::io::{Read, Write};
@@ -9,10 +9,14 @@ use std::process::ExitCode;
 use std::time::Instant;
 
 const USAGE: &str = "\
-oracle compare [--seed S] [--count N] [--large] [--ours]   the Rust, the model (and the library) over N bundles
-oracle case --seed S --index I [--large] [--column]        the words of one bundle, or its column file
-oracle listing                                             a column file on standard input, its listing out
-oracle sample                                              writes the files of sample/ anew
+oracle compare [--seed S] [--count N] [--large] [--ours] [--stop]
+    the Rust and the model (and the library) over N bundles; --stop ends at the first difference
+oracle case --seed S --index I [--large] [--column]
+    the words of one bundle, or its column file
+oracle listing
+    a column file on standard input, its listing out
+oracle sample
+    writes the files of sample/ anew
 ";
 
 /// Areas of the `listing` command, in entries; more than any column file on a screen needs.
@@ -54,11 +58,16 @@ fn report(first: &Difference) {
 }
 
 fn run_compare(arguments: &[String]) -> ExitCode {
-    let (seed, count) = (number(arguments, "--seed", 1), number(arguments, "--count", 1000));
+    let plan = Plan {
+        seed: number(arguments, "--seed", 1),
+        count: number(arguments, "--count", 1000),
+        sizes: sizes(arguments),
+        stop: has(arguments, "--stop"),
+    };
     let mut ours = has(arguments, "--ours").then(library);
     let start = Instant::now();
     let side = ours.as_mut().map(|side| &mut **side as &mut dyn Side);
-    let (tally, first) = compare(seed, count, sizes(arguments), side);
+    let (tally, first) = compare(plan, side);
     tally.print();
     println!("seconds {:.1}", start.elapsed().as_secs_f64());
     if let Some(first) = &first {

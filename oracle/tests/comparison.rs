@@ -1,7 +1,7 @@
 //! The Rust and the model over some thousand bundles, and that seeds and sample stay as they are.
 
 use oracle::areas::{AREAS, UNLIMITED};
-use oracle::compare::{compare, judge_side, lengths, shrink, Model, Side, Tally};
+use oracle::compare::{compare, judge_side, lengths, shrink, Model, Plan, Side, Tally};
 use oracle::generate::{case, Sizes};
 use oracle::model::compile;
 use oracle::random::Random;
@@ -9,7 +9,7 @@ use oracle::{areas, sample};
 use std::path::Path;
 
 fn assert_alike(seed: u64, count: u64, sizes: Sizes) -> Tally {
-    let (tally, first) = compare(seed, count, sizes, None);
+    let (tally, first) = compare(Plan { seed, count, sizes, stop: false }, None);
     if let Some(first) = first {
         panic!("case {}: {}\n{:?}", first.index, first.message, first.shrunk);
     }
