@@ -1,6 +1,7 @@
 //! The real Rust against the independent reading, bundle by bundle.
 
-use crate::areas::{answer, capacities, padded, Answer, Areas, Counts, Lengths, Reply, AREAS, ENTRY_WORDS, UNLIMITED};
+use crate::alive::alive;
+use crate::areas::{answer, area, capacities, padded, Answer, Areas, Counts, Lengths, Reply, AREAS, ENTRY_WORDS, UNLIMITED};
 use crate::generate::{case, Case, Sizes};
 use crate::model::{compile, first_beyond, Run};
 use crate::random::Random;
@@ -89,6 +90,7 @@ fn judge(case: &Case) -> Result<(Verdict, Run), String> {
     if (1..=5).contains(&row) {
         return Ok((verdict, model));
     }
+    keeps_count(&case.words, &model)?;
     let ours = answer(&model.reply, &model.areas);
     if let Answer::Refused { errors, .. } = &ours {
         verdict.errors = errors.iter().map(|error| error[0]).collect();
@@ -103,6 +105,25 @@ fn judge(case: &Case) -> Result<(Verdict, Run), String> {
         Outcome::Answer(theirs) => return Err(difference(&theirs, &ours)),
     };
     Ok((verdict, model))
+}
+
+/// What a delivery must hold by itself: totals that say how much is there, and the greatest numbers
+/// of names and breaks alive, which the Rust does not tell, as counted over the tree.
+fn keeps_count(words: &[u64], model: &Run) -> Result<(), String> {
+    if model.reply.row != 0 {
+        return Ok(());
+    }
+    for i in 0..AREAS {
+        if model.areas[i].len() as u64 != model.reply.totals[i] * ENTRY_WORDS[i] as u64 {
+            return Err(format!("area {} holds other than its total", i + 1));
+        }
+    }
+    let peaks = model.peaks();
+    let (names, breaks) = alive(words);
+    if (peaks[area::NAMES - 1], peaks[area::BREAKS - 1]) != (names, breaks) {
+        return Err(format!("names and breaks alive: {:?}, over the tree {:?}", &peaks[8..10], (names, breaks)));
+    }
+    Ok(())
 }
 
 /// The first lines in which the two answers differ.

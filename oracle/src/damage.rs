@@ -3,8 +3,9 @@
 
 use crate::generate::Case;
 use crate::random::Random;
-use crate::records::{flatten, kind, records, words, Node, MAX_TEXT, RECORD_WORDS};
+use crate::records::{flatten, kind, records, words, Node, Record, MAX_TEXT, RECORD_WORDS};
 use crate::shape::check;
+use std::collections::BTreeSet;
 
 const BAD_LENGTH: u64 = 2;
 const BAD_SHAPE: u64 = 3;
@@ -14,8 +15,9 @@ pub fn damage(random: &mut Random, documents: Vec<Node>) -> Case {
     if whole.is_empty() || check(&whole).is_err() {
         return Case { words: whole, expected: None };
     }
-    match random.below(12) {
+    match random.below(13) {
         0..=3 => field(random, &whole),
+        12 => this_number(random, &whole),
         4..=6 => tree(random, documents),
         10 | 11 => arity(random, documents),
         7 => cut(random, whole),
@@ -24,10 +26,31 @@ pub fn damage(random: &mut Random, documents: Vec<Node>) -> Case {
     }
 }
 
+/// A record of any kind that is there, rare kinds as likely as common ones.
+fn some_record(random: &mut Random, list: &[Record]) -> usize {
+    let kinds: Vec<u64> = list.iter().map(|r| r.kind).collect::<BTreeSet<_>>().into_iter().collect();
+    let kind = random.pick(&kinds);
+    let places: Vec<usize> = (0..list.len()).filter(|&at| list[at].kind == kind).collect();
+    random.pick(&places)
+}
+
+/// One of several 41s with another number: it is at fault, or the second where it is the first.
+fn this_number(random: &mut Random, whole: &[u64]) -> Case {
+    let mut list = records(whole);
+    let places: Vec<usize> = (0..list.len()).filter(|&at| list[at].kind == kind::THIS_PARAMETER).collect();
+    if places.len() < 2 {
+        return field(random, whole);
+    }
+    let which = random.index(places.len());
+    let r = &mut list[places[which]];
+    r.value = if r.value == MAX_TEXT { 1 } else { r.value + 1 };
+    Case { words: words(&list), expected: Some((BAD_SHAPE, places[which.max(1)] as u64)) }
+}
+
 /// One field of one record out of its range: that record is at fault.
 fn field(random: &mut Random, whole: &[u64]) -> Case {
     let mut list = records(whole);
-    let at = random.index(list.len());
+    let at = some_record(random, &list);
     let count = list.len() as u64;
     let r = &mut list[at];
     let mut known = true;

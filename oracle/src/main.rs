@@ -1,8 +1,8 @@
 //! Commands of the oracle; see README.md.
 
-use oracle::compare::{compare, Difference, Plan, Side};
+use oracle::compare::{compare, judge_side, Difference, Model, Plan, Side};
 use oracle::generate::{case, Sizes};
-use oracle::{columns, listing, sample};
+use oracle::{columns, hostile, listing, sample};
 use std::io::{Read, Write};
 use std::path::Path;
 use std::process::ExitCode;
@@ -15,6 +15,8 @@ oracle case --seed S --index I [--large] [--column]
     the words of one bundle, or its column file
 oracle listing
     a column file on standard input, its listing out
+oracle hostile [--ours]
+    bundles at the limits, with seconds; --ours compares the library with the model
 oracle sample
     writes the files of sample/ anew
 ";
@@ -97,6 +99,22 @@ fn run_listing() -> ExitCode {
     ExitCode::SUCCESS
 }
 
+fn run_hostile(arguments: &[String]) -> ExitCode {
+    let mut side: Box<dyn Side> = if has(arguments, "--ours") { library() } else { Box::new(Model) };
+    let mut code = ExitCode::SUCCESS;
+    for bundle in hostile::bundles() {
+        let start = Instant::now();
+        let (reply, _) = side.compile(&bundle.words, &bundle.lengths);
+        let seconds = start.elapsed().as_secs_f64();
+        println!("{}: row {}, place {}, {seconds:.2} s", bundle.name, reply.row, reply.place);
+        if let Err(message) = judge_side(&mut *side, &bundle.words, &bundle.lengths) {
+            println!("  {message}");
+            code = ExitCode::FAILURE;
+        }
+    }
+    code
+}
+
 fn run_sample() -> ExitCode {
     let folder = Path::new(env!("CARGO_MANIFEST_DIR")).join("sample");
     std::fs::create_dir_all(&folder).expect("the folder can be made");
@@ -114,6 +132,7 @@ fn main() -> ExitCode {
         Some("compare") => run_compare(&arguments),
         Some("case") => run_case(&arguments),
         Some("listing") => run_listing(),
+        Some("hostile") => run_hostile(&arguments),
         Some("sample") => run_sample(),
         _ => {
             print!("{USAGE}");

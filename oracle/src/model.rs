@@ -6,7 +6,7 @@ use crate::areas::{area, capacities, Areas, Counts, Lengths, Reply, AREAS};
 use crate::books::{children, needed, order};
 use crate::records::{kind, Record, MAIN};
 use crate::shape::{check, Refusal};
-use std::collections::HashMap;
+use std::collections::{HashMap, HashSet};
 
 const BOOK_FAULTY: u64 = 7;
 const RING: u64 = 8;
@@ -149,6 +149,8 @@ struct FunctionWork {
     instance: bool,
     depth: u64,
     names: Vec<(u64, u64)>,
+    /// Places in `names` of each name, innermost last.
+    places: HashMap<u64, Vec<usize>>,
     scopes: Vec<usize>,
     breaks: Vec<usize>,
     loops: Vec<usize>,
@@ -337,18 +339,20 @@ impl<'a> Work<'a> {
     // Names inside a function.
 
     fn find(&self, f: &FunctionWork, name: u64) -> Option<u64> {
-        f.names.iter().rev().find(|entry| entry.0 == name).map(|entry| entry.1)
+        f.places.get(&name).and_then(|places| places.last()).map(|&place| f.names[place].1)
     }
 
     /// A new local of the innermost scope; none if the scope has the name.
     fn define(&mut self, f: &mut FunctionWork, name: u64) -> Step<Option<u64>> {
         let scope = *f.scopes.last().expect("a function has a scope");
-        if f.names[scope..].iter().any(|entry| entry.0 == name) {
+        let places = f.places.entry(name).or_default();
+        if places.last().is_some_and(|&place| place >= scope) {
             return Ok(None);
         }
         self.take(area::NAMES)?;
         let local = f.locals;
         f.locals += 1;
+        places.push(f.names.len());
         f.names.push((name, local));
         Ok(Some(local))
     }
@@ -360,7 +364,9 @@ impl<'a> Work<'a> {
     fn leave(&mut self, f: &mut FunctionWork) {
         let start = f.scopes.pop().expect("a scope was entered");
         self.give(area::NAMES, f.names.len() - start);
-        f.names.truncate(start);
+        for (name, _) in f.names.drain(start..) {
+            f.places.get_mut(&name).expect("a name has places").pop();
+        }
     }
 
     // Expressions.
@@ -687,10 +693,10 @@ impl<'a> Work<'a> {
     fn model(&mut self, at: usize) -> Step<u64> {
         let name = self.records[at].value;
         let index = self.models.len() as u64;
-        let first = self.properties.len();
+        let mut known = HashSet::new();
         for property in self.children(at) {
             let text = self.records[property].value;
-            if self.properties[first..].iter().any(|entry| entry[1] == text) {
+            if !known.insert(text) {
                 self.error(error::PROPERTY_EXISTS, property)?;
             } else {
                 self.take(area::PROPERTIES)?;
@@ -716,6 +722,7 @@ impl<'a> Work<'a> {
             instance: false,
             depth: 0,
             names: Vec::new(),
+            places: HashMap::new(),
             scopes: Vec::new(),
             breaks: Vec::new(),
             loops: Vec::new(),

@@ -49,8 +49,8 @@ fn a_seed_gives_the_same_bundles() {
     assert_eq!(fingerprint(1, 10, Sizes::Large), FINGERPRINT_LARGE);
 }
 
-const FINGERPRINT_MIXED: u64 = 0;
-const FINGERPRINT_LARGE: u64 = 0;
+const FINGERPRINT_MIXED: u64 = 16_090_190_880_234_877_698;
+const FINGERPRINT_LARGE: u64 = 11_613_912_711_025_851_840;
 
 #[test]
 fn the_sample_is_current() {
