@@ -23,7 +23,11 @@ fn sources() -> PathBuf {
     let root = root.canonicalize().unwrap_or_else(|e| panic!("{}: {e}; set CLOVER_SRC", root.display()));
     // CLOVER_SRC may name the folder above the crate or the crate's own sources.
     let nested = root.join("crates/clover/src");
-    if nested.is_dir() { nested } else { root }
+    if nested.is_dir() {
+        nested
+    } else {
+        root
+    }
 }
 
 fn module(out: &mut String, file: &Path, name: &str, indent: &str) {

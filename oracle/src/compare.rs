@@ -1,7 +1,9 @@
 //! The real Rust against the independent reading, bundle by bundle.
 
 use crate::alive::alive;
-use crate::areas::{answer, area, capacities, padded, Answer, Areas, Counts, Lengths, Reply, AREAS, ENTRY_WORDS, UNLIMITED};
+use crate::areas::{
+    answer, area, capacities, padded, Answer, Areas, Counts, Lengths, Reply, AREAS, ENTRY_WORDS, UNLIMITED,
+};
 use crate::generate::{case, Case, Sizes};
 use crate::model::{compile, first_beyond, Run};
 use crate::random::Random;

@@ -238,11 +238,7 @@ impl Builder<'_> {
     fn function(&self, at: usize) -> FunctionDefinition {
         let (body, parameters): (Vec<usize>, Vec<usize>) =
             children(self.records, at).into_iter().partition(|&child| kind::is_statement(self.records[child].kind));
-        FunctionDefinition {
-            name: self.token(at),
-            parameters: self.tokens(&parameters),
-            body: self.statements(&body),
-        }
+        FunctionDefinition { name: self.token(at), parameters: self.tokens(&parameters), body: self.statements(&body) }
     }
 
     fn model(&self, at: usize) -> ModelDefinition {
@@ -275,9 +271,10 @@ impl Builder<'_> {
                 model_name: self.token(at),
                 functions: children(self.records, at).into_iter().map(|child| self.function(child)).collect(),
             }),
-            kind::APPLY => {
-                Definition::Apply(ApplyDefinition { source_model: self.token(at + 1), target_model: self.token(at + 2) })
-            }
+            kind::APPLY => Definition::Apply(ApplyDefinition {
+                source_model: self.token(at + 1),
+                target_model: self.token(at + 2),
+            }),
             other => unreachable!("kind {other} is no definition"),
         }
     }

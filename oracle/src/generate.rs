@@ -263,11 +263,8 @@ impl Generator {
             _ => self.random.pick(&[1, 2, 3, 4, 5, 11, 12, 13, 14, 15, 16, 17, 18]),
         };
         let assigns = value == 0 || (6..=10).contains(&value);
-        let left = if assigns && !self.slip() {
-            self.target(level + 1, value != 0)
-        } else {
-            self.expression(level + 1)
-        };
+        let left =
+            if assigns && !self.slip() { self.target(level + 1, value != 0) } else { self.expression(level + 1) };
         let right = self.expression(level + 1);
         self.node(kind::INFIX, value, vec![left, right])
     }

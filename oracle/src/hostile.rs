@@ -48,7 +48,8 @@ fn exact(words: &[u64]) -> Lengths {
 pub fn bundles() -> Vec<Hostile> {
     let absent = Node::leaf(kind::ABSENT, 0, 0);
     let most = MAX_RECORDS - 4;
-    let local = |count, name: fn(u64) -> u64| body(&[], vec![Node::new(kind::LOCAL, 0, 0, pairs(count, name, absent.clone()))]);
+    let local =
+        |count, name: fn(u64) -> u64| body(&[], vec![Node::new(kind::LOCAL, 0, 0, pairs(count, name, absent.clone()))]);
     let array = |values: Vec<Node>| body(&[], vec![statement(Node::new(kind::ARRAY, 0, 0, values))]);
     let integers = (0..most as u64).map(|i| leaf(kind::INTEGER, i)).collect();
     let globals = (0..most as u64).map(|i| leaf(kind::IDENTIFIER, 1 + i % MAX_TEXT)).collect();
@@ -70,6 +71,10 @@ pub fn bundles() -> Vec<Hostile> {
         listed.into_iter().map(|(name, words)| Hostile { name, lengths: exact(&words), words }).collect();
     let mut stopped = [1 << 20; 12];
     stopped[0] = 1 << 21;
-    out.push(Hostile { name: "target doubled 30 times, stopped by the code area", words: doubled(30), lengths: stopped });
+    out.push(Hostile {
+        name: "target doubled 30 times, stopped by the code area",
+        words: doubled(30),
+        lengths: stopped,
+    });
     out
 }

@@ -826,8 +826,7 @@ impl<'a> Work<'a> {
 
     fn apply(&mut self, at: usize) -> Step {
         let source = self.find_model(at + 1)?;
-        let copied: Vec<[u64; 3]> =
-            self.methods.iter().filter(|method| Some(method[0]) == source).copied().collect();
+        let copied: Vec<[u64; 3]> = self.methods.iter().filter(|method| Some(method[0]) == source).copied().collect();
         if let Some(model) = self.find_model(at + 2)? {
             for [_, name, function] in copied {
                 self.set_method(model, name, function)?;

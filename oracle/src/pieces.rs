@@ -146,11 +146,16 @@ pub fn more() -> Vec<(&'static str, Vec<u64>)> {
     let broken_if = || if_node(identifier(4), vec![vec![break_node()]]);
     let this = |text| Node::leaf(kind::THIS_PARAMETER, at(1, 12), text);
     let method = |name, children| Node::new(kind::FUNCTION, at(2, 10), name, children);
-    let lib = || document(9, vec![
-        named(kind::PUBLIC_MODEL, 20, vec![name_node(30), name_node(31)]),
-        named(kind::IMPLEMENT, 20, vec![method(1, vec![this(7), name_node(4)]), method(40, vec![])]),
-        named(kind::PUBLIC_FUNCTION, 21, vec![statement(identifier(20))]),
-    ]);
+    let lib = || {
+        document(
+            9,
+            vec![
+                named(kind::PUBLIC_MODEL, 20, vec![name_node(30), name_node(31)]),
+                named(kind::IMPLEMENT, 20, vec![method(1, vec![this(7), name_node(4)]), method(40, vec![])]),
+                named(kind::PUBLIC_FUNCTION, 21, vec![statement(identifier(20))]),
+            ],
+        )
+    };
     vec![
         ("no records", Vec::new()),
         ("odd length", vec![1, 1, 0]),
@@ -160,124 +165,226 @@ pub fn more() -> Vec<(&'static str, Vec<u64>)> {
         ("text 1,048,575", with_text(MAX_TEXT)),
         ("text 1,048,576", with_text(MAX_TEXT + 1)),
         ("self-include", bundle(vec![document(2, vec![include(2, &[])])])),
-        ("ring of two and one behind", bundle(vec![
-            document(5, vec![include(4, &[])]),
-            document(4, vec![include(3, &[])]),
-            document(3, vec![include(4, &[])]),
-        ])),
+        (
+            "ring of two and one behind",
+            bundle(vec![
+                document(5, vec![include(4, &[])]),
+                document(4, vec![include(3, &[])]),
+                document(3, vec![include(4, &[])]),
+            ]),
+        ),
         ("book twice", bundle(vec![document(2, vec![]), document(3, vec![]), document(3, vec![])])),
         ("books missing", bundle(vec![document(2, vec![include(9, &[]), include(8, &[])])])),
-        ("include below a definition is not needed", bundle(vec![
-            document(2, vec![function(3, &[], vec![]), include(8, &[(5, 6)])]),
-        ])),
+        (
+            "include below a definition is not needed",
+            bundle(vec![document(2, vec![function(3, &[], vec![]), include(8, &[(5, 6)])])]),
+        ),
         ("break in an enumerable", one(for_node(5, broken_if(), vec![]))),
-        ("break in a condition", one(for_node(5, identifier(4), vec![
-            statement(if_node(broken_if(), vec![vec![leaf(kind::RETURN, 0)], vec![break_node()]])),
-        ]))),
-        ("break of an inner and an outer loop", one(for_node(5, identifier(4), vec![
-            for_node(6, identifier(5), vec![breaks()]),
-            breaks(),
-        ]))),
+        (
+            "break in a condition",
+            one(for_node(
+                5,
+                identifier(4),
+                vec![statement(if_node(broken_if(), vec![vec![leaf(kind::RETURN, 0)], vec![break_node()]]))],
+            )),
+        ),
+        (
+            "break of an inner and an outer loop",
+            one(for_node(5, identifier(4), vec![for_node(6, identifier(5), vec![breaks()]), breaks()])),
+        ),
         ("return at the end of a loop", one(for_node(5, identifier(4), vec![leaf(kind::RETURN, 0)]))),
         ("local reads itself", one(locals(kind::LOCAL, vec![(5, identifier(5)), (6, absent())]))),
-        ("shadowed in a block", one(statement(if_node(identifier(4), vec![
-            vec![locals(kind::LOCAL, vec![(4, leaf(kind::INTEGER, u64::MAX))]), statement(identifier(4))],
-            vec![statement(identifier(4))],
-        ])))),
-        ("compound to nested gets", one(statement(infix(7,
-            get(kind::INSTANCE_GET, get(kind::INDEX_GET, identifier(4), leaf(kind::INTEGER, 0)), leaf(kind::STRING, 8)),
-            infix(10, get(kind::INDEX_GET, identifier(9), identifier(4)), identifier(9)),
-        )))),
+        (
+            "shadowed in a block",
+            one(statement(if_node(
+                identifier(4),
+                vec![
+                    vec![locals(kind::LOCAL, vec![(4, leaf(kind::INTEGER, u64::MAX))]), statement(identifier(4))],
+                    vec![statement(identifier(4))],
+                ],
+            ))),
+        ),
+        (
+            "compound to nested gets",
+            one(statement(infix(
+                7,
+                get(
+                    kind::INSTANCE_GET,
+                    get(kind::INDEX_GET, identifier(4), leaf(kind::INTEGER, 0)),
+                    leaf(kind::STRING, 8),
+                ),
+                infix(10, get(kind::INDEX_GET, identifier(9), identifier(4)), identifier(9)),
+            ))),
+        ),
         ("compound target doubled", doubled(3)),
         ("if with an empty false part", one(statement(if_node(identifier(4), vec![vec![], vec![]])))),
         ("rescue after statements", one(leaf(kind::RESCUE, 0))),
-        ("models and methods through aliases", bundle(vec![
-            document(3, vec![
-                include(9, &[(20, 22), (21, 21), (99, 23)]),
-                named(kind::MODEL, 24, vec![]),
-                apply(22, 24),
-                named(kind::IMPLEMENT, 24, vec![method(40, vec![this(7)]), method(40, vec![])]),
-                named(kind::IMPLEMENT, 22, vec![method(41, vec![])]),
-                apply(24, 22),
-                function(1, &[], vec![statement(identifier(23)), statement(identifier(21))]),
+        (
+            "models and methods through aliases",
+            bundle(vec![
+                document(
+                    3,
+                    vec![
+                        include(9, &[(20, 22), (21, 21), (99, 23)]),
+                        named(kind::MODEL, 24, vec![]),
+                        apply(22, 24),
+                        named(kind::IMPLEMENT, 24, vec![method(40, vec![this(7)]), method(40, vec![])]),
+                        named(kind::IMPLEMENT, 22, vec![method(41, vec![])]),
+                        apply(24, 22),
+                        function(1, &[], vec![statement(identifier(23)), statement(identifier(21))]),
+                    ],
+                ),
+                lib(),
             ]),
-            lib(),
-        ])),
-        ("late include of a compiled book", bundle(vec![
-            document(3, vec![include(9, &[]), function(1, &[], vec![]), include(9, &[(21, 21), (20, 22)])]),
-            lib(),
-        ])),
-        ("repeated top-level names", bundle(vec![document(2, vec![
-            locals(kind::LOCAL_DEFINITION, vec![(5, absent()), (5, leaf(kind::STRING, 6)), (6, leaf(kind::INTEGER, 3))]),
-            function(1, &[], vec![]),
-            function(1, &[], vec![statement(identifier(5)), statement(identifier(7))]),
-            named(kind::PUBLIC_FUNCTION, 5, vec![]),
-            named(kind::PUBLIC_FUNCTION, 5, vec![leaf(kind::RETURN, 0)]),
-            function(7, &[], vec![statement(identifier(7))]),
-        ])])),
+        ),
+        (
+            "late include of a compiled book",
+            bundle(vec![
+                document(3, vec![include(9, &[]), function(1, &[], vec![]), include(9, &[(21, 21), (20, 22)])]),
+                lib(),
+            ]),
+        ),
+        (
+            "repeated top-level names",
+            bundle(vec![document(
+                2,
+                vec![
+                    locals(
+                        kind::LOCAL_DEFINITION,
+                        vec![(5, absent()), (5, leaf(kind::STRING, 6)), (6, leaf(kind::INTEGER, 3))],
+                    ),
+                    function(1, &[], vec![]),
+                    function(1, &[], vec![statement(identifier(5)), statement(identifier(7))]),
+                    named(kind::PUBLIC_FUNCTION, 5, vec![]),
+                    named(kind::PUBLIC_FUNCTION, 5, vec![leaf(kind::RETURN, 0)]),
+                    function(7, &[], vec![statement(identifier(7))]),
+                ],
+            )]),
+        ),
         ("string and global share a constant", one(statement(infix(0, identifier(8), leaf(kind::STRING, 8))))),
         ("error 1", one(locals(kind::LOCAL, vec![(4, leaf(kind::INTEGER, 99))]))),
         ("error 2 of a compound", one(statement(infix(6, leaf(kind::INTEGER, 1), identifier(4))))),
-        ("error 3 of an infix, where the Rust panics", body(&[], vec![statement(infix(19, identifier(4), identifier(5)))])),
+        (
+            "error 3 of an infix, where the Rust panics",
+            body(&[], vec![statement(infix(19, identifier(4), identifier(5)))]),
+        ),
         ("error 3 of a prefix", one(statement(Node::new(kind::PREFIX, at(2, 5), 2, vec![identifier(4)])))),
-        ("error 5 three times", bundle(vec![document(2, vec![locals(kind::LOCAL_DEFINITION, vec![
-            (4, identifier(5)),
-            (5, leaf(kind::STRING, 6)),
-            (6, leaf(kind::OTHER_TOKEN, 0)),
-        ])])])),
+        (
+            "error 5 three times",
+            bundle(vec![document(
+                2,
+                vec![locals(
+                    kind::LOCAL_DEFINITION,
+                    vec![(4, identifier(5)), (5, leaf(kind::STRING, 6)), (6, leaf(kind::OTHER_TOKEN, 0))],
+                )],
+            )]),
+        ),
         ("error 6", bundle(vec![document(2, vec![named(kind::MODEL, 3, vec![name_node(4), name_node(4)])])])),
         ("error 7", body(&[4, 4], vec![])),
         ("error 7 of this", bundle(vec![document(2, vec![method(3, vec![this(7), name_node(7)])])])),
-        ("error 8, then the public name is null", bundle(vec![document(2, vec![
-            named(kind::PUBLIC_FUNCTION, 3, vec![this(7)]),
-            named(kind::IMPLEMENT, 3, vec![]),
-        ])])),
+        (
+            "error 8, then the public name is null",
+            bundle(vec![document(
+                2,
+                vec![named(kind::PUBLIC_FUNCTION, 3, vec![this(7)]), named(kind::IMPLEMENT, 3, vec![])],
+            )]),
+        ),
         ("errors 9 and 10 of an apply", bundle(vec![document(2, vec![function(3, &[], vec![]), apply(4, 3)])])),
-        ("errors of the first faulty book only", bundle(vec![
-            document(7, vec![include(5, &[]), include(6, &[])]),
-            document(6, vec![named(kind::IMPLEMENT, 3, vec![])]),
-            document(5, vec![apply(3, 4)]),
-        ])),
-        ("this numbered as main", bundle(vec![document(2, vec![
-            named(kind::MODEL, 3, vec![]),
-            named(kind::IMPLEMENT, 3, vec![method(5, vec![this(1), statement(identifier(1))])]),
-        ])])),
-        ("two numbers of this", bundle(vec![document(2, vec![
-            named(kind::MODEL, 3, vec![]),
-            named(kind::IMPLEMENT, 3, vec![method(5, vec![this(7)]), method(6, vec![this(8)])]),
-        ])])),
-        ("an infix with one child is at fault itself", vec![
-            1, 4, 0, 2, 14, 3, 0, 3, 25, 2, 0, 0, 39, 1, 0, 0,
-        ]),
-        ("a child too many is at fault itself", vec![
-            1, 5, 0, 2, 14, 4, 0, 3, 25, 3, 0, 0, 32, 1, 0, 0, 32, 1, 0, 0,
-        ]),
-        ("all operators", body(&[4], (0..19).map(|value| statement(infix(value, identifier(4), leaf(kind::NULL, 0)))).collect())),
-        ("all leaves", body(&[4], vec![
-            statement(Node::new(kind::ARRAY, at(4, 4), 0, vec![
-                leaf(kind::NULL, 0),
-                leaf(kind::BOOLEAN, 1),
-                leaf(kind::BOOLEAN, 0),
-                leaf(kind::INTEGER, 1 << 63),
-                leaf(kind::FLOAT, 0x7FF8_0000_0000_0000),
-                leaf(kind::STRING, 4),
-                leaf(kind::THIS, 0),
-                identifier(4),
-            ])),
-            statement(Node::new(kind::CALL, at(4, 5), 0, vec![identifier(6), leaf(kind::NULL, 0)])),
-            statement(Node::new(kind::PREFIX, at(4, 6), 0, vec![get(kind::INSTANCE_GET, identifier(4), leaf(kind::STRING, 9))])),
-            statement(infix(0, get(kind::INSTANCE_GET, identifier(4), leaf(kind::STRING, 9)), leaf(kind::NULL, 0))),
-        ])),
-        ("context locals read and set", bundle(vec![document(2, vec![
-            locals(kind::LOCAL_DEFINITION, vec![
-                (5, leaf(kind::NULL, 0)),
-                (6, leaf(kind::BOOLEAN, 1)),
-                (7, leaf(kind::BOOLEAN, 0)),
-                (8, leaf(kind::INTEGER, 5)),
-                (9, leaf(kind::FLOAT, 5)),
-                (10, absent()),
+        (
+            "errors of the first faulty book only",
+            bundle(vec![
+                document(7, vec![include(5, &[]), include(6, &[])]),
+                document(6, vec![named(kind::IMPLEMENT, 3, vec![])]),
+                document(5, vec![apply(3, 4)]),
             ]),
-            function(3, &[], vec![statement(infix(0, identifier(5), identifier(9))), statement(infix(8, identifier(6), identifier(11)))]),
-        ])])),
+        ),
+        (
+            "this numbered as main",
+            bundle(vec![document(
+                2,
+                vec![
+                    named(kind::MODEL, 3, vec![]),
+                    named(kind::IMPLEMENT, 3, vec![method(5, vec![this(1), statement(identifier(1))])]),
+                ],
+            )]),
+        ),
+        (
+            "two numbers of this",
+            bundle(vec![document(
+                2,
+                vec![
+                    named(kind::MODEL, 3, vec![]),
+                    named(kind::IMPLEMENT, 3, vec![method(5, vec![this(7)]), method(6, vec![this(8)])]),
+                ],
+            )]),
+        ),
+        ("an infix with one child is at fault itself", vec![1, 4, 0, 2, 14, 3, 0, 3, 25, 2, 0, 0, 39, 1, 0, 0]),
+        ("a child too many is at fault itself", vec![1, 5, 0, 2, 14, 4, 0, 3, 25, 3, 0, 0, 32, 1, 0, 0, 32, 1, 0, 0]),
+        (
+            "all operators",
+            body(&[4], (0..19).map(|value| statement(infix(value, identifier(4), leaf(kind::NULL, 0)))).collect()),
+        ),
+        (
+            "all leaves",
+            body(
+                &[4],
+                vec![
+                    statement(Node::new(
+                        kind::ARRAY,
+                        at(4, 4),
+                        0,
+                        vec![
+                            leaf(kind::NULL, 0),
+                            leaf(kind::BOOLEAN, 1),
+                            leaf(kind::BOOLEAN, 0),
+                            leaf(kind::INTEGER, 1 << 63),
+                            leaf(kind::FLOAT, 0x7FF8_0000_0000_0000),
+                            leaf(kind::STRING, 4),
+                            leaf(kind::THIS, 0),
+                            identifier(4),
+                        ],
+                    )),
+                    statement(Node::new(kind::CALL, at(4, 5), 0, vec![identifier(6), leaf(kind::NULL, 0)])),
+                    statement(Node::new(
+                        kind::PREFIX,
+                        at(4, 6),
+                        0,
+                        vec![get(kind::INSTANCE_GET, identifier(4), leaf(kind::STRING, 9))],
+                    )),
+                    statement(infix(
+                        0,
+                        get(kind::INSTANCE_GET, identifier(4), leaf(kind::STRING, 9)),
+                        leaf(kind::NULL, 0),
+                    )),
+                ],
+            ),
+        ),
+        (
+            "context locals read and set",
+            bundle(vec![document(
+                2,
+                vec![
+                    locals(
+                        kind::LOCAL_DEFINITION,
+                        vec![
+                            (5, leaf(kind::NULL, 0)),
+                            (6, leaf(kind::BOOLEAN, 1)),
+                            (7, leaf(kind::BOOLEAN, 0)),
+                            (8, leaf(kind::INTEGER, 5)),
+                            (9, leaf(kind::FLOAT, 5)),
+                            (10, absent()),
+                        ],
+                    ),
+                    function(
+                        3,
+                        &[],
+                        vec![
+                            statement(infix(0, identifier(5), identifier(9))),
+                            statement(infix(8, identifier(6), identifier(11))),
+                        ],
+                    ),
+                ],
+            )]),
+        ),
     ]
 }

@@ -113,7 +113,11 @@ impl Driven<'_> {
     }
 
     /// Loads what the solver asks for; answers row 6's place where a book is missing.
-    fn load(&self, solver: &mut DependencySolver, documents: &BTreeMap<u64, (usize, Document)>) -> Result<Vec<u64>, u64> {
+    fn load(
+        &self,
+        solver: &mut DependencySolver,
+        documents: &BTreeMap<u64, (usize, Document)>,
+    ) -> Result<Vec<u64>, u64> {
         let root = self.records[0].value;
         let mut loaded = vec![root];
         let mut missing = BTreeSet::new();
@@ -137,12 +141,18 @@ impl Driven<'_> {
 
     /// 01's order, checked at each choice against the solver, which takes any ready book.
     fn plan(&self, positions: Positions) -> Result<Planned, Answer> {
-        let documents: BTreeMap<u64, (usize, Document)> =
-            self.builder(positions).documents().into_iter().map(|(file, at, document)| (file, (at, document))).collect();
+        let documents: BTreeMap<u64, (usize, Document)> = self
+            .builder(positions)
+            .documents()
+            .into_iter()
+            .map(|(file, at, document)| (file, (at, document)))
+            .collect();
         let mut solver = DependencySolver::new();
-        let loaded = self
-            .load(&mut solver, &documents)
-            .map_err(|place| Answer::Refused { row: BOOK_MISSING, place, errors: Vec::new() })?;
+        let loaded = self.load(&mut solver, &documents).map_err(|place| Answer::Refused {
+            row: BOOK_MISSING,
+            place,
+            errors: Vec::new(),
+        })?;
         let mut open: BTreeMap<u64, BTreeSet<u64>> = BTreeMap::new();
         for file in loaded {
             let names = documents[&file].1.get_dependencies();
@@ -293,9 +303,9 @@ impl Driven<'_> {
     /// and some that can not.
     fn names_in(&self, at: usize) -> Vec<u64> {
         let end = at + self.records[at].span as usize;
-        let names = self.records[at + 1..end].iter().filter(|r| {
-            matches!(r.kind, kind::NAME | kind::THIS_PARAMETER | kind::MODEL..=kind::IMPLEMENT)
-        });
+        let names = self.records[at + 1..end]
+            .iter()
+            .filter(|r| matches!(r.kind, kind::NAME | kind::THIS_PARAMETER | kind::MODEL..=kind::IMPLEMENT));
         names.map(|r| r.value).collect::<BTreeSet<_>>().into_iter().collect()
     }
 

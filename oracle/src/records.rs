@@ -47,9 +47,40 @@ pub mod kind {
     pub const ABSENT: u64 = 49;
 
     pub const ALL: [u64; 34] = [
-        DOCUMENT, LOCAL_DEFINITION, INCLUDE, MODEL, PUBLIC_MODEL, FUNCTION, PUBLIC_FUNCTION, IMPLEMENT, APPLY, LOCAL,
-        RETURN, BREAK, RESCUE, FOR, EXPRESSION, IDENTIFIER, THIS, NULL, INTEGER, FLOAT, STRING, BOOLEAN, ARRAY,
-        PREFIX, INFIX, NAME, THIS_PARAMETER, IF, BLOCK, CALL, INSTANCE_GET, INDEX_GET, OTHER_TOKEN, ABSENT,
+        DOCUMENT,
+        LOCAL_DEFINITION,
+        INCLUDE,
+        MODEL,
+        PUBLIC_MODEL,
+        FUNCTION,
+        PUBLIC_FUNCTION,
+        IMPLEMENT,
+        APPLY,
+        LOCAL,
+        RETURN,
+        BREAK,
+        RESCUE,
+        FOR,
+        EXPRESSION,
+        IDENTIFIER,
+        THIS,
+        NULL,
+        INTEGER,
+        FLOAT,
+        STRING,
+        BOOLEAN,
+        ARRAY,
+        PREFIX,
+        INFIX,
+        NAME,
+        THIS_PARAMETER,
+        IF,
+        BLOCK,
+        CALL,
+        INSTANCE_GET,
+        INDEX_GET,
+        OTHER_TOKEN,
+        ABSENT,
     ];
 
     pub fn is_statement(kind: u64) -> bool {
@@ -81,10 +112,7 @@ pub struct Record {
 
 /// The records of a word list; a rest shorter than a record is left out.
 pub fn records(words: &[u64]) -> Vec<Record> {
-    words
-        .chunks_exact(RECORD_WORDS)
-        .map(|w| Record { kind: w[0], span: w[1], position: w[2], value: w[3] })
-        .collect()
+    words.chunks_exact(RECORD_WORDS).map(|w| Record { kind: w[0], span: w[1], position: w[2], value: w[3] }).collect()
 }
 
 pub fn words(records: &[Record]) -> Vec<u64> {

@@ -130,7 +130,8 @@ fn add_pieces(collected: &mut Collected) {
         let tailed: Lengths = std::array::from_fn(|i| exact[i] + ENTRY_WORDS[i] - 1);
         collected.add(&format!("{name}, exactly"), &words, &tailed);
         let is_wide = matches!(name, "l the example" | "models and methods through aliases" | "h for with break")
-            || name.starts_with("error 6") || name.starts_with("ring");
+            || name.starts_with("error 6")
+            || name.starts_with("ring");
         for i in (0..AREAS).filter(|&i| is_wide && exact[i] > 0) {
             let mut short = tailed;
             short[i] = exact[i] - 1;
@@ -246,8 +247,17 @@ fn line_cases() -> Vec<String> {
 /// Column files with what `listing` prints for them; lengths that no piece comes near.
 fn add_listings(files: &mut Files) {
     let plenty: Lengths = std::array::from_fn(|i| 1000 * ENTRY_WORDS[i]);
-    let chosen = ["models and methods through aliases", "ring of two and one behind", "error 5 three times", "book twice",
-        "repeated top-level names", "all leaves", "no records", "level 65", "context locals read and set"];
+    let chosen = [
+        "models and methods through aliases",
+        "ring of two and one behind",
+        "error 5 three times",
+        "book twice",
+        "repeated top-level names",
+        "all leaves",
+        "no records",
+        "level 65",
+        "context locals read and set",
+    ];
     let more = pieces::more().into_iter().filter(|(name, _)| chosen.contains(name));
     for (number, (_, words)) in (1..).zip(pieces::bench().into_iter().chain(more)) {
         let file = lines(&words);
@@ -262,8 +272,10 @@ fn add_listings(files: &mut Files) {
 
 /// Features that the sample must show, whatever it was drawn from.
 fn demanded() -> Vec<String> {
-    let opcodes = [0x01, 0x02, 0x05, 0x06, 0x07, 0x08, 0x0C, 0x0D, 0x11, 0x12, 0x13, 0x14, 0x15, 0x16, 0x21, 0x22, 0x23, 0x32,
-        0x36, 0x51, 0x52, 0x56, 0x57];
+    let opcodes = [
+        0x01, 0x02, 0x05, 0x06, 0x07, 0x08, 0x0C, 0x0D, 0x11, 0x12, 0x13, 0x14, 0x15, 0x16, 0x21, 0x22, 0x23, 0x32,
+        0x36, 0x51, 0x52, 0x56, 0x57,
+    ];
     let mut out: Vec<String> = opcodes.iter().map(|code| format!("opcode {code}")).collect();
     out.extend([0, 2, 3, 4, 5, 6, 7, 8, 9].map(|row| format!("row {row}")));
     out.extend((1..=AREAS).map(|area| format!("full {area}")));

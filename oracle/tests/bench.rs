@@ -195,7 +195,8 @@ fn rows_5_to_8() {
     assert_eq!(row(&piece("self-include")), (8, 1));
     assert_eq!(row(&piece("ring of two and one behind")), (8, 3));
     assert_eq!(row(&piece("errors of the first faulty book only")), (7, 5));
-    for name in ["books missing", "self-include", "ring of two and one behind", "errors of the first faulty book only"] {
+    for name in ["books missing", "self-include", "ring of two and one behind", "errors of the first faulty book only"]
+    {
         real(&piece(name));
     }
 }

@@ -122,9 +122,8 @@ fn a_wrong_side_is_caught_and_the_right_one_is_not() {
 #[test]
 fn shrinking_keeps_what_matters() {
     // The smallest bundle with a loop: document, function, for, name, enumerable.
-    let with_loop = |words: &[u64]| {
-        compile(words, &UNLIMITED).reply.row == 0 && words.chunks(4).any(|record| record[0] == 24)
-    };
+    let with_loop =
+        |words: &[u64]| compile(words, &UNLIMITED).reply.row == 0 && words.chunks(4).any(|record| record[0] == 24);
     let found = (0..500).map(|index| case(9, index, Sizes::Mixed).words).find(|words| with_loop(words));
     assert_eq!(shrink(&found.expect("some bundle has a loop"), with_loop).len() / 4, 5);
 }

@@ -119,3 +119,23 @@ fn this_numbered_as_main_has_no_string() {
     let reply = compile(&words, &UNLIMITED).reply;
     assert_eq!((reply.row, reply.entry_point), (0, 1));
 }
+
+/// The first constants and the books' entries come before any book, ready or not; row 6 before them.
+#[test]
+fn row_9_may_come_before_row_8() {
+    let itself = flatten(&[document(2, vec![Node::leaf(kind::INCLUDE, 0, 2)])]);
+    let missing = flatten(&[document(2, vec![Node::leaf(kind::INCLUDE, 0, 3)])]);
+    let mut lengths = [0; 12];
+    let row = |words: &[u64], lengths| {
+        let reply = compile(words, lengths).reply;
+        (reply.row, reply.place)
+    };
+    assert_eq!(row(&itself, &lengths), (9, 2));
+    assert_eq!(row(&missing, &lengths), (6, 3));
+    lengths[1] = 9;
+    assert_eq!(row(&itself, &lengths), (9, 12));
+    lengths[11] = 1;
+    assert_eq!(row(&itself, &lengths), (9, 11));
+    lengths[10] = 4;
+    assert_eq!(row(&itself, &lengths), (8, 1));
+}
