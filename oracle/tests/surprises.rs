@@ -1,6 +1,6 @@
 //! Where the Rust does what one may not expect; docs/ORACLE-NOTES.md tells them. From the real Rust.
 
-use oracle::areas::{answer, Answer, Delivery, UNLIMITED};
+use oracle::areas::{answer, Answer, Delivery, Lengths, UNLIMITED};
 use oracle::model::{compile, instruction};
 use oracle::pieces::{body, document, function, identifier, if_node, infix, leaf, name_node, statement};
 use oracle::real::{run, Outcome};
@@ -126,10 +126,10 @@ fn row_9_may_come_before_row_8() {
     let itself = flatten(&[document(2, vec![Node::leaf(kind::INCLUDE, 0, 2)])]);
     let missing = flatten(&[document(2, vec![Node::leaf(kind::INCLUDE, 0, 3)])]);
     let mut lengths = [0; 12];
-    let row = |words: &[u64], lengths| {
+    fn row(words: &[u64], lengths: &Lengths) -> (u64, u64) {
         let reply = compile(words, lengths).reply;
         (reply.row, reply.place)
-    };
+    }
     assert_eq!(row(&itself, &lengths), (9, 2));
     assert_eq!(row(&missing, &lengths), (6, 3));
     lengths[1] = 9;
