@@ -100,6 +100,7 @@ fn judge(case: &Case) -> Result<(Verdict, Run), String> {
     let theirs = run(&records(&case.words));
     verdict.outcome = match theirs {
         Outcome::Inexpressible => Seen::Inexpressible,
+        Outcome::Unforeseen(message) => return Err(format!("unforeseen: {message}")),
         Outcome::Panicked if model.panics => Seen::Panicked,
         Outcome::Panicked => return Err("the Rust panics, the model does not expect it".to_string()),
         Outcome::Answer(_) if model.panics => return Err("the model expects a panic of the Rust".to_string()),

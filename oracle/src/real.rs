@@ -29,6 +29,8 @@ pub enum Outcome {
     Panicked,
     /// The bundle numbers `this` as `main`, and something depends on it.
     Inexpressible,
+    /// Any other panic, a stub's or a check's: always a difference.
+    Unforeseen(String),
 }
 
 const MESSAGES: [&str; 10] = [
@@ -83,7 +85,7 @@ pub fn run(records: &[Record]) -> Outcome {
     match quiet(|| driven.answer()) {
         Ok(answer) => Outcome::Answer(answer),
         Err(message) if is_the_known_panic(&message) => Outcome::Panicked,
-        Err(message) => panic!("the Rust panicked elsewhere: {message}"),
+        Err(message) => Outcome::Unforeseen(message),
     }
 }
 

@@ -55,6 +55,7 @@ fn assert_shared(name: &str, words: &[u64]) {
         Outcome::Answer(theirs) => assert_eq!(theirs, answer(&model.reply, &model.areas), "{name}"),
         Outcome::Panicked => assert!(model.panics, "{name}"),
         Outcome::Inexpressible => {}
+        Outcome::Unforeseen(message) => panic!("{name}: {message}"),
     }
 }
 

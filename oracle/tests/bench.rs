@@ -218,7 +218,7 @@ fn every_small_piece_is_the_same_from_both() {
             match run(&records(&words)) {
                 Outcome::Answer(theirs) => assert_eq!(theirs, answer(&model.reply, &model.areas), "{name}"),
                 Outcome::Panicked => assert!(model.panics, "{name}"),
-                Outcome::Inexpressible => panic!("{name}"),
+                other => panic!("{name}: {other:?}"),
             }
         }
     }
