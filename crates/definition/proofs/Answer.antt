@@ -87,37 +87,42 @@ shape-row w =
     cond-case ShapeRow (not (eqb (length w % 4) 0) || ltb mostRecords (recordsOf w)) (λ x. refused 0 row-2)
     (λ x. only-case ShapeRow (not (eqb (recordsOf w) 0)) (recordsOf w) (refused 0 row-3) (λ n. shape-row-by (walk-row (n - 0) w 1 1 0 0 n)))
 
--- how an answer onto a context comes about: refused before or above the work, or by the work's ending
-pub data Reached (c : Context) : Answer → Type 0 where
-  Before : {r : ℕ} (p : ℕ) → Row r [] → Reached c (Refusal r p [])
-  Ended : (numbers : List ℕ) (ds : List Document) (e : Ending) → compileNeeded numbers ds c .ending ≡ e → Reached c (answerEnding e)
+-- how an answer onto a context comes about: refused before or above the work, or by the ending of a work on fine words whose notes row 9 lets pass
+pub data Reached (c : Context) (w lengths : List ℕ) : Answer → Type 0 where
+  Before : {r : ℕ} (p : ℕ) → Row r [] → Reached c w lengths (Refusal r p [])
+  Ended : (numbers : List ℕ) → shapeOf w ≡ Fine → firstOver (limitsOf lengths) (compileNeeded numbers (documentsOf w) c .uses) ≡ none
+      → (e : Ending) → compileNeeded numbers (documentsOf w) c .ending ≡ e → Reached c w lengths (answerEnding e)
 
-pub reached : (c : Context) (w lengths : List ℕ) → Reached c (answerFrom c w lengths)
+pub reached : (c : Context) (w lengths : List ℕ) → Reached c w lengths (answerFrom c w lengths)
 unfolding answerFrom answerBundle
-reached c w lengths = shape (shape-row w)
+reached c w lengths = shape (shape-row w) refl
   where
     l : Limits
     l = limitsOf lengths
 
-    worked : (o : Option ℕ) (numbers : List ℕ) (ds : List Document) → Reached c (answerBy o (compileNeeded numbers ds c .ending))
-    worked (some area) numbers ds = Before area row-9
-    worked none numbers ds = Ended numbers ds _ refl
+    worked : shapeOf w ≡ Fine → (numbers : List ℕ) (o : Option ℕ) → firstOver l (compileNeeded numbers (documentsOf w) c .uses) ≡ o
+        → Reached c w lengths (answerBy o (compileNeeded numbers (documentsOf w) c .ending))
+    worked f numbers (some area) q = Before area row-9
+    worked f numbers none q = Ended numbers f q _ refl
 
-    needing : (o : Option ℕ) (numbers : List ℕ) (ds : List Document) → Reached c (answerNeeded o numbers ds l c)
-    needing (some n) numbers ds = Before n row-6
-    needing none numbers ds = worked (firstOver l (compileNeeded numbers ds c .uses)) numbers ds
+    needing : shapeOf w ≡ Fine → (numbers : List ℕ) (o : Option ℕ) → Reached c w lengths (answerNeeded o numbers (documentsOf w) l c)
+    needing f numbers (some n) = Before n row-6
+    needing f numbers none = worked f numbers (firstOver l (compileNeeded numbers (documentsOf w) c .uses)) refl
 
-    documents : (ds : List Document) → Reached c (answerDocuments ds l c)
-    documents [] = Before 0 row-3
-    documents (root ∷ others) = needing (missing (root ∷ others) (needed (filesOf (c .assemblies)) root others)) _ (root ∷ others)
+    documents : shapeOf w ≡ Fine → (ds : List Document) → documentsOf w ≡ ds → Reached c w lengths (answerDocuments ds l c)
+    documents f [] q = Before 0 row-3
+    documents f (root ∷ others) q =
+        let numbers = needed (filesOf (c .assemblies)) root others in
+        let o = missing (root ∷ others) numbers in
+        subst (λ ds. Reached c w lengths (answerNeeded o numbers ds l c)) q (needing f numbers o)
 
-    doubles : (o : Option ℕ) → Reached c (answerTwice o w l c)
-    doubles (some i) = Before i row-5
-    doubles none = documents (documentsOf w)
+    doubles : shapeOf w ≡ Fine → (o : Option ℕ) → Reached c w lengths (answerTwice o w l c)
+    doubles f (some i) = Before i row-5
+    doubles f none = documents f (documentsOf w) refl
 
-    shape : {s : Shape} → ShapeRow s → Reached c (answerShape s w l c)
-    shape (refused p h) = Before p h
-    shape fine = doubles (twice [] w (documentPlaces w))
+    shape : {s : Shape} → ShapeRow s → shapeOf w ≡ s → Reached c w lengths (answerShape s w l c)
+    shape (refused p h) q = Before p h
+    shape fine q = doubles q (twice [] w (documentPlaces w))
 
 -- refusals
 
@@ -135,9 +140,9 @@ refusals c w lengths r p es q = go (reached c w lengths) q
     ending (Faulty n l) e = move {p′ = n} (row-7 l) e
     ending (Ring l) e = move {p′ = length l} (row-8 (ringErrors l)) e
 
-    go : {a : Answer} → Reached c a → a ≡ Refusal r p es → Row r es
+    go : {a : Answer} → Reached c w lengths a → a ≡ Refusal r p es → Row r es
     go (Before p′ h) e = move {p′ = p′} h e
-    go (Ended numbers ds x y) e = ending x e
+    go (Ended numbers f q x y) e = ending x e
 
 -- every area is zeros, but the errors' where there are some
 pub refusal-zero : (lengths : List ℕ) (r p : ℕ) (es : List Error) (area : ℕ) → length lengths ≡ 13 → area < 13 → (area ≢ errorsArea) ⊎ (es ≡ [])
@@ -152,17 +157,27 @@ refusal-zero lengths r p es area n h which = filled-at lengths (errorTables es) 
 
 -- deliveries
 
-pub delivery-safe : (c₀ : Context) (w lengths : List ℕ) (c : Context) → answerFrom c₀ w lengths ≡ Delivery c → ProgramSafe c₀ → ProgramSafe c
-delivery-safe c₀ w lengths c q safe = go (reached c₀ w lengths) q
-  where
-    ending : (numbers : List ℕ) (ds : List Document) (e : Ending) → compileNeeded numbers ds c₀ .ending ≡ e → answerEnding e ≡ Delivery c → ProgramSafe c
-    ending numbers ds (Delivered d) y e = let z : d ≡ c = cc in worked-safe numbers ds c₀ c safe (rw z at y)
-    ending numbers ds (Faulty n l) y e = absurd (let z : _≡_ {A = ℕ} 0 1 = cc in omega arith)
-    ending numbers ds (Ring l) y e = absurd (let z : _≡_ {A = ℕ} 0 1 = cc in omega arith)
+-- the work of which c is the delivery
+pub record Delivering (c₀ : Context) (w lengths : List ℕ) (c : Context) : Type 0 where
+  pub fine : shapeOf w ≡ Fine
+  pub numbers : List ℕ
+  pub within : firstOver (limitsOf lengths) (compileNeeded numbers (documentsOf w) c₀ .uses) ≡ none
+  pub ends : compileNeeded numbers (documentsOf w) c₀ .ending ≡ Delivered c
 
-    go : {a : Answer} → Reached c₀ a → a ≡ Delivery c → ProgramSafe c
-    go (Before p h) e = absurd (let z : _≡_ {A = ℕ} 0 1 = cc in omega arith)
-    go (Ended numbers ds x y) e = ending numbers ds x y e
+pub delivering : (c₀ : Context) (w lengths : List ℕ) (c : Context) → answerFrom c₀ w lengths ≡ Delivery c → Delivering c₀ w lengths c
+delivering c₀ w lengths c q = go (reached c₀ w lengths) q
+  where
+    ending : (e : Ending) → answerEnding e ≡ Delivery c → e ≡ Delivered c
+    ending (Delivered d) x = cc
+    ending (Faulty n l) x = absurd (let z : _≡_ {A = ℕ} 0 1 = cc in omega arith)
+    ending (Ring l) x = absurd (let z : _≡_ {A = ℕ} 0 1 = cc in omega arith)
+
+    go : {a : Answer} → Reached c₀ w lengths a → a ≡ Delivery c → Delivering c₀ w lengths c
+    go (Before p h) x = absurd (let z : _≡_ {A = ℕ} 0 1 = cc in omega arith)
+    go (Ended numbers f o e y) x = record { fine = f; numbers = numbers; within = o; ends = y ∙ ending e x }
+
+pub delivery-safe : (c₀ : Context) (w lengths : List ℕ) (c : Context) → answerFrom c₀ w lengths ≡ Delivery c → ProgramSafe c₀ → ProgramSafe c
+delivery-safe c₀ w lengths c q safe = let d = delivering c₀ w lengths c q in worked-safe (d .numbers) (documentsOf w) c₀ c safe (d .ends)
 
 -- demand 3, onto a standing context and onto a fresh one
 pub standing-keeps : (c₀ : Context) (w lengths : List ℕ) (c : Context) → length lengths ≡ 13 → answerFrom c₀ w lengths ≡ Delivery c → ProgramSafe c₀

@@ -8,3 +8,12 @@ pub mod Cells
 pub mod FunctionCode
 pub mod Keeps
 pub mod Answer
+pub mod Uses
+pub mod Limits
+pub mod Room
+pub mod Operands
+pub mod Counts
+pub mod Tables
+pub mod Delivery
+pub mod Scopes
+pub mod Steady

@@ -1,4 +1,4 @@
--- Rows 2, 3 and 4 of 01: one pass over the records, in their order (DESIGN 5.1). At one record row 3 comes first, then row 4
+-- Rows 2, 3 and 4 of 01: one pass over the records, in their order (docs/DECISIONS.md, 1). At one record row 3 comes first, then row 4
 use Prim.Native.Nat.{ℕ, zero, suc, _+_, _-_, _/_, _%_}
 use mathlib.Core.Bool.{Bool, true, false, cond, not, _&&_, _||_}
 use mathlib.Core.List.{List}
@@ -21,7 +21,7 @@ onlyIf true other by n = by n
 onlyIf false other by n = other
 
 -- 'its children, span after span, fill it exactly while another is due': the children from j to e, from slot s on. A span of 0 or past the end
--- stops the hop, a kind that may not stand there does not (DESIGN 5.1). The fuel e - j is enough
+-- stops the hop, a kind that may not stand there does not (docs/DECISIONS.md, 1). The fuel e - j is enough
 unfoldable pub lacksBy : ℕ → List ℕ → ℕ → ℕ → ℕ → Bool
 lacksBy zero w s j e = isDue s
 lacksBy (suc n) w s j e =
@@ -30,7 +30,7 @@ lacksBy (suc n) w s j e =
 abbrev pub lacksOf : List ℕ → ℕ → ℕ → ℕ → Bool
 lacksOf w s j e = lacksBy (e - j) w s j e
 
--- '41 .. one number in the whole bundle; a record with another breaks these rules'. t is the number met so far, 0 if there was none (DESIGN 5.3)
+-- '41 .. one number in the whole bundle; a record with another breaks these rules'. t is the number met so far, 0 if there was none (docs/DECISIONS.md, 3)
 unfoldable pub sameThis : ℕ → ℕ → ℕ → Bool
 sameThis k v t = not (eqb k 41) || (eqb t 0 || eqb t v)
 

@@ -43,7 +43,7 @@ expressions = 30 ∷ 31 ∷ 32 ∷ 33 ∷ 34 ∷ 35 ∷ 36 ∷ 37 ∷ 38 ∷ 39 
 abbrev pub nothing : Slot
 nothing = slot [] 0 false
 
--- 01, 'Children in order', read as in DESIGN 5.2. Pairs repeat, none at all is allowed; a child is due in the middle of a pair and where 01 names one
+-- 01, 'Children in order', read as in docs/DECISIONS.md, 2. Pairs repeat, none at all is allowed; a child is due in the middle of a pair and where 01 names one
 abbrev pub slots : List Slot
 slots =
     nothing ∷  -- 0: nothing more
@@ -87,7 +87,7 @@ anything = 18446744073709551615
 abbrev pub unused : Rule
 unused = rule 0 0 0 0
 
--- by kind. 'Kinds 1, 10, 17, 20, 25, 42, 43, 49 have position 0'; values as in DESIGN 5.3, 'unused values are 0'
+-- by kind. 'Kinds 1, 10, 17, 20, 25, 42, 43, 49 have position 0'; values as in docs/DECISIONS.md, 3, 'unused values are 0'
 abbrev pub rules : List Rule
 rules =
     unused ∷
@@ -160,7 +160,7 @@ mayStand s k = has k (slotOf s .kinds)
 unfoldable pub goesOn : ℕ → ℕ → Bool
 goesOn s k = eqb s 8 && (eqb k 40 || eqb k 41)
 
--- the slot after a child of a kind, which need not be one that may stand there (DESIGN 5.1)
+-- the slot after a child of a kind, which need not be one that may stand there (docs/DECISIONS.md, 1)
 unfoldable pub slotAfter : ℕ → ℕ → ℕ
 slotAfter s k = cond (goesOn s k) s (slotOf s .next)
 

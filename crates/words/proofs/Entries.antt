@@ -1,13 +1,27 @@
 -- Entries of an area: where they lie, what a reader reads and what a run of stores leaves. One law for every width. Assumes nothing.
 use Prim.Native.Nat.{ℕ, suc, _+_, _-_, _*_, _/_, _≤_, _<_}
-use native.Mathlib.Nat.{mul-le-mul-left, div-zero}
+use native.Mathlib.Nat.{mul-le-mul-left, mul-le-mul-right, suc-mul, div-zero}
 use native.Mathlib.Numerals.{add-one}
 use native.Mathlib.Omega.{arith}
 use mathlib.Core.Path.{_≡_, refl, sym, ap, _∙_}
 use mathlib.Core.Bool.{Bool, true, false, cond}
 use mathlib.Core.List.{List, [], _∷_, _++_, append-assoc, append-nil}
-use lib.ListN.{length, take, drop, getD, set, replicate, length-set, List·getD-eq-default}
-use lib.Seq.{sets, sets-eq, paste, paste-zero, paste-suc, length-paste, take-all, take-suc-set, append-snoc}
+use lib.ListN.{length, take, drop, getD, set, replicate, length-set, List·getD-eq-default, List·getD-append}
+use lib.Seq.{
+  sets,
+  sets-eq,
+  paste,
+  paste-zero,
+  paste-suc,
+  length-paste,
+  take-all,
+  take-suc-set,
+  append-snoc,
+  length-take-le,
+  getD-append-add,
+  getD-take,
+  getD-drop,
+}
 use lib.Dec.{leb, ltb}
 use borrow.Author.Tests.{lt-ltb, le-ltb, le-leb, lt-leb}
 use Rattle.words.specs.Areas.{entryWord, entryField, entryFits, setEntry, writeEntry, Written, wordFits, Patched, clearedFrom, entriesIn, mostEntries}
@@ -151,3 +165,36 @@ entries-few n width h = omega arith
 
 pub entries-most : (n width : ℕ) → mostEntries ≤ n / width → mostEntries ≡ entriesIn width n
 entries-most n width h = omega arith
+
+-- what is read after an entry was written: its own words, and every other entry's as it was
+module _ (w e : List ℕ) (width i : ℕ) (long : length e ≡ width) (room : i * width + width ≤ length w) where
+  front : length (take (i * width) w) ≡ i * width
+  front = length-take-le (i * width) w (omega arith)
+
+  pub entry-same : (k : ℕ) → k < width → entryWord width i k (setEntry width i e w) ≡ getD e k 0
+  entry-same k h =
+      ap (λ (n : ℕ). getD (setEntry width i e w) (n + k) 0) (sym front)
+      ∙ getD-append-add (take (i * width) w) (e ++ drop (i * width + width) w) k 0
+      ∙ List·getD-append e (drop (i * width + width) w) 0 k (omega arith)
+
+  word-before : (p : ℕ) → p < i * width → getD (setEntry width i e w) p 0 ≡ getD w p 0
+  word-before p h =
+      List·getD-append (take (i * width) w) (e ++ drop (i * width + width) w) 0 p (omega (arith, front)) ∙ getD-take (i * width) w p 0 h
+
+  word-after : (q : ℕ) → getD (setEntry width i e w) (i * width + (width + q)) 0 ≡ getD w (i * width + width + q) 0
+  word-after q =
+      ap (λ (n : ℕ). getD (setEntry width i e w) (n + (width + q)) 0) (sym front)
+      ∙ getD-append-add (take (i * width) w) (e ++ drop (i * width + width) w) (width + q) 0
+      ∙ ap (λ (n : ℕ). getD (e ++ drop (i * width + width) w) (n + q) 0) (sym long)
+      ∙ getD-append-add e (drop (i * width + width) w) q 0
+      ∙ getD-drop (i * width + width) w q 0
+
+  pub entry-below : (j k : ℕ) → j < i → k < width → entryWord width j k (setEntry width i e w) ≡ entryWord width j k w
+  entry-below j k h l = word-before (j * width + k) (omega (arith, suc-mul j width, mul-le-mul-right width h))
+
+  pub entry-above : (j k : ℕ) → i < j → k < width → entryWord width j k (setEntry width i e w) ≡ entryWord width j k w
+  entry-above j k h l =
+      let q : ℕ = j * width + k - (i * width + width) in
+      let n : j * width + k ≡ i * width + (width + q) = omega (arith, suc-mul i width, mul-le-mul-right width h) in
+      let m : i * width + width + q ≡ j * width + k = omega (arith, suc-mul i width, mul-le-mul-right width h) in
+      ap (λ (p : ℕ). getD (setEntry width i e w) p 0) n ∙ word-after q ∙ ap (λ (p : ℕ). getD w p 0) m

@@ -1,6 +1,7 @@
 pub mod Areas
 pub mod Ast
 pub mod Codes
+pub mod Constants
 pub mod Object
 pub mod Opcode
 pub mod Program

@@ -159,13 +159,13 @@ pub fn write1(area: &mut [u64], i: usize, a: u64) -> bool
     false
 }
 
-pub fn write2(area: &mut [u64], i: usize, a: u64, b: u64) -> bool
-    ensures { λ r. ⌜ Written 2 i (a ∷ b ∷ []) (now (area .entry)) (now (area .exit)) r ⌝ }
+pub fn write2(area: &mut [u64], i: usize, first: u64, second: u64) -> bool
+    ensures { λ r. ⌜ Written 2 i (first ∷ second ∷ []) (now (area .entry)) (now (area .exit)) r ⌝ }
 {
     if i < area.len() / 2 {
         let at = i * 2;
-        area[at] = a;
-        area[at + 1] = b;
+        area[at] = first;
+        area[at + 1] = second;
         return true;
     }
     false

@@ -84,6 +84,54 @@ pub const OTHER_TOKEN: u64 = 47;
 
 pub const ABSENT: u64 = 49;
 
+// Values of a prefix.
+pub const PREFIX_MINUS: u64 = 0;
+
+pub const PREFIX_NOT: u64 = 1;
+
+pub const PREFIX_OTHER: u64 = 2;
+
+// Values of an infix.
+pub const INFIX_ASSIGN: u64 = 0;
+
+pub const INFIX_PLUS: u64 = 1;
+
+pub const INFIX_MINUS: u64 = 2;
+
+pub const INFIX_STAR: u64 = 3;
+
+pub const INFIX_SLASH: u64 = 4;
+
+pub const INFIX_PERCENT: u64 = 5;
+
+pub const INFIX_PLUS_ASSIGN: u64 = 6;
+
+pub const INFIX_MINUS_ASSIGN: u64 = 7;
+
+pub const INFIX_STAR_ASSIGN: u64 = 8;
+
+pub const INFIX_SLASH_ASSIGN: u64 = 9;
+
+pub const INFIX_PERCENT_ASSIGN: u64 = 10;
+
+pub const INFIX_EQUAL: u64 = 11;
+
+pub const INFIX_NOT_EQUAL: u64 = 12;
+
+pub const INFIX_GREATER: u64 = 13;
+
+pub const INFIX_LESS: u64 = 14;
+
+pub const INFIX_GREATER_EQUAL: u64 = 15;
+
+pub const INFIX_LESS_EQUAL: u64 = 16;
+
+pub const INFIX_AND: u64 = 17;
+
+pub const INFIX_OR: u64 = 18;
+
+pub const INFIX_OTHER: u64 = 19;
+
 // Limits of rows 2 and 4, and the greatest number of a text.
 pub const MOST_RECORDS: usize = 1048576;
 

@@ -14,11 +14,12 @@ slice-write-area-2 : tie.Need-slice-write-area-2
 slice-write-area-2 c = simp length-set (omega arith)
 
 returns : tie.Need-returns
-returns c = written (c .before .args .area .now) _ (c .before .args .a ∷ c .before .args .b ∷ []) 2 (c .before .args .i) (lit< tt) (lit≤ tt) (omega arith)
-    (stored (c .before .args .a) (c .before .args .b ∷ []) (c .before .args .area .now) (c .before .args .i * 2) (omega arith))
+returns c = written (c .before .args .area .now) _ (c .before .args .first ∷ c .before .args .second ∷ []) 2 (c .before .args .i) (lit< tt) (lit≤ tt)
+    (omega arith)
+    (stored (c .before .args .first) (c .before .args .second ∷ []) (c .before .args .area .now) (c .before .args .i * 2) (omega arith))
 
 returns-2 : tie.Need-returns-2
-returns-2 c = write-past (c .before .args .area .now) (c .before .args .a ∷ c .before .args .b ∷ []) 2 (c .before .args .i) (omega arith)
+returns-2 c = write-past (c .before .args .area .now) (c .before .args .first ∷ c .before .args .second ∷ []) 2 (c .before .args .i) (omega arith)
 
 pub write2-spec : {M : Type 1} → statement M
 write2-spec =

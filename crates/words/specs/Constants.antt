@@ -1,0 +1,68 @@
+-- The types that `src/object.rt` declares for `runtime/object.rs`: the kind and value (01, 'Emission') that each case of `Constant` is in the pool, and
+-- the constant that a pair of words is. An integer is its two's complement. Every NaN pattern is one NaN, whose own pattern is that of `toBits`
+use Prim.Native.Nat.{ℕ, suc, _-_, _^_}
+use mathlib.Core.Bool.{Bool, true, false, cond}
+use lib.IntN.{ℤ, pos, negsuc}
+use lib.Ieee.{binary64, ofBits, toBits}
+use lib.Dec.{eqb, ltb}
+use Rattle.words.specs.Object.{constantOf, nullKind, booleanKind, integerKind, floatKind, textKind, modelKind, functionKind}
+use Rattle.words.specs.Object as pool
+use Rattle.words.specs.declared.object.Constant.{Constant}
+use Rattle.words.specs.declared.object.Constant.the-variants.{Null, Boolean, Integer, Float, Text, Model, Function}
+use Rattle.words.specs.declared.object.Decoded.{Decoded}
+use Rattle.words.specs.declared.object.Decoded.the-variants.{Is, NoConstant}
+
+-- two's complement in 64 bits, both ways
+abbrev pub wordOfInteger : ℤ → ℕ
+wordOfInteger (pos n) = n
+wordOfInteger (negsuc n) = 2 ^ 64 - suc n
+
+abbrev pub pickInteger : Bool → ℤ → ℤ → ℤ
+pickInteger true a b = a
+pickInteger false a b = b
+
+abbrev pub integerOfWord : ℕ → ℤ
+integerOfWord w = pickInteger (ltb w (2 ^ 63)) (pos w) (negsuc (2 ^ 64 - suc w))
+
+-- the kind and the value of each case
+abbrev pub kindOf : Constant → ℕ
+kindOf Null = nullKind
+kindOf (Boolean b) = booleanKind
+kindOf (Integer n) = integerKind
+kindOf (Float x) = floatKind
+kindOf (Text t) = textKind
+kindOf (Model m) = modelKind
+kindOf (Function f) = functionKind
+
+abbrev pub valueOf : Constant → ℕ
+valueOf Null = 0
+valueOf (Boolean b) = cond b 1 0
+valueOf (Integer n) = wordOfInteger n
+valueOf (Float x) = toBits binary64 x
+valueOf (Text t) = t
+valueOf (Model m) = m
+valueOf (Function f) = f
+
+-- the constant as the pool keeps it
+abbrev pub encodeOf : Constant → pool.Constant
+encodeOf c = constantOf (kindOf c) (valueOf c)
+
+abbrev pub pick : Bool → Decoded → Decoded → Decoded
+pick true a b = a
+pick false a b = b
+
+-- the kinds that hold a number: a text's, a model's or a function's
+unfoldable pub numberedOf : ℕ → ℕ → Decoded
+numberedOf k n =
+    pick (eqb k textKind) (Is (Text n))
+    (pick (eqb k modelKind) (Is (Model n))
+    (pick (eqb k functionKind) (Is (Function n)) NoConstant))
+
+-- the constant that a kind and a value are; such a number has 32 bits
+unfoldable pub decodeOf : ℕ → ℕ → Decoded
+decodeOf k v =
+    pick (eqb k nullKind) (pick (eqb v 0) (Is Null) NoConstant)
+    (pick (eqb k booleanKind) (pick (eqb v 0) (Is (Boolean false)) (pick (eqb v 1) (Is (Boolean true)) NoConstant))
+    (pick (eqb k integerKind) (Is (Integer (integerOfWord v)))
+    (pick (eqb k floatKind) (Is (Float (ofBits binary64 v)))
+    (pick (ltb v (2 ^ 32)) (numberedOf k v) NoConstant))))

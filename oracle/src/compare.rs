@@ -1,0 +1,405 @@
+//! The real Rust against the independent reading, bundle by bundle.
+
+use crate::alive::alive;
+use crate::areas::{
+    answer, area, capacities, padded, Answer, Areas, Counts, Lengths, Reply, AREAS, ENTRY_WORDS, UNLIMITED,
+};
+use crate::generate::{case, Case, Sizes};
+use crate::model::{compile, first_beyond, Run};
+use crate::random::Random;
+use crate::real::{run, Outcome};
+use crate::records::{flatten, records, trees, words, Node};
+
+/// Code that the Rust, which has no areas, is still let to make.
+const MAX_CODE: usize = 4_000_000;
+
+const AREA_FULL: u64 = 9;
+
+/// A side that answers a bundle for areas of given lengths. The model is one; the static library of
+/// this repository is to be another (src/ours.rs).
+pub trait Side {
+    fn name(&self) -> &str;
+    fn compile(&mut self, words: &[u64], lengths: &Lengths) -> (Reply, Areas);
+}
+
+pub struct Model;
+
+impl Side for Model {
+    fn name(&self) -> &str {
+        "model"
+    }
+
+    fn compile(&mut self, words: &[u64], lengths: &Lengths) -> (Reply, Areas) {
+        let run = compile(words, lengths);
+        (run.reply, padded(&run.areas, lengths))
+    }
+}
+
+#[derive(Clone, Debug, Default, PartialEq, Eq)]
+pub struct Tally {
+    pub cases: u64,
+    pub records: u64,
+    /// Cases that the Rust answered (delivered, or rows 6 to 8).
+    pub compared: u64,
+    pub rows: [u64; 10],
+    pub panics: u64,
+    /// `this` numbered as `main`.
+    pub inexpressible: u64,
+    /// Too much code for the Rust to be let loose on.
+    pub oversized: u64,
+    pub errors: [u64; 12],
+    /// Lengths tried on the model, and row 9 by area.
+    pub lengths: u64,
+    pub full: [u64; AREAS],
+    pub differences: u64,
+}
+
+/// What one case showed.
+struct Verdict {
+    row: u64,
+    outcome: Seen,
+    errors: Vec<u64>,
+}
+
+enum Seen {
+    Compared,
+    Panicked,
+    Inexpressible,
+    Oversized,
+    NotForTheRust,
+}
+
+fn limited() -> Lengths {
+    let mut lengths = UNLIMITED;
+    lengths[0] = MAX_CODE;
+    lengths
+}
+
+/// Compares the model's answer without limits to the Rust's.
+fn judge(case: &Case) -> Result<(Verdict, Run), String> {
+    let model = compile(&case.words, &limited());
+    let row = model.reply.row;
+    if let Some(expected) = case.expected {
+        if expected != (row, model.reply.place) {
+            return Err(format!("broken to answer {expected:?}, the model answers {:?}", model.reply));
+        }
+    }
+    let mut verdict = Verdict { row, outcome: Seen::NotForTheRust, errors: Vec::new() };
+    if row == AREA_FULL {
+        verdict.outcome = Seen::Oversized;
+        return Ok((verdict, model));
+    }
+    if (1..=5).contains(&row) {
+        return Ok((verdict, model));
+    }
+    keeps_count(&case.words, &model)?;
+    let ours = answer(&model.reply, &model.areas);
+    if let Answer::Refused { errors, .. } = &ours {
+        verdict.errors = errors.iter().map(|error| error[0]).collect();
+    }
+    let theirs = run(&records(&case.words));
+    verdict.outcome = match theirs {
+        Outcome::Inexpressible => Seen::Inexpressible,
+        Outcome::Unforeseen(message) => return Err(format!("unforeseen: {message}")),
+        Outcome::Panicked if model.panics => Seen::Panicked,
+        Outcome::Panicked => return Err("the Rust panics, the model does not expect it".to_string()),
+        Outcome::Answer(_) if model.panics => return Err("the model expects a panic of the Rust".to_string()),
+        Outcome::Answer(theirs) if theirs == ours => Seen::Compared,
+        Outcome::Answer(theirs) => return Err(difference(&theirs, &ours)),
+    };
+    Ok((verdict, model))
+}
+
+/// What a delivery must hold by itself: totals that say how much is there, and the greatest numbers
+/// of names and breaks alive, which the Rust does not tell, as counted over the tree.
+fn keeps_count(words: &[u64], model: &Run) -> Result<(), String> {
+    if model.reply.row != 0 {
+        return Ok(());
+    }
+    for i in 0..AREAS {
+        if model.areas[i].len() as u64 != model.reply.totals[i] * ENTRY_WORDS[i] as u64 {
+            return Err(format!("area {} holds other than its total", i + 1));
+        }
+    }
+    let peaks = model.peaks();
+    let (names, breaks) = alive(words);
+    if (peaks[area::NAMES - 1], peaks[area::BREAKS - 1]) != (names, breaks) {
+        return Err(format!("names and breaks alive: {:?}, over the tree {:?}", &peaks[8..10], (names, breaks)));
+    }
+    Ok(())
+}
+
+/// The first lines in which the two answers differ.
+fn difference(theirs: &Answer, ours: &Answer) -> String {
+    let (left, right) = (format!("{theirs:#?}"), format!("{ours:#?}"));
+    let unequal = left.lines().zip(right.lines()).enumerate().find(|(_, (a, b))| a != b);
+    match unequal {
+        Some((line, (a, b))) => format!("line {line} of the answer: the Rust {a:?}, the model {b:?}"),
+        None => format!("answers of {} and {} lines", left.lines().count(), right.lines().count()),
+    }
+}
+
+/// Lengths in words worth trying: exactly what is needed, one entry short, small, and plenty.
+pub fn lengths(random: &mut Random, peaks: &Counts) -> Lengths {
+    let style = random.below(4);
+    let short = random.index(AREAS);
+    std::array::from_fn(|i| {
+        let peak = peaks[i] as usize;
+        let entries = match style {
+            0 => peak,
+            1 if i == short => peak.saturating_sub(1),
+            1 => peak + random.index(3),
+            2 => random.index(peak + 2),
+            _ => peak + random.index(40),
+        };
+        // A tail shorter than an entry counts for nothing.
+        entries * ENTRY_WORDS[i] + random.index(ENTRY_WORDS[i])
+    })
+}
+
+/// Row 9 met and row 9 foretold from the run without limits must agree; anything else must be the
+/// same answer as without limits.
+fn judge_lengths(case: &Case, free: &Run, lengths: &Lengths) -> Result<u64, String> {
+    let foretold = first_beyond(free, &capacities(lengths));
+    let tight = compile(&case.words, lengths);
+    let expected = match foretold {
+        Some(place) if free.reply.row == 0 || free.reply.row >= 7 => Reply::refusal(AREA_FULL, place),
+        _ => free.reply,
+    };
+    if tight.reply != expected {
+        return Err(format!("lengths {lengths:?}: foretold {expected:?}, met {:?}", tight.reply));
+    }
+    let areas = if tight.reply.row == AREA_FULL { Areas::default() } else { free.areas.clone() };
+    if tight.areas != areas {
+        return Err(format!("lengths {lengths:?}: other words than without limits"));
+    }
+    Ok(if expected.row == AREA_FULL { expected.place } else { 0 })
+}
+
+/// Compares a third side with the model for these lengths.
+pub fn judge_side(side: &mut dyn Side, words: &[u64], lengths: &Lengths) -> Result<(), String> {
+    let (reply, areas) = side.compile(words, lengths);
+    let (expected, expected_areas) = Model.compile(words, lengths);
+    if reply != expected {
+        return Err(format!("lengths {lengths:?}: the model {expected:?}, {} {reply:?}", side.name()));
+    }
+    for i in 0..AREAS {
+        if let Some(at) = (0..lengths[i]).find(|&at| areas[i][at] != expected_areas[i][at]) {
+            let (here, there) = (expected_areas[i][at], areas[i][at]);
+            return Err(format!("area {} word {at}: the model {here}, {} {there}", i + 1, side.name()));
+        }
+    }
+    Ok(())
+}
+
+/// Everything about one case; lengths come from the case's own stream, so that shrinking keeps them alike.
+fn judge_all(case: &Case, stream: u64, side: &mut Option<&mut dyn Side>) -> Result<(Verdict, Vec<u64>), String> {
+    let (verdict, free) = judge(case)?;
+    let mut full = Vec::new();
+    if !matches!(verdict.outcome, Seen::Oversized) {
+        let mut random = Random::new(stream);
+        let peaks = free.peaks();
+        for _ in 0..3 {
+            let lengths = lengths(&mut random, &peaks);
+            full.push(judge_lengths(case, &free, &lengths)?);
+            if let Some(side) = side {
+                judge_side(*side, &case.words, &lengths)?;
+            }
+        }
+    }
+    Ok((verdict, full))
+}
+
+pub struct Difference {
+    pub index: u64,
+    pub message: String,
+    pub shrunk: Vec<u64>,
+}
+
+/// Which cases to compare.
+#[derive(Clone, Copy, Debug)]
+pub struct Plan {
+    pub seed: u64,
+    pub count: u64,
+    pub sizes: Sizes,
+    /// Whether the first difference ends it, not shrunk.
+    pub stop: bool,
+}
+
+/// Compares cases `0..count` of a seed; answers the counts and the first difference, shrunk.
+pub fn compare(plan: Plan, mut side: Option<&mut dyn Side>) -> (Tally, Option<Difference>) {
+    let Plan { seed, count, sizes, stop } = plan;
+    let mut tally = Tally::default();
+    let mut first = None;
+    for index in 0..count {
+        let made = case(seed, index, sizes);
+        let stream = seed ^ index.rotate_left(32);
+        tally.cases += 1;
+        tally.records += made.words.len() as u64 / 4;
+        match judge_all(&made, stream, &mut side) {
+            Ok((verdict, full)) => tally.add(&verdict, &full),
+            Err(message) => {
+                tally.differences += 1;
+                if stop {
+                    return (tally, Some(Difference { index, message, shrunk: made.words }));
+                }
+                if first.is_none() {
+                    let shrunk = shrink(&made.words, |words| {
+                        let smaller = Case { words: words.to_vec(), expected: None };
+                        judge_all(&smaller, stream, &mut side).is_err()
+                    });
+                    first = Some(Difference { index, message, shrunk });
+                }
+            }
+        }
+    }
+    (tally, first)
+}
+
+impl Tally {
+    fn add(&mut self, verdict: &Verdict, full: &[u64]) {
+        match verdict.outcome {
+            Seen::Compared => self.compared += 1,
+            Seen::Panicked => self.panics += 1,
+            Seen::Inexpressible => self.inexpressible += 1,
+            Seen::Oversized => {
+                self.oversized += 1;
+                return;
+            }
+            Seen::NotForTheRust => {}
+        }
+        self.rows[verdict.row as usize] += 1;
+        for &error in &verdict.errors {
+            self.errors[error as usize] += 1;
+        }
+        self.lengths += full.len() as u64;
+        for &area in full.iter().filter(|&&area| area != 0) {
+            self.full[area as usize - 1] += 1;
+        }
+    }
+
+    pub fn print(&self) {
+        println!("cases {}, records {}", self.cases, self.records);
+        println!("compared with the Rust {}", self.compared);
+        println!("delivered {}", self.rows[0]);
+        for row in 2..=8 {
+            println!("refused by row {row}: {}", self.rows[row]);
+        }
+        let errors: Vec<String> = (1..12).map(|n| format!("{n}: {}", self.errors[n])).collect();
+        println!("errors listed, by number: {}", errors.join(", "));
+        println!("panics of emit_return {}", self.panics);
+        println!("`this` numbered as `main`, not for the Rust {}", self.inexpressible);
+        println!("more than {} code entries, not for the Rust {}", MAX_CODE / ENTRY_WORDS[0], self.oversized);
+        let full: Vec<String> = self.full.iter().enumerate().map(|(i, n)| format!("{}: {n}", i + 1)).collect();
+        println!("lengths tried {}, row 9 by area: {}", self.lengths, full.join(", "));
+        println!("differences {}", self.differences);
+    }
+}
+
+/// Tries of one shrinking; the smallest found by then is good enough.
+const SHRINK_TRIES: usize = 4000;
+
+/// Makes words smaller for as long as they still differ.
+pub fn shrink(start: &[u64], mut differs: impl FnMut(&[u64]) -> bool) -> Vec<u64> {
+    let mut best = start.to_vec();
+    let mut tries = 0;
+    let mut differs = |words: &[u64]| {
+        tries += 1;
+        tries <= SHRINK_TRIES && differs(words)
+    };
+    loop {
+        let before = best.len();
+        best = match trees(&best) {
+            Some(nodes) => shrink_trees(nodes, &mut differs),
+            None => shrink_records(best, &mut differs),
+        };
+        if best.len() >= before {
+            return best;
+        }
+    }
+}
+
+/// From the documents down: takes children out in runs, then puts children in their parents' places.
+fn shrink_trees(mut nodes: Vec<Node>, differs: &mut impl FnMut(&[u64]) -> bool) -> Vec<u64> {
+    let mut depth = 0;
+    loop {
+        let parents = paths(&nodes, depth);
+        if parents.is_empty() {
+            return flatten(&nodes);
+        }
+        // Backwards, so that the paths still to come stay right.
+        for path in parents.iter().rev() {
+            take_out_runs(&mut nodes, path, differs);
+            put_up_children(&mut nodes, path, differs);
+        }
+        depth += 1;
+    }
+}
+
+/// Paths of this length to nodes that have children; the empty path is the bundle itself.
+fn paths(nodes: &[Node], length: usize) -> Vec<Vec<usize>> {
+    if length == 0 {
+        return if nodes.is_empty() { Vec::new() } else { vec![Vec::new()] };
+    }
+    let below = |(place, node): (usize, &Node)| {
+        let rest = paths(&node.children, length - 1).into_iter();
+        rest.map(move |path| [vec![place], path].concat()).collect::<Vec<_>>()
+    };
+    nodes.iter().enumerate().flat_map(below).collect()
+}
+
+fn children_at<'a>(nodes: &'a mut Vec<Node>, path: &[usize]) -> &'a mut Vec<Node> {
+    path.iter().fold(nodes, |list, &child| &mut list[child].children)
+}
+
+fn take_out_runs(nodes: &mut Vec<Node>, path: &[usize], differs: &mut impl FnMut(&[u64]) -> bool) {
+    let mut length = children_at(nodes, path).len();
+    while length > 0 {
+        let mut at = 0;
+        while at + length <= children_at(nodes, path).len() {
+            let mut smaller = nodes.clone();
+            children_at(&mut smaller, path).drain(at..at + length);
+            if differs(&flatten(&smaller)) {
+                *nodes = smaller;
+            } else {
+                at += length;
+            }
+        }
+        length /= 2;
+    }
+}
+
+fn put_up_children(nodes: &mut Vec<Node>, path: &[usize], differs: &mut impl FnMut(&[u64]) -> bool) {
+    for place in 0..children_at(nodes, path).len() {
+        let heirs = children_at(nodes, path)[place].children.clone();
+        for heir in heirs {
+            let mut smaller = nodes.clone();
+            children_at(&mut smaller, path)[place] = heir;
+            if differs(&flatten(&smaller)) {
+                *nodes = smaller;
+                break;
+            }
+        }
+    }
+}
+
+/// For words whose spans do not nest: takes out runs of records, from long to short.
+fn shrink_records(best: Vec<u64>, differs: &mut impl FnMut(&[u64]) -> bool) -> Vec<u64> {
+    let rest: Vec<u64> = best[best.len() / 4 * 4..].to_vec();
+    let mut list = records(&best);
+    let mut length = list.len();
+    while length > 0 {
+        let mut at = 0;
+        while at + length <= list.len() {
+            let mut smaller = list.clone();
+            smaller.drain(at..at + length);
+            if differs(&[words(&smaller), rest.clone()].concat()) {
+                list = smaller;
+            } else {
+                at += length;
+            }
+        }
+        length /= 2;
+    }
+    [words(&list), rest].concat()
+}

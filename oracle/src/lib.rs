@@ -1,0 +1,22 @@
+//! The oracle: the original back end built unchanged, an independent reading of it, bundles to try
+//! both on, and their comparison. See README.md.
+
+pub mod alive;
+pub mod areas;
+pub mod books;
+pub mod columns;
+pub mod compare;
+pub mod damage;
+pub mod documents;
+pub mod generate;
+pub mod hostile;
+pub mod listing;
+pub mod model;
+#[cfg(feature = "link")]
+pub mod ours;
+pub mod pieces;
+pub mod random;
+pub mod real;
+pub mod records;
+pub mod sample;
+pub mod shape;

@@ -1,0 +1,129 @@
+//! The Rust and the model over some thousand bundles, and that seeds and sample stay as they are.
+
+use oracle::areas::{AREAS, UNLIMITED};
+use oracle::compare::{compare, judge_side, lengths, shrink, Model, Plan, Side, Tally};
+use oracle::generate::{case, Sizes};
+use oracle::model::compile;
+use oracle::random::Random;
+use oracle::{areas, sample};
+use std::path::Path;
+
+fn assert_alike(seed: u64, count: u64, sizes: Sizes) -> Tally {
+    let (tally, first) = compare(Plan { seed, count, sizes, stop: false }, None);
+    if let Some(first) = first {
+        panic!("case {}: {}\n{:?}", first.index, first.message, first.shrunk);
+    }
+    tally
+}
+
+#[test]
+fn mixed_bundles_are_alike() {
+    let tally = assert_alike(100, 4000, Sizes::Mixed);
+    assert!((2..=8).all(|row| tally.rows[row] > 0), "{tally:?}");
+    assert!((1..=11).all(|error| tally.errors[error] > 0), "{tally:?}");
+    assert!(tally.full.iter().all(|&count| count > 0), "{tally:?}");
+    assert!(tally.panics > 0 && tally.rows[0] > 2000, "{tally:?}");
+}
+
+#[test]
+fn large_bundles_are_alike() {
+    assert_alike(101, 60, Sizes::Large);
+}
+
+/// FNV-1a over all words: a change of the generator changes the sample and every noted seed.
+fn fingerprint(seed: u64, count: u64, sizes: Sizes) -> u64 {
+    let mut hash = 0xCBF2_9CE4_8422_2325u64;
+    for index in 0..count {
+        for word in case(seed, index, sizes).words {
+            for byte in word.to_le_bytes() {
+                hash = (hash ^ u64::from(byte)).wrapping_mul(0x0100_0000_01B3);
+            }
+        }
+    }
+    hash
+}
+
+#[test]
+fn a_seed_gives_the_same_bundles() {
+    assert_eq!(fingerprint(1, 300, Sizes::Mixed), FINGERPRINT_MIXED);
+    assert_eq!(fingerprint(1, 10, Sizes::Large), FINGERPRINT_LARGE);
+}
+
+const FINGERPRINT_MIXED: u64 = 16_090_190_880_234_877_698;
+const FINGERPRINT_LARGE: u64 = 11_613_912_711_025_851_840;
+
+#[test]
+fn the_sample_is_current() {
+    let folder = Path::new(env!("CARGO_MANIFEST_DIR")).join("sample");
+    let files = sample::files();
+    assert!(files.values().map(Vec::len).sum::<usize>() < 300_000);
+    for (name, content) in &files {
+        let kept = std::fs::read(folder.join(name)).unwrap_or_else(|e| panic!("{name}: {e}; run the sample command"));
+        assert!(kept == *content, "{name} is not what the sample command writes");
+    }
+    let kept = std::fs::read_dir(&folder).expect("the sample is there").count();
+    assert_eq!(kept, files.len() + 1, "a file beside the sample and its README");
+}
+
+/// Reads one sample file as a replay does: a stream of numbers.
+#[test]
+fn the_sample_replays() {
+    let mut cases = 0;
+    for (name, content) in sample::files().iter().filter(|(name, _)| name.starts_with("compile-")) {
+        let text = std::str::from_utf8(content).expect("digits");
+        let mut numbers = text.split_ascii_whitespace().map(|digits| digits.parse::<u64>().expect("a number"));
+        let mut next = || numbers.next().unwrap_or_else(|| panic!("{name} ends early"));
+        for _ in 0..next() {
+            let words: Vec<u64> = (0..next()).map(|_| next()).collect();
+            let lengths: areas::Lengths = std::array::from_fn(|_| next() as usize);
+            let reply: Vec<u64> = (0..16).map(|_| next()).collect();
+            let (made, filled) = Model.compile(&words, &lengths);
+            assert_eq!(made.words().to_vec(), reply);
+            for i in 0..AREAS {
+                let mut expected: Vec<u64> = (0..next()).map(|_| next()).collect();
+                expected.resize(lengths[i], 0);
+                assert_eq!(filled[i], expected);
+            }
+            cases += 1;
+        }
+        assert_eq!(numbers.next(), None);
+    }
+    assert!(cases > 100);
+}
+
+/// A side that is wrong in one word must be caught.
+struct Wrong;
+
+impl Side for Wrong {
+    fn name(&self) -> &str {
+        "a wrong side"
+    }
+
+    fn compile(&mut self, words: &[u64], lengths: &areas::Lengths) -> (areas::Reply, areas::Areas) {
+        let (reply, mut filled) = Model.compile(words, lengths);
+        if let Some(last) = filled[0].last_mut() {
+            *last ^= 1;
+        }
+        (reply, filled)
+    }
+}
+
+#[test]
+fn a_wrong_side_is_caught_and_the_right_one_is_not() {
+    let mut random = Random::new(3);
+    for index in 0..200 {
+        let words = case(7, index, Sizes::Mixed).words;
+        let chosen = lengths(&mut random, &compile(&words, &UNLIMITED).peaks());
+        assert_eq!(judge_side(&mut Model, &words, &chosen), Ok(()));
+        assert_eq!(judge_side(&mut Wrong, &words, &chosen).is_err(), chosen[0] > 0);
+    }
+}
+
+#[test]
+fn shrinking_keeps_what_matters() {
+    // The smallest bundle with a loop: document, function, for, name, enumerable.
+    let with_loop =
+        |words: &[u64]| compile(words, &UNLIMITED).reply.row == 0 && words.chunks(4).any(|record| record[0] == 24);
+    let found = (0..500).map(|index| case(9, index, Sizes::Mixed).words).find(|words| with_loop(words));
+    assert_eq!(shrink(&found.expect("some bundle has a loop"), with_loop).len() / 4, 5);
+}
