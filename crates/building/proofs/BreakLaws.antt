@@ -22,12 +22,13 @@ use Rattle.definition.proofs.Lists.{length-patch}
 use Rattle.building.specs.declared.function_state.FunctionState as struct
 use Rattle.building.specs.State.{withCodeCount, withBreaks, withLoop}
 use Rattle.building.specs.Taking.{taken, writeWord, givenUp}
-use Rattle.building.specs.Emission.{Coded, coded, nextC, emitC, unlessFull, replaceC, dropC, Breaking, breaking, markBreakC, emitBreakC, patchC, exitBreakC}
+use Rattle.building.specs.Emission.{Coded, coded, nextC, emitC, replaceC, dropC, Breaking, breaking, markBreakC, emitBreakC, patchC, exitBreakC}
 use Rattle.building.specs.Held.{Machine, machine, Filled, breakEntry, breakEntries, isOpen, Contents, Held}
 use Rattle.building.proofs.Filling.{filled-more, filled-field, filled-set, filled-less, room-fits, setEntry-length, set-append-add, all-front}
-use Rattle.building.proofs.Filling.{over-stays, over-fits, over-here, held-full, held-step, breaks-length, break-length, Capped, capped, Within, noted-within}
+use Rattle.building.proofs.Filling.{over-fits, over-here, held-full, held-step, breaks-length, break-length, capped, Within, noted-within}
 use Rattle.building.proofs.Emitting.{replace-full, replace-in, replace-out, drop-more, exit-full, exit-more}
-use Rattle.building.proofs.EmissionLaws.{code-count, next-is, coded-rest, contents-again, held-touch, held-merge, held-over, emit-full, emit-over, emit-law}
+use Rattle.building.proofs.EmissionLaws.{code-count, next-is, coded-rest, contents-again, held-touch, held-merge, held-over, emit-full, emit-over}
+use Rattle.building.proofs.EmissionLaws.{emit-law}
 
 -- an instruction replaced
 
@@ -112,6 +113,11 @@ drop-law {κ} {earlier} {s} {c} {w = w} H z =
 
 abbrev pub breakingMachine : Breaking → List ℕ → List ℕ → List ℕ → Machine
 breakingMachine m k n e = machine (m .state) (m .code) k n (m .breaks) e
+
+-- what a routine leaves, by what it ensures
+pub held-breaking : {κ : Limits} {earlier : Entries} {k n e : List ℕ} {w : Work} (r : struct.FunctionState) (c′ b′ : List ℕ) {m : Breaking}
+    → breaking r c′ b′ ≡ m → Held κ earlier (breakingMachine m k n e) w → Held κ earlier (machine r c′ k n b′ e) w
+held-breaking {κ} {earlier} {k} {n} {e} {w} r c′ b′ q H = subst (λ (x : Breaking). Held κ earlier (breakingMachine x k n e) w) (sym q) H
 
 break-snoc : (is : List ℕ) (i : ℕ) → breakEntry (is ++ (i ∷ [])) ≡ breakEntry is ++ ((i ∷ []) ∷ [])
 break-snoc [] i = refl
@@ -352,7 +358,8 @@ module _ {κ : Limits} {earlier : Entries} {s : struct.FunctionState} {c k n b e
       (contents-again _ (breaks-rest D (s .«break_base») start inside b′ _ (tail bs) B hs hi)))
 
   -- they matter only where nothing is full
-  pub exit-break-law : (s .full ≡ 0 → start ≡ total (tail (tail (w .function .breakScopes)))) → (s .full ≡ 0 → inside ≡ isOpen (tail (w .function .breakScopes)))
+  pub exit-break-law : (s .full ≡ 0 → start ≡ total (tail (tail (w .function .breakScopes))))
+      → (s .full ≡ 0 → inside ≡ isOpen (tail (w .function .breakScopes)))
       → Held κ earlier (breakingMachine (exitBreakC start inside (breaking s c b)) k n e) (doing (method.exitBreakScope exit) w)
   exit-break-law hs hi = go (eqb (s .full) 0) refl
     where
