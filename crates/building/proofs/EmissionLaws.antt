@@ -2,41 +2,41 @@
 -- the mark set nothing changes and only notes come; where an area is full its note is the first beyond; else the areas hold the function after the
 -- step. By cases of the mark and of room, and by the laws of `Filling`. Assumes nothing.
 use Prim.Native.Nat.{ℕ, zero, suc, _+_, _-_, _*_, _/_, _%_, _^_, _≤_, _<_, min}
-use native.Mathlib.Nat.{zero-add}
 use native.Mathlib.Omega.{arith}
 use native.Mathlib.Decide.{decLt}
 use mathlib.Core.Path.{_≡_, refl, sym, ap, subst, _∙_}
 use mathlib.Core.Bool.{Bool, true, false, cond}
 use mathlib.Core.Option.{Option, none, some}
-use mathlib.Core.List.{List, [], _∷_, _++_, append-assoc, append-nil}
-use lib.ListN.{length, getD, take, set, replicate, length-append, length-set, length-take, List·getD-eq-default}
-use lib.Seq.{getD-append-add, set-out, take-suc, take-length}
-use lib.Dec.{eqb, ltb, leb}
+use mathlib.Core.List.{List, [], _∷_, _++_, append-assoc}
+use lib.ListN.{length, getD, take, length-append, length-take, List·getD-eq-default}
+use lib.Seq.{getD-append-add, take-suc, take-length}
+use lib.Dec.{eqb, ltb}
 use borrow.Author.Tests.{eqb-true, eqb-false, ltb-true, ltb-false, eq-eqb, ne-eqb, lt-ltb, le-ltb, le-leb}
-use Rattle.words.specs.Areas.{entriesIn, setEntry, writeEntry, entryField, codeArea, scopeNamesArea, breaksArea}
+use Rattle.words.specs.Areas.{entriesIn, setEntry, codeArea, scopeNamesArea, breaksArea}
 use Rattle.words.specs.Opcode.{Instruction, toInstruction, word, nothing, Pop, PushConstant, ReturnOp, Jump}
 use Rattle.words.specs.Object.{NULL}
-use Rattle.definition.specs.FunctionState.{FunctionState, orElse, last, init, getLastPosition, lastOpcode, tail, innermost}
+use Rattle.definition.specs.FunctionState.{FunctionState, orElse, last, init, getLastPosition, lastOpcode}
 use Rattle.definition.specs.FunctionState as method
 use Rattle.definition.specs.Uses.{Use, using′, Limits, limitOf, overBy, firstOver, total}
 use Rattle.definition.specs.Compiler.{Work, withFunction, doing, next}
 use Rattle.definition.specs.Compiler as step
 use Rattle.definition.specs.Program.{Entries, codeEntries}
-use Rattle.definition.proofs.Cells.{Wide}
-use Rattle.definition.proofs.Lists.{all-append}
 use Rattle.building.specs.declared.function_state.FunctionState as struct
-use Rattle.building.specs.State.{withCode, withCodeCount, mostDepth}
-use Rattle.building.specs.State as anew
-use Rattle.building.specs.Taking.{taken, writeWord}
+use Rattle.building.specs.State.{withCode, withCodeCount}
+use Rattle.building.specs.Taking.{taken}
 use Rattle.building.specs.Emission.{Coded, coded, nextC, lastC, lastPositionC, lastOpcodeC, emitC, emitLastC, emitNullC, popC, removePopC, emitReturnC}
-use Rattle.building.specs.Emission.{replaceC, dropC, unlessFull, deeperC, depthC, rescueC, parametersC}
 use Rattle.building.specs.Held.{Machine, machine, Filled, Contents, Marks, unmarked, marked, Held}
-use Rattle.building.proofs.Filling.{filled-more, filled-field, room-fits, setEntry-length, over-stays, over-fits, over-here, held-full, code-length, Capped}
-use Rattle.building.proofs.Filling.{capped, Within, noted-within, held-step, all-front, set-append-add, filled-back, filled-less, filled-set}
-use Rattle.building.proofs.Emitting.{remove-full, remove-pop, remove-return, remove-null, replace-full, replace-in, replace-out, drop-more}
+use Rattle.building.proofs.Filling.{filled-more, filled-field, filled-back, room-fits, setEntry-length, all-front, code-length}
+use Rattle.building.proofs.Filling.{over-stays, over-here, held-full, Capped, capped, held-step}
+use Rattle.building.proofs.Emitting.{remove-full, remove-pop, remove-return, remove-null}
 
 abbrev pub codedMachine : Coded → List ℕ → List ℕ → List ℕ → List ℕ → Machine
 codedMachine m k n b e = machine (m .state) (m .code) k n b e
+
+-- what a routine leaves, by what it ensures
+pub held-coded : {κ : Limits} {earlier : Entries} {k n b e : List ℕ} {w : Work} (r : struct.FunctionState) (c′ : List ℕ) {m : Coded} → coded r c′ ≡ m
+    → Held κ earlier (codedMachine m k n b e) w → Held κ earlier (machine r c′ k n b e) w
+held-coded {κ} {earlier} {k} {n} {b} {e} {w} r c′ q H = subst (λ (x : Coded). Held κ earlier (codedMachine x k n b e) w) (sym q) H
 
 -- the function's state anew, with no note: what a step leaves that changes no count, after its notes
 abbrev pub putFunction : FunctionState → Work → Work
@@ -236,7 +236,8 @@ module _ {κ : Limits} {earlier : Entries} {s : struct.FunctionState} {c k n b e
       let is = w .function .instructions in
       let ps = w .function .positions in
       let r = ltb-true (s .code) (entriesIn 2 (length c)) l in
-      let same : length (setEntry 2 (s .code) (x ∷ p ∷ []) c) ≡ length c = setEntry-length 2 (s .code) (x ∷ p ∷ []) c refl (room-fits 2 (s .code) (length c) r) in
+      let same : length (setEntry 2 (s .code) (x ∷ p ∷ []) c) ≡ length c =
+      setEntry-length 2 (s .code) (x ∷ p ∷ []) c refl (room-fits 2 (s .code) (length c) r) in
       let F = filled-more (x ∷ p ∷ []) refl r (C .code) in
       held-step (method.emit i q (w .function)) H z z
       (record { code = rw same (H .code-cap); constants = H .constants-cap; names = H .names-cap; breaks = H .breaks-cap; errors = H .errors-cap })
@@ -248,10 +249,22 @@ module _ {κ : Limits} {earlier : Entries} {s : struct.FunctionState} {c k n b e
   unfolding emitC
   emit-law = emit-go (eqb (s .full) 0) refl (ltb (s .code) (entriesIn 2 (length c))) refl
 
--- `emit_opcode_without_position`
+-- `emit_opcode`
+pub emit-opcode-law : {κ : Limits} {earlier : Entries} {s : struct.FunctionState} {c k n b e : List ℕ} {w : Work} (o p q : ℕ) → (s .full ≡ 0 → p ≡ q)
+    → Held κ earlier (machine s c k n b e) w → Held κ earlier (codedMachine (emitC (word (toInstruction o 0)) p (coded s c)) k n b e) (step.emitOpcode o q w)
+emit-opcode-law o p q hp H = emit-law (word (toInstruction o 0)) p (toInstruction o 0) q (λ z. refl) hp H
+
+-- `emit_opcode_without_position`, and null
 module _ {κ : Limits} {earlier : Entries} {s : struct.FunctionState} {c k n b e : List ℕ} {w : Work} (H : Held κ earlier (machine s c k n b e) w) where
   pub emit-last-law : (i : Instruction) → Held κ earlier (codedMachine (emitLastC (word i) (coded s c)) k n b e) (step.emit i (getLastPosition (w .function)) w)
   emit-last-law i = emit-law (word i) (lastPositionC (coded s c)) i (getLastPosition (w .function)) (λ z. refl) (λ z. last-position-law H z) H
+
+  pub emit-opcode-without-position-law : (o : ℕ)
+      → Held κ earlier (codedMachine (emitLastC (word (toInstruction o 0)) (coded s c)) k n b e) (step.emitOpcodeWithoutPosition o w)
+  emit-opcode-without-position-law o = emit-last-law (toInstruction o 0)
+
+  pub emit-null-law : Held κ earlier (codedMachine (emitNullC (coded s c)) k n b e) (doing method.emitNull w)
+  emit-null-law = emit-last-law (toInstruction PushConstant NULL)
 
 -- the last instruction given up
 

@@ -22,7 +22,8 @@ use Rattle.definition.proofs.Lists.{all-append, all-set}
 use Rattle.definition.proofs.Cells.{Wide, all-at, flat-length, filled-word, single-length}
 use Rattle.words.specs.Opcode.{Instruction}
 use Rattle.building.specs.Taking.{zeroed, givenUp}
-use Rattle.building.specs.Held.{Machine, Filled, nameEntry, oldestFirst, nameEntries, breakEntry, breakEntries, Contents, Marks, unmarked, marked, Sized, Held}
+use Rattle.building.specs.Held.{Machine, Filled, nameEntry, oldestFirst, nameEntries, breakEntry, breakEntries, Contents, Marks, unmarked, marked}
+use Rattle.building.specs.Held.{Sized, Held}
 
 -- lists
 
