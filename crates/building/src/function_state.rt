@@ -238,15 +238,15 @@ pub fn emit_break(
     ensures { λ r. ⌜ breaking r (now (code .exit)) (now (breaks .exit))
         ≡ emitBreakC position (breaking state (now (code .entry)) (now (breaks .entry))) ⌝ }
 {
-    if !state.in_loop {
-        return state;
+    if state.in_loop {
+        let index = get_next_instruction_index(state);
+        let mut s = emit_opcode(code, state, OpCode::Jump, position);
+        let t = taking::take1(breaks, areas::BREAKS, s.full, s.breaks, index as u64);
+        s.full = t.full;
+        s.breaks = t.count;
+        return s;
     }
-    let index = get_next_instruction_index(state);
-    let mut s = emit_opcode(code, state, OpCode::Jump, position);
-    let t = taking::take1(breaks, areas::BREAKS, s.full, s.breaks, index as u64);
-    s.full = t.full;
-    s.breaks = t.count;
-    s
+    state
 }
 
 // `enter_break_scope`
