@@ -13,3 +13,4 @@ pub mod NewestFirst
 pub mod Naming
 pub mod ScopeNames
 pub mod ScopeLaws
+pub mod Notes

@@ -1,12 +1,12 @@
 -- Scopes and locals: what the routines of `scopes.rt` make of memory is what the definition's methods of the same name make of its state, and what they
 -- find is what those find. By the mark, by what the innermost scope has, and by whether area 9 has room. Assumes nothing.
-use Prim.Native.Nat.{ℕ, _+_, _-_, _%_, _^_, _<_, _≤_, min}
+use Prim.Native.Nat.{ℕ, _+_, _-_, _%_, _^_, _<_, min}
 use native.Mathlib.Nat.{mod-add-mod}
 use native.Mathlib.Omega.{arith}
 use mathlib.Core.Path.{_≡_, refl, sym, ap, _∙_}
 use mathlib.Core.Bool.{Bool, true, false, cond}
 use mathlib.Core.Option.{Option, none, some}
-use mathlib.Core.List.{List, [], _∷_, _++_, append-assoc, append-nil}
+use mathlib.Core.List.{List, [], _∷_, _++_, append-nil}
 use lib.ListN.{length}
 use lib.Seq.{length-sets}
 use lib.Dec.{eqb, ltb}
@@ -21,12 +21,12 @@ use Rattle.definition.specs.Program.{Entries}
 use Rattle.definition.specs.Within.{none as nil}
 use Rattle.building.specs.declared.scopes.Defined.{Defined}
 use Rattle.building.specs.declared.function_state.FunctionState as struct
-use Rattle.building.specs.Found.{foundOf, wrapped, findNewest}
+use Rattle.building.specs.Found.{foundOf, wrapped}
 use Rattle.building.specs.State.{withScope, withNames, withLocalCount}
 use Rattle.building.specs.Taking.{taken, givenUp}
 use Rattle.building.specs.Scopes.{Naming, naming, findLocalC, findInScopeC, enterScopeC, exitScopeC, endFunctionC, defineAnonymousC, countedC}
 use Rattle.building.specs.Scopes.{insertC, Definition, defineBy, defineC, Defines}
-use Rattle.building.specs.Held.{Machine, machine, Filled, nameEntries, oldestFirst, isOpen, Contents, Held}
+use Rattle.building.specs.Held.{machine, Filled, nameEntries, oldestFirst, isOpen, Contents, Held}
 use Rattle.building.proofs.Filling.{filled-less, filled-more, names-length, capped, noted-within, setEntry-length, room-fits}
 use Rattle.building.proofs.Filling.{over-stays, over-fits, over-here, held-full, held-step}
 use Rattle.building.proofs.ScopeNames.{names-wide, names-split, total-split, names-insert, total-insert, tail-insert, found-in-scope, found-in-scopes}
