@@ -18,9 +18,11 @@ use Rattle.definition.specs.FunctionState.{innermost, findName, getNextI
 use Rattle.definition.specs.Uses.{Use}
 use Rattle.definition.specs.Compiler
 use Rattle.definition.specs.Compiler.{Work, Step, Added, withFunction, doing, emit, emitOpcode, pushError, addConstant, addConstantNoCheck, findConstant}
-use Rattle.definition.specs.Compiler.{emitConstant, emitGlobal, emitName, InfixKind, Assigning, Plain, Negated, Compound, Unknown, infixKind, compileInfixBy}
+use Rattle.definition.specs.Compiler.{emitConstant, emitGlobal, emitName, InfixKind, Assigning, Plain, Negated, Compound, Unknown, infixKind}
+use Rattle.definition.specs.Compiler.{compileInfixBy}
 use Rattle.definition.specs.Compiler.{compileStatement, compileStatements, compileExpression, compileExpressions, compileVariables}
-use Rattle.definition.specs.Compiler.{compileAssignExpressionLeftPart, compileParameter, compileParameters, skip, andThen, deeper, compileRescue, compileBare}
+use Rattle.definition.specs.Compiler.{compileAssignExpressionLeftPart, compileParameter, compileParameters, skip, andThen, deeper, compileRescue}
+use Rattle.definition.specs.Compiler.{compileBare}
 use Rattle.definition.specs.Compiler.{compileValued, compileExpressionStatement, compileForStatement, compileIfExpression, compilePart, compileNoPart}
 use Rattle.definition.specs.Compiler.{compileArrayExpression, compileCallExpression, compilePrefixExpression, compileInfixExpression, compileOperation}
 use Rattle.definition.specs.Compiler.{compileAssignExpression, compilePair, compileAssignName, compileThisExpression, compileIdentifierExpression}
@@ -276,7 +278,8 @@ steady-bare n t w = steady-trans (steady-define (t .value) w) (go (defineLocal (
 
 pub steady-rescue : (t : Token) → Steadily (compileRescue t)
 unfolding compileRescue
-steady-rescue t w = cond-case (Steady w) (ltb 1 (w .function .depth)) (λ h. steady-error 4 t w) (λ h. steady-function w _ (return-depth (t .position) (w .function)))
+steady-rescue t w = cond-case (Steady w) (ltb 1 (w .function .depth)) (λ h. steady-error 4 t w)
+    (λ h. steady-function w _ (return-depth (t .position) (w .function)))
 
 pub steady-deeper : {a : Step} → Steadily a → Steadily (deeper a)
 unfolding deeper
