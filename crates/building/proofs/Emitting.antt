@@ -10,12 +10,13 @@ use lib.ListN.{length}
 use lib.Dec.{eqb, ltb}
 use borrow.Author.Tests.{eq-eqb, ne-eqb, lt-ltb, le-ltb, ltb-true}
 use Rattle.words.specs.Areas.{codeArea, breaksArea, entryField}
-use Rattle.words.specs.Opcode.{toInstruction, word, Pop, ReturnOp, Jump}
+use Rattle.words.specs.Opcode.{toInstruction, word, Pop, PushConstant, ReturnOp, Jump}
+use Rattle.words.specs.Object.{NULL}
 use Rattle.building.specs.declared.taking.Taken.{Taken}
 use Rattle.building.specs.declared.function_state.FunctionState.{FunctionState}
 use Rattle.building.specs.State.{withCode, withCodeCount, withBreaks, withLoop}
 use Rattle.building.specs.Taking.{Took, givenUp, writeWord}
-use Rattle.building.specs.Emission.{Coded, coded, nextC, lastC, lastOpcodeC, emitC, emitNullC, popC, removePopC, emitReturnC, replaceC, dropC}
+use Rattle.building.specs.Emission.{Coded, coded, nextC, lastPositionC, lastOpcodeC, emitC, emitNullC, popC, removePopC, emitReturnC, replaceC, dropC}
 use Rattle.building.specs.Emission.{Breaking, breaking, markBreakC, emitBreakC, patchC, exitBreakC}
 
 -- `emit`
@@ -23,6 +24,11 @@ pub emit-meets : (w p : ℕ) (s : FunctionState) (c c′ : List ℕ) (t : Taken)
     → coded (withCode t s) c′ ≡ emitC w p (coded s c)
 unfolding emitC
 emit-meets w p s c c′ t T = rw (T .reply, T .words)
+
+-- `emit_null`
+pub null-meets : (m : Coded) {r : Coded} {x p : ℕ} → r ≡ emitC x p m → x ≡ word (toInstruction PushConstant NULL) → p ≡ lastPositionC m → r ≡ emitNullC m
+null-meets m {r} {x} {p} e h q =
+    e ∙ ap (λ (y : ℕ). emitC y p m) h ∙ ap (λ (y : ℕ). emitC (word (toInstruction PushConstant NULL)) y m) q
 
 module _ (m : Coded) where
   -- where there is an opcode that is looked for, there is an instruction
