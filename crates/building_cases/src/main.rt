@@ -67,13 +67,18 @@ fn error_case(errors: &mut [u64], full: u64) {
 // Two names of the second book, the first again, a search of a name of the first book; then two values.
 fn local_case(locals: &mut [u64], full: u64) {
     let a = context::define_context_local(locals, full, 0, 0, 1, 30);
-    show(number_of(a.found));
+    let found_a = a.found;
+    show(number_of(found_a));
     let b = context::define_context_local(locals, a.full, a.count, a.count, 2, 31);
-    show(number_of(b.found));
+    let found_b = b.found;
+    show(number_of(found_b));
     let c = context::define_context_local(locals, b.full, a.count, b.count, 2, 31);
-    show(number_of(c.found));
-    show(number_of(context::find_context_local(locals, a.count, c.count, 30)));
-    show(number_of(context::find_context_local(locals, 0, c.count, 31)));
+    let found_c = c.found;
+    show(number_of(found_c));
+    let other = context::find_context_local(locals, a.count, c.count, 30);
+    show(number_of(other));
+    let own = context::find_context_local(locals, 0, c.count, 31);
+    show(number_of(own));
     context::set_value(locals, c.full, c.count, 1, 9);
     context::set_value(locals, c.full, c.count, 2, 9);
     show_area(c.full, c.count, locals);
