@@ -22,7 +22,8 @@ use Rattle.definition.proofs.Lists.{all-append, all-set}
 use Rattle.definition.proofs.Cells.{Wide, all-at, flat-length, filled-word, single-length}
 use Rattle.words.specs.Opcode.{Instruction}
 use Rattle.building.specs.Taking.{zeroed, givenUp}
-use Rattle.building.specs.Held.{Machine, Filled, nameEntry, oldestFirst, nameEntries, breakEntry, breakEntries, Contents, Marks, unmarked, marked, Sized, Held}
+use Rattle.building.specs.Held.{Machine, Filled, nameEntry, oldestFirst, nameEntries, breakEntry, breakEntries, Contents, Marks, unmarked, marked}
+use Rattle.building.specs.Held.{Sized, Held}
 
 -- lists
 
@@ -35,9 +36,13 @@ drop-zeros zero z = rw (sub-zero z)
 drop-zeros (suc k) zero = rw (zero-sub (suc k))
 drop-zeros (suc k) (suc z) = rw (suc-sub-suc z k) (drop-zeros k z)
 
-pub set-append-add : (xs ys : List ℕ) (i v : ℕ) → set (xs ++ ys) (length xs + i) v ≡ xs ++ set ys i v
+pub set-append-add : {A : Type 0} (xs ys : List A) (i : ℕ) (v : A) → set (xs ++ ys) (length xs + i) v ≡ xs ++ set ys i v
 set-append-add [] ys i v = rw (zero-add i)
-set-append-add (x ∷ xs) ys i v = rw (suc-add (length xs) i) (ap (λ (l : List ℕ). x ∷ l) (set-append-add xs ys i v))
+set-append-add {A} (x ∷ xs) ys i v = rw (suc-add (length xs) i) (ap (λ (l : List A). x ∷ l) (set-append-add xs ys i v))
+
+pub all-front : {A : Type 0} {P : A → Type 0} (xs ys : List A) → All P (xs ++ ys) → All P xs
+all-front [] ys ps = nil
+all-front (x ∷ xs) ys (p & ps) = p & all-front xs ys ps
 
 sets-cons : (x : ℕ) (l : List ℕ) (i : ℕ) (vs : List ℕ) → sets (x ∷ l) (suc i) vs ≡ x ∷ sets l i vs
 sets-cons x l i [] = refl

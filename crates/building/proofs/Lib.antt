@@ -5,3 +5,7 @@ pub mod PoolWays
 pub mod PoolLaws
 pub mod ContextWays
 pub mod ContextLaws
+pub mod Emitting
+pub mod EmissionLaws
+pub mod StateLaws
+pub mod BreakLaws

@@ -5,7 +5,8 @@ ghost use Rattle.words.specs.Codes.{codeWord};
 ghost use Rattle.building.specs.State.{begun};
 ghost use Rattle.words.specs.Codes.{numberOf};
 ghost use Rattle.words.specs.Opcode.{word, toInstruction, Jump};
-ghost use Rattle.building.specs.Emission.{coded, emitC, emitLastC, emitNullC, popC, removePopC, emitReturnC, replaceC, lastPositionC, lastOpcodeC, nextC, dropC};
+ghost use Rattle.building.specs.Emission.{coded, nextC, lastPositionC, lastOpcodeC, emitC, emitLastC, emitNullC, popC, removePopC};
+ghost use Rattle.building.specs.Emission.{emitReturnC, replaceC, dropC};
 ghost use Rattle.building.specs.Emission.{breaking, emitBreakC, enterBreakC, patchC, exitBreakC, deeperC, depthC, rescueC, parametersC};
 use crate::taking;
 use words::areas;
@@ -149,9 +150,9 @@ pub fn emit_opcode_without_position(
 pub fn emit_null(code: &mut [u64], state: FunctionState) -> FunctionState
     ensures { λ r. ⌜ coded r (now (code .exit)) ≡ emitNullC (coded state (now (code .entry))) ⌝ }
 {
-    let position = get_last_position(code, state);
+    let last = get_last_position(code, state);
     let instruction = OpCode::PushConstant.to_instruction(NULL_CONSTANT_INDEX);
-    emit(code, state, instruction, position)
+    emit(code, state, instruction, last)
 }
 
 // The last instruction given up.
@@ -188,8 +189,8 @@ pub fn emit_return(code: &mut [u64], state: FunctionState, position: u64) -> Fun
     ensures { λ r. ⌜ coded r (now (code .exit)) ≡ emitReturnC position (coded state (now (code .entry))) ⌝ }
 {
     let s = remove_pop_or_push_null(code, state);
-    let last = last_opcode(code, s);
-    if last == RETURN {
+    let end = last_opcode(code, s);
+    if end == RETURN {
         return s;
     }
     emit_opcode(code, s, OpCode::Return, position)
@@ -238,15 +239,15 @@ pub fn emit_break(
     ensures { λ r. ⌜ breaking r (now (code .exit)) (now (breaks .exit))
         ≡ emitBreakC position (breaking state (now (code .entry)) (now (breaks .entry))) ⌝ }
 {
-    if !state.in_loop {
-        return state;
+    if state.in_loop {
+        let index = get_next_instruction_index(state);
+        let mut s = emit_opcode(code, state, OpCode::Jump, position);
+        let t = taking::take1(breaks, areas::BREAKS, s.full, s.breaks, index as u64);
+        s.full = t.full;
+        s.breaks = t.count;
+        return s;
     }
-    let index = get_next_instruction_index(state);
-    let mut s = emit_opcode(code, state, OpCode::Jump, position);
-    let t = taking::take1(breaks, areas::BREAKS, s.full, s.breaks, index as u64);
-    s.full = t.full;
-    s.breaks = t.count;
-    s
+    state
 }
 
 // `enter_break_scope`
@@ -265,7 +266,8 @@ pub fn enter_break_scope(state: FunctionState) -> FunctionState
 // The innermost loop's breaks jump to the next instruction.
 fn patch_breaks(code: &mut [u64], breaks: &[u64], state: FunctionState)
     ensures { λ _. ⌜ now (code .exit)
-        ≡ patchC (state .breaks - state .«break_base») (state .«break_base») (word (toInstruction Jump (nextC state))) state (now (breaks .entry)) (now (code .entry)) ⌝ }
+        ≡ patchC (state .breaks - state .«break_base») (state .«break_base») (word (toInstruction Jump (nextC state))) state
+        (now (breaks .entry)) (now (code .entry)) ⌝ }
 {
     let next = get_next_instruction_index(state);
     let instruction = OpCode::Jump.to_instruction(next as u64);

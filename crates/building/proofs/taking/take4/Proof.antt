@@ -18,14 +18,15 @@ returns-2 : tie.Need-returns-2
 returns-2 c =
     let c6 = c .before .before .before .before .before .before in
     let c8 = c6 .before .before in
-    took-more (c8 .args .number) (c8 .args .full) (c8 .args .count) (c8 .args .a ∷ c8 .args .b ∷ c8 .args .c ∷ c8 .args .d ∷ []) (c8 .args .area .now) 4 refl
-    (lit< tt) (lit≤ tt) (c6 .if1 .left)
+    took-more (c8 .args .number) (c8 .args .full) (c8 .args .count) (c8 .args .a ∷ c8 .args .b ∷ c8 .args .c ∷ c8 .args .d ∷ [])
+    (c8 .args .area .now) 4 refl (lit< tt) (lit≤ tt) (c6 .if1 .left)
     (omega arith) (c .before .before .write4 .ensures .words)
 
 returns-3 : tie.Need-returns-3
 returns-3 c = took-none (c .before .before .before .before .args .number) (c .before .before .before .before .args .full)
     (c .before .before .before .before .args .count)
-    (c .before .before .before .before .args .a ∷ c .before .before .before .before .args .b ∷ c .before .before .before .before .args .c ∷ c .before .before .before .before .args .d ∷ []) (c .before .before .before .before .args .area .now) 4 refl (c .before .before .if1 .left) (omega arith)
+    (c .before .before .before .before .args .a ∷ c .before .before .before .before .args .b ∷ c .before .before .before .before .args .c ∷ c .before .before .before .before .args .d ∷ [])
+    (c .before .before .before .before .args .area .now) 4 refl (c .before .before .if1 .left) (omega arith)
 
 returns-4 : tie.Need-returns-4
 returns-4 c = took-none (c .before .before .before .args .number) (c .before .before .before .args .full) (c .before .before .before .args .count)

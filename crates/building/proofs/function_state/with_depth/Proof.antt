@@ -1,0 +1,15 @@
+-- `building::function_state::with_depth` meets its contract: with the mark set, nothing. Assumes nothing.
+-- Made from Proof.answers by `answers make`: edit that file, and not this one.
+use borrow.Author.Tests.{eq-eqb, ne-eqb}
+use Rattle.building.proofs.function_state.with_depth.Statement.{statement}
+use Rattle.building.proofs.function_state.with_depth.Tie as tie
+
+returns : tie.Need-returns
+returns c = rw (ne-eqb (c .before .before .args .state .full) 0 (c .if1 .taken))
+
+returns-2 : tie.Need-returns-2
+returns-2 c = rw (eq-eqb (c .before .before .args .state .full) 0 (c .if1 .left))
+
+pub with-depth-spec : {M : Type 1} → statement M
+with-depth-spec =
+    tie.close (tie.spec returns returns-2)
