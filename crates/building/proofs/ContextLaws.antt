@@ -26,7 +26,7 @@ use Rattle.building.specs.Pool.{withWord}
 use Rattle.building.specs.Context.{Localing, localing, defineContextBy, defineContextC, setValueC, functionWords}
 use Rattle.building.specs.Held.{Machine, Filled, Contents, LocalsHeld}
 use Rattle.building.proofs.Filling.{room-fits, setEntry-length, filled-more, filled-set, filled-field, code-length}
-use Rattle.building.proofs.Searches.{first-name}
+use Rattle.building.proofs.OldestFirst.{first-name}
 
 -- `find_context_local`
 pub find-context-law : {start count : ℕ} {l : List ℕ} {s : CompilerState} (name : ℕ) → LocalsHeld start count l s

@@ -28,7 +28,7 @@ use Rattle.building.specs.Found.{isConstant, findConstantC}
 use Rattle.building.specs.Pool.{Pooling, pooling, addNoCheckC, addBy, addConstantC, withWord, markGlobalC, Erring, erring, pushErrorC}
 use Rattle.building.specs.Held.{machine, Filled, Contents, Held}
 use Rattle.building.proofs.Filling.{room-fits, setEntry-length, filled-more, filled-set, filled-field, over-fits, over-here, held-full}
-use Rattle.building.proofs.Searches.{first-constant}
+use Rattle.building.proofs.OldestFirst.{first-constant}
 
 -- the entries of a list with one element more
 pub entries-more : {A : Type 0} (f : ℕ → A → Entries) (i : ℕ) (xs : List A) (x : A)

@@ -13,10 +13,8 @@ use Rattle.building.specs.declared.scopes.Found.{Found}
 use Rattle.building.specs.declared.scopes.Found.the-variants.{At, Nothing}
 use Rattle.building.specs.Found.{findContextLocalC}
 use Rattle.building.specs.Pool.{withWord}
-use Rattle.building.specs.Taking.{taken, takenOf, tookWords, givenUp}
-use Rattle.building.specs.Emission.{nextC, unlessFull}
-use Rattle.building.specs.State.{withScope}
-use Rattle.building.specs.Scopes.{Naming, naming}
+use Rattle.building.specs.Taking.{taken, takenOf, tookWords}
+use Rattle.building.specs.Emission.{nextC}
 
 -- what `define_local` of the compiler's state answers, the mark and the count, and area 7
 pub record Localing : Type 0 where
@@ -46,7 +44,3 @@ setValueC full count i constant w =
 abbrev pub functionWords : FunctionState → ℕ → ℕ → List ℕ
 functionWords s file name =
     s .«parameter_count» ∷ s .«local_count» ∷ s .«rescue_position» ∷ bit (s .«is_instance») ∷ s .base ∷ nextC s ∷ file ∷ name ∷ []
-
--- all names of the function given up: its outermost scope ends
-unfoldable pub endFunctionC : Naming → Naming
-endFunctionC m = unlessFull (m .state) (naming (withScope 0 0 (m .state)) (givenUp 2 0 (m .state .names) (m .names))) m

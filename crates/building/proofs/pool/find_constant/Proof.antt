@@ -5,7 +5,7 @@ use mathlib.Core.Path.{_≡_, sym, _∙_}
 use Prim.Native.Nat.{_-_}
 use Rattle.words.specs.Object.{constantOf}
 use Rattle.building.specs.Found.{isConstant, firstFrom}
-use Rattle.building.proofs.Searches.{first-start, first-here, first-next, first-end}
+use Rattle.building.proofs.OldestFirst.{first-start, first-here, first-next, first-end}
 use Rattle.building.proofs.pool.find_constant.Statement.{statement}
 use Rattle.building.proofs.pool.find_constant.Tie as tie
 use native.Mathlib.Omega.{arith}
