@@ -1,13 +1,13 @@
 -- What the routines of `context.rt` do to areas 7 and 3, over the entries that fill them: a search finds what the definition's list has, an entry more
 -- stands behind the others or the mark is the area's, and a value changes no name. Assumes nothing.
-use Prim.Native.Nat.{ℕ, suc, _+_, _-_, _*_, _%_, _^_, _≤_, _<_}
+use Prim.Native.Nat.{ℕ, _+_, _-_, _*_, _^_, _≤_, _<_}
 use native.Mathlib.Omega.{arith}
 use native.Mathlib.Decide.{decLt}
 use mathlib.Core.Path.{_≡_, refl, sym, ap, _∙_}
 use mathlib.Core.Bool.{Bool, true, false, cond}
 use mathlib.Core.Option.{Option, none, some}
 use mathlib.Core.List.{List, [], _∷_, _++_}
-use lib.ListN.{length, getD, set, length-append, length-set, List·getD-append}
+use lib.ListN.{length, getD, set, length-append, List·getD-append}
 use lib.Seq.{getD-at, getD-set-same, getD-set-other, set-set}
 use lib.Dec.{eqb, ltb}
 use borrow.Author.Tests.{eqb-true, eqb-false, ltb-true, ltb-false, eq-eqb, ne-eqb, lt-ltb}
@@ -15,18 +15,18 @@ use Rattle.words.specs.Areas.{entriesIn, setEntry, entryWord, wordFits, context
 use Rattle.words.proofs.Entries.{field-in}
 use Rattle.definition.specs.FunctionState.{Entry, findName}
 use Rattle.definition.specs.Compiler.{CompilerState, Work}
-use Rattle.definition.specs.Program.{Entries, bit, codeEntries, functionEntry}
+use Rattle.definition.specs.Program.{Entries, codeEntries, functionEntry}
 use Rattle.building.specs.declared.scopes.Found.{Found}
 use Rattle.building.specs.declared.scopes.Found.the-variants.{At, Nothing}
 use Rattle.building.specs.declared.function_state.FunctionState as struct
 use Rattle.building.specs.declared.taking.Taken.{Taken}
-use Rattle.building.specs.Taking.{Took, taken, hasRoom, takenOf, tookWords}
+use Rattle.building.specs.Taking.{Took, taken, hasRoom}
 use Rattle.building.specs.Found.{isNamed, findContextLocalC}
 use Rattle.building.specs.Pool.{withWord}
 use Rattle.building.specs.Context.{Localing, localing, defineContextBy, defineContextC, setValueC, functionWords}
 use Rattle.building.specs.Held.{Machine, Filled, Contents, LocalsHeld}
 use Rattle.building.proofs.Filling.{room-fits, setEntry-length, filled-more, filled-set, filled-field, code-length}
-use Rattle.building.proofs.Searches.{first-name}
+use Rattle.building.proofs.OldestFirst.{first-name}
 
 -- `find_context_local`
 pub find-context-law : {start count : ℕ} {l : List ℕ} {s : CompilerState} (name : ℕ) → LocalsHeld start count l s

@@ -1,6 +1,6 @@
 pub mod Filling
 pub mod Room
-pub mod Searches
+pub mod OldestFirst
 pub mod PoolWays
 pub mod PoolLaws
 pub mod ContextWays

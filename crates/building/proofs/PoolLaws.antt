@@ -11,9 +11,9 @@ use lib.ListN.{length, getD, set, length-append, length-set}
 use lib.Dec.{eqb, ltb}
 use borrow.Author.Tests.{eqb-true, eqb-false, ltb-true, ltb-false, eq-eqb, ne-eqb, lt-ltb}
 use Rattle.words.specs.Ast.{Token}
-use Rattle.words.specs.Areas.{entriesIn, setEntry, entryField, wordFits, constantsArea, errorsArea}
+use Rattle.words.specs.Areas.{entriesIn, setEntry, entryField, constantsArea, errorsArea}
 use Rattle.words.specs.Object.{Constant, constantOf, isShared, sameConstant}
-use Rattle.definition.specs.Uses.{Limits, limitOf, using′}
+use Rattle.definition.specs.Uses.{Limits, using′}
 use Rattle.definition.specs.Book.{hasText}
 use Rattle.definition.specs.Compiler.{Work, Added, withConstants, addConstantNoCheck, addConstantBy, addConstant, findConstant, markGlobal, pushError}
 use Rattle.definition.specs.Program.{Entries, bit, constantEntry, errorEntry, entriesFrom}
@@ -23,12 +23,12 @@ use Rattle.definition.proofs.Cells.{single-length, single-at}
 use Rattle.building.specs.declared.function_state.FunctionState.{FunctionState}
 use Rattle.building.specs.declared.taking.Taken.{Taken}
 use Rattle.building.specs.State as state
-use Rattle.building.specs.Taking.{taken, hasRoom, takenOf, tookWords}
+use Rattle.building.specs.Taking.{taken, hasRoom}
 use Rattle.building.specs.Found.{isConstant, findConstantC}
 use Rattle.building.specs.Pool.{Pooling, pooling, addNoCheckC, addBy, addConstantC, withWord, markGlobalC, Erring, erring, pushErrorC}
-use Rattle.building.specs.Held.{Machine, machine, Filled, Contents, Held}
+use Rattle.building.specs.Held.{machine, Filled, Contents, Held}
 use Rattle.building.proofs.Filling.{room-fits, setEntry-length, filled-more, filled-set, filled-field, over-fits, over-here, held-full}
-use Rattle.building.proofs.Searches.{first-constant}
+use Rattle.building.proofs.OldestFirst.{first-constant}
 
 -- the entries of a list with one element more
 pub entries-more : {A : Type 0} (f : ℕ → A → Entries) (i : ℕ) (xs : List A) (x : A)

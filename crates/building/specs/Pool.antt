@@ -1,10 +1,10 @@
 -- What the routines of `pool.rt` make of the state, the constants and the errors, on any state and any words
 use Prim.Native.Nat.{ℕ, _+_, _*_}
-use mathlib.Core.Bool.{Bool, cond}
+use mathlib.Core.Bool.{cond}
 use mathlib.Core.Option.{Option, none, some}
 use mathlib.Core.List.{List, [], _∷_}
 use lib.ListN.{length, set}
-use lib.Dec.{eqb, ltb}
+use lib.Dec.{ltb}
 use Rattle.words.specs.Areas.{constantsArea, errorsArea, wordFits}
 use Rattle.words.specs.Object.{constantOf, isShared}
 use Rattle.building.specs.declared.function_state.FunctionState.{FunctionState}

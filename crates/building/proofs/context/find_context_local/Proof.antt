@@ -6,7 +6,7 @@ use Prim.Native.Nat.{_-_}
 use borrow.Author.Tests.{eq-eqb, ne-eqb}
 use Rattle.words.specs.Areas.{entryField}
 use Rattle.building.specs.Found.{isNamed, firstFrom}
-use Rattle.building.proofs.Searches.{first-here, first-next, first-end}
+use Rattle.building.proofs.OldestFirst.{first-here, first-next, first-end}
 use Rattle.building.proofs.context.find_context_local.Statement.{statement}
 use Rattle.building.proofs.context.find_context_local.Tie as tie
 use borrow.Author.Needs.{needs}

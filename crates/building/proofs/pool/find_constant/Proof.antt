@@ -2,10 +2,10 @@
 -- The measure is what is left of the count. Assumes nothing.
 -- Made from Proof.answers by `answers make`: edit that file, and not this one.
 use mathlib.Core.Path.{_≡_, sym, _∙_}
-use Prim.Native.Nat.{_-_, _≤_}
+use Prim.Native.Nat.{_-_}
 use Rattle.words.specs.Object.{constantOf}
 use Rattle.building.specs.Found.{isConstant, firstFrom}
-use Rattle.building.proofs.Searches.{first-start, first-here, first-next, first-end}
+use Rattle.building.proofs.OldestFirst.{first-start, first-here, first-next, first-end}
 use Rattle.building.proofs.pool.find_constant.Statement.{statement}
 use Rattle.building.proofs.pool.find_constant.Tie as tie
 use native.Mathlib.Omega.{arith}
