@@ -1,11 +1,10 @@
--- The code of functions in areas 1 and 3: an instruction's word is read back as the instruction, function j's entry names the first entry of its code,
--- and from there its code stands. By induction over the functions, each with one position for each instruction. Assumes nothing.
+-- The code of functions in areas 1 and 3: function j's entry names the first entry of its code, and from there its code stands. By induction over the functions, each with one position for each instruction. Assumes nothing.
 use Prim.Native.Nat.{ℕ, zero, suc, _+_, _*_, _/_, _%_, _^_, _≤_, _<_}
 use native.Mathlib.Omega.{arith}
 use mathlib.Core.Path.{_≡_, refl, ap, _∙_}
 use mathlib.Core.List.{List, [], _∷_}
 use lib.ListN.{length, getD, take}
-use Rattle.words.specs.Opcode.{Instruction, word, unword}
+use Rattle.words.specs.Opcode.{Instruction, word}
 use Rattle.definition.specs.FunctionState.{newFunctionState}
 use Rattle.definition.specs.Book.{Function, Context, codeOf}
 use Rattle.definition.specs.Program.{entriesFrom, codeEntries, functionCode, functionEntry, functionEntries}
@@ -16,13 +15,6 @@ use Rattle.definition.proofs.Cells.{Wide, all-at, entries-wide, entries
 -- every operand has its 56 bits
 abbrev pub OperandsFit : Context → Type 0
 OperandsFit c = All (λ (f : Function). Each (λ i x. x .operand < 2 ^ 56) (f .state .instructions)) (c .functions)
-
-pub unword-word : (x : Instruction) → x .operand < 2 ^ 56 → unword (word x) ≡ x
-unfolding word unword
-unword-word x h =
-    let o : (x .opcode * 2 ^ 56 + x .operand % 2 ^ 56) / 2 ^ 56 ≡ x .opcode = omega arith in
-    let n : (x .opcode * 2 ^ 56 + x .operand % 2 ^ 56) % 2 ^ 56 ≡ x .operand = omega arith in
-    rw (o, n)
 
 -- one position for each instruction
 abbrev pub Sized : Function → Type 0

@@ -27,7 +27,8 @@ use Rattle.definition.proofs.Safe.{at, Landed, counts, FunctionSafe, Pr
 use Rattle.definition.proofs.Lists.{all-map}
 use Rattle.definition.proofs.Sound.{find-name}
 use Rattle.definition.proofs.Cells.{Wide, Wides, end, _then_, all-at, table-word, table-whole, entries-all, entries-wide, single-length}
-use Rattle.definition.proofs.FunctionCode.{OperandsFit, Sized, functionAt, noFunction, unword-word, functionsCode-length, functionsCode-at}
+use Rattle.words.proofs.Codes.{unword-word}
+use Rattle.definition.proofs.FunctionCode.{OperandsFit, Sized, functionAt, noFunction, functionsCode-length, functionsCode-at}
 use Rattle.definition.proofs.FunctionCode.{functionsCode-wide, functions-length, functions-wide, functions-at, code-inside, logs-at}
 
 -- an area holds entries, all of them and whole
