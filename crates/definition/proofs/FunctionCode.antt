@@ -1,4 +1,5 @@
--- The code of functions in areas 1 and 3: function j's entry names the first entry of its code, and from there its code stands. By induction over the functions, each with one position for each instruction. Assumes nothing.
+-- The code of functions in areas 1 and 3: function j's entry names the first entry of its code, and from there its code stands. By induction over the
+-- functions, each with one position for each instruction. Assumes nothing.
 use Prim.Native.Nat.{ℕ, zero, suc, _+_, _*_, _/_, _%_, _^_, _≤_, _<_}
 use native.Mathlib.Omega.{arith}
 use mathlib.Core.Path.{_≡_, refl, ap, _∙_}
