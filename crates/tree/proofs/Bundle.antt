@@ -29,7 +29,8 @@ in-range : (w : List ℕ) (n s l i e : ℕ) → Children w s l i e → e - i ≤
 in-range w zero s l i e k b j a h = absurd (omega arith)
 in-range w (suc n) s l i e k b j a h = go (child k (omega arith)) (ℕ-discrete i j) (λ s l i e. in-range w n s l i e)
   where
-    go : Child w s l i e → Dec (i ≡ j) → ((s l i e : ℕ) → Children w s l i e → e - i ≤ n → (j : ℕ) → i ≤ j → j < e → inRange (kindAt w j) (positionAt w j) (valueAt w j) ≡ true)
+    go : Child w s l i e → Dec (i ≡ j)
+        → ((s l i e : ℕ) → Children w s l i e → e - i ≤ n → (j : ℕ) → i ≤ j → j < e → inRange (kindAt w j) (positionAt w j) (valueAt w j) ≡ true)
         → inRange (kindAt w j) (positionAt w j) (valueAt w j) ≡ true
     go c (yes q) r = subst (λ m. inRange (kindAt w m) (positionAt w m) (valueAt w m) ≡ true) q (c .range)
     go c (no q) r = by (decLt j (i + spanAt w i))
@@ -47,16 +48,21 @@ pub record Passed (w : List ℕ) : Type 0 where
   pub limit : recordsOf w ≤ mostRecords
   pub went : (u : ℕ) × (walkOf w 1 1 0 0 (recordsOf w) ≡ Went u)
 
+refused : {A : Type 0} {r p : ℕ} → Refused r p ≡ Fine → A
+refused h = let z : _≡_ {A = ℕ} 0 1 = cc in absurd (omega arith)
+
 pub fine-passed : (w : List ℕ) → shapeOf w ≡ Fine → Passed w
 unfolding shapeOf
 fine-passed w h = go (ℕ-discrete (length w % 4) 0) (decLt mostRecords (recordsOf w)) (ℕ-discrete (recordsOf w) 0)
   where
     go : Dec (length w % 4 ≡ 0) → Dec (mostRecords < recordsOf w) → Dec (recordsOf w ≡ 0) → Passed w
-    go (no a) b c = let g : Refused 2 0 ≡ Fine = simp (ne-eqb (length w % 4) 0 a) at h in let z : _≡_ {A = ℕ} 0 1 = cc in absurd (omega arith)
-    go (yes a) (yes b) c = let g : Refused 2 0 ≡ Fine = simp (eq-eqb (length w % 4) 0 a, lt-ltb mostRecords (recordsOf w) b) at h in let z : _≡_ {A = ℕ} 0 1 = cc in absurd (omega arith)
-    go (yes a) (no b) (yes c) = let g : Refused 3 0 ≡ Fine = simp (eq-eqb (length w % 4) 0 a, le-ltb mostRecords (recordsOf w) (omega arith), eq-eqb (recordsOf w) 0 c) at h in let z : _≡_ {A = ℕ} 0 1 = cc in absurd (omega arith)
+    go (no a) b c = refused (simp (ne-eqb (length w % 4) 0 a) at h)
+    go (yes a) (yes b) c = refused (simp (eq-eqb (length w % 4) 0 a, lt-ltb mostRecords (recordsOf w) b) at h)
+    go (yes a) (no b) (yes c) =
+        refused (simp (eq-eqb (length w % 4) 0 a, le-ltb mostRecords (recordsOf w) (omega arith), eq-eqb (recordsOf w) 0 c) at h)
     go (yes a) (no b) (no c) =
-        let g : shapeBy (walkOf w 1 1 0 0 (recordsOf w)) ≡ Fine = simp (eq-eqb (length w % 4) 0 a, le-ltb mostRecords (recordsOf w) (omega arith), ne-eqb (recordsOf w) 0 c) at h in
+        let g : shapeBy (walkOf w 1 1 0 0 (recordsOf w)) ≡ Fine
+        = simp (eq-eqb (length w % 4) 0 a, le-ltb mostRecords (recordsOf w) (omega arith), ne-eqb (recordsOf w) 0 c) at h in
         record { whole = a; limit = omega arith; went = fine-walk (walkOf w 1 1 0 0 (recordsOf w)) g }
 
 -- no document is ever due
@@ -69,20 +75,31 @@ unfolding isDue
 none-due w zero j e b = lacks-done w 1 j e (omega arith)
 none-due w (suc n) j e b = go (decLt j e) (withinOf j (spanAt w j) e) refl (none-due w n (j + spanAt w j) e)
   where
-    go : Dec (j < e) → (t : Bool) → withinOf j (spanAt w j) e ≡ t → (e - (j + spanAt w j) ≤ n → lacksOf w 1 (j + spanAt w j) e ≡ false) → lacksOf w 1 j e ≡ false
+    go : Dec (j < e) → (t : Bool) → withinOf j (spanAt w j) e ≡ t
+        → (e - (j + spanAt w j) ≤ n → lacksOf w 1 (j + spanAt w j) e ≡ false) → lacksOf w 1 j e ≡ false
     go (no h) t q r = lacks-done w 1 j e (omega arith)
     go (yes h) false q r = lacks-stop w 1 j e h q
     go (yes h) true q r =
         let x = within-true j (spanAt w j) e q in
         lacks-on w 1 j e h q ∙ subst (λ s. lacksOf w s (j + spanAt w j) e ≡ false) (sym (after-1 (kindAt w j))) (r (omega arith))
 
+documents : {w : List ℕ} → Passed w → Children w 1 1 0 (recordsOf w)
+documents {w} p = record {
+  before = 0;
+  after = p .went .0;
+  went = p .went .1;
+  full = none-due w (recordsOf w) 0 (recordsOf w) (omega arith);
+  ordered = omega arith;
+}
+
 -- the law
 pub fine-spells : (w : List ℕ) → shapeOf w ≡ Fine → Spelled w (documentsOf w)
 unfolding documentsOf isDue
 fine-spells w h =
     let p = fine-passed w h in
-    let k : Children w 1 1 0 (recordsOf w) = record { before = 0; after = p .went .0; went = p .went .1; full = none-due w (recordsOf w) 0 (recordsOf w) (omega arith); ordered = omega arith } in
-    let r = run-law (documentOf w) DocumentAt sizeDoc depthDoc w (takes 1 refl) (document-item w) (recordsOf w) 1 0 (recordsOf w) (omega arith) k (omega arith) in
+    let n = recordsOf w in
+    let k = documents p in
+    let r = run-law (documentOf w) DocumentAt sizeDoc depthDoc w (takes 1 refl) (document-item w) n 1 0 n (omega arith) k (omega arith) in
     let z = r .fills in
     let d = r .deep in
     record {

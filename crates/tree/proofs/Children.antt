@@ -14,7 +14,7 @@ use Rattle.tree.specs.declared.Outcome.the-variants.{Went, Fault}
 use Rattle.tree.proofs.Spans.{and-left, and-right, within-true}
 use Rattle.tree.proofs.Walks.{lacks-done, lacks-on, head-went, walk-on}
 use lib.Dec.{eqb}
-use Rattle.tree.specs.At.{Head, Leaf}
+use Rattle.tree.specs.At.{Head, Headed, Leaf}
 use Rattle.tree.specs.Reading.{next}
 
 -- the records from i to e are children from slot s on, at level l, none at fault and none lacking
@@ -59,9 +59,7 @@ then-went (Fault r p) f u h = let z : _≡_ {A = ℕ} 0 1 = cc in absurd (omega 
 pub child : {w : List ℕ} {s l i e : ℕ} → Children w s l i e → i < e → Child w s l i e
 child {w} {s} {l} {i} {e} k h =
     let t = k .before in
-    let o : thenOn (headAt w s l t i e) (λ t₁. thenOn (walkOf w (firstSlot (kindAt w i)) (l + 1) t₁ (i + 1) (i + spanAt w i)) (λ t₂. walkOf w (slotAfter s (kindAt w i)) l t₂ (i + spanAt w i) e))
-    ≡ Went (k .after) = sym (walk-on w s l t i e h) ∙ k .went in
-    let a = then-went (headAt w s l t i e) _ (k .after) o in
+    let a = then-went (headAt w s l t i e) _ (k .after) (sym (walk-on w s l t i e h) ∙ k .went) in
     let b = then-went (walkOf w (firstSlot (kindAt w i)) (l + 1) (a .0) (i + 1) (i + spanAt w i)) _ (k .after) (a .2) in
     let g = head-went w s l t i e (a .0) (a .1) in
     let p = sound-parts w s t i e (g .sound) in
@@ -142,7 +140,12 @@ pub record First (w : List ℕ) (ks : List ℕ) (s′ l i e : ℕ) : Type 0 wher
 
 first-of : {w : List ℕ} {ks : List ℕ} {s s′ l i e : ℕ} → Takes s ks s′ → Child w s l i e → First w ks s′ l i e
 first-of {w} {ks} {s} {s′} {l} {i} {e} t c =
-    record { is = t .only (kindAt w i) (c .may); node = node c; fits = c .fits; rest = subst (λ x. Children w x l (next w i) e) (t .after (kindAt w i)) (c .rest) }
+    record {
+      is = t .only (kindAt w i) (c .may);
+      node = node c;
+      fits = c .fits;
+      rest = subst (λ x. Children w x l (next w i) e) (t .after (kindAt w i)) (c .rest);
+    }
 
 pub first : {w : List ℕ} {ks : List ℕ} {s s′ l i e : ℕ} → Takes s ks s′ → isDue s ≡ true → Children w s l i e → First w ks s′ l i e
 first t d k = first-of t (due-child d k)
@@ -161,6 +164,10 @@ alone {w} {l} {i} f n =
 
 pub leaf : {w : List ℕ} {l i k : ℕ} → firstSlot k ≡ 0 → Node w l i k → Leaf w i k (tokenAt w i)
 leaf f n = record { head = alone f n; token = refl }
+
+-- a record of a kind and a span, with its token
+pub headed : {w : List ℕ} {i k n : ℕ} → kindAt w i ≡ k → spanAt w i ≡ n → Headed w i k n (tokenAt w i)
+headed k n = record { head = record { kind-is = k; span-is = n }; token = refl }
 
 -- a child that is a record of one kind, without children
 pub leaf-first : {w : List ℕ} {s′ l i e : ℕ} (k : ℕ) → firstSlot k ≡ 0 → First w (k ∷ []) s′ l i e → Leaf w i k (tokenAt w i)

@@ -20,10 +20,10 @@ use Rattle.tree.specs.At.{FunctionAt, sizeD, DefinitionAt, sizeDoc, Docu
 use Rattle.tree.specs.Reading.{next, listOf, pairsOf, bindingOf, aliasOf, parametersOf, functionOf, partOf, definitionBy, definitionOf}
 use Rattle.tree.specs.Reading.{documentOf}
 use Rattle.tree.proofs.Walks.{lacks-done, lacks-on, head-went, walk-done, walk-on, walk-next}
-use Rattle.tree.proofs.Children.{takes, first, only-one, alone, leaf, leaf-first, children-as, Children, child, no-child, any, no-more, _&_}
-use Rattle.tree.proofs.Children.{Node, node, node-as, Sound, sound-parts, then-went}
+use Rattle.tree.proofs.Children.{headed, takes, first, only-one, alone, leaf, leaf-first, children-as, Children, child, no-child, any, no-more}
+use Rattle.tree.proofs.Children.{_&_, Node, node, node-as, Sound, sound-parts, then-went}
 use Rattle.tree.proofs.Spells.{laws}
-use Rattle.tree.proofs.Runs.{Item, run-law, pairs-law}
+use Rattle.tree.proofs.Runs.{Item, run-of, pairs-of}
 
 -- names
 
@@ -40,7 +40,8 @@ constants-bare : (k : ℕ) → has k constants ≡ true → firstSlot k ≡ 0
 unfolding firstSlot
 constants-bare k h = any (λ j. firstSlot j ≡ 0) k constants h (refl & refl & refl & refl & refl & refl & refl & refl & no-more)
 
-binding-item : (w : List ℕ) (i : ℕ) → Leaf w i 40 (tokenAt w i) → has (kindAt w (i + 1)) constants ≡ true → Head w (i + 1) (kindAt w (i + 1)) 1 → BindingAt (bindingOf w i) w i
+binding-item : (w : List ℕ) (i : ℕ) → Leaf w i 40 (tokenAt w i) → has (kindAt w (i + 1)) constants ≡ true → Head w (i + 1) (kindAt w (i + 1)) 1
+    → BindingAt (bindingOf w i) w i
 unfolding ValueAt
 binding-item w i a h c = (a, go (ℕ-discrete (kindAt w (i + 1)) 49))
   where
@@ -48,7 +49,8 @@ binding-item w i a h c = (a, go (ℕ-discrete (kindAt w (i + 1)) 49))
     go (yes q) = rw (eq-eqb (kindAt w (i + 1)) 49 q) (record { kind-is = q; span-is = c .span-is })
     go (no q) = rw (ne-eqb (kindAt w (i + 1)) 49 q) (record { head = c; token = refl }, q)
 
-alias-item : (w : List ℕ) (i : ℕ) → Leaf w i 40 (tokenAt w i) → has (kindAt w (i + 1)) (40 ∷ []) ≡ true → Head w (i + 1) (kindAt w (i + 1)) 1 → AliasAt (aliasOf w i) w i
+alias-item : (w : List ℕ) (i : ℕ) → Leaf w i 40 (tokenAt w i) → has (kindAt w (i + 1)) (40 ∷ []) ≡ true → Head w (i + 1) (kindAt w (i + 1)) 1
+    → AliasAt (aliasOf w i) w i
 alias-item w i a h c = (a, record { head = record { kind-is = only-one (kindAt w (i + 1)) 40 h; span-is = c .span-is }; token = refl })
 
 names-bare : (k : ℕ) → has k (40 ∷ []) ≡ true → firstSlot k ≡ 0
@@ -168,13 +170,14 @@ function-item w l i k q m =
     let v = m .level in
     let p = params-law w (spanAt w i) (l + 1) (i + 1) (next w i) (omega arith) (children-as q m) (omega arith) in
     let y = p .rest .ordered in
-    let r = laws w (2 * spanAt w i) .ss (l + 1) (i + 1 + length (parametersOf (spanAt w i) w (i + 1) (next w i))) (next w i) (omega arith) (p .rest) (omega arith) in
+    let j = i + 1 + length (parametersOf (spanAt w i) w (i + 1) (next w i)) in
+    let r = laws w (2 * spanAt w i) .ss (l + 1) j (next w i) (omega arith) (p .rest) (omega arith) in
     let z = r .size in
     let d = r .deep in
     let c = p .deep in
     let x : spanAt w i ≡ sizeF (functionOf w i) = omega arith in
     record {
-      is = record { headed = record { head = record { kind-is = m .kind-is; span-is = x }; token = refl }; parameters = p .is; body = r .is };
+      is = record { headed = headed (m .kind-is) x; parameters = p .is; body = r .is };
       fills = sym x;
       deep = omega arith;
     }
@@ -193,7 +196,7 @@ unfolding DefinitionAt sizeD depthD firstSlot isDue
 d-local w l i m =
     let o = m .some in
     let v = m .level in
-    let p = pairs-law (bindingOf w) BindingAt w (takes 3 refl) (takes 4 refl) refl constants-bare (binding-item w) (spanAt w i) (l + 1) (i + 1) (next w i) (omega arith) (children-as refl m) (omega arith) in
+    let p = pairs-of (bindingOf w) BindingAt (takes 3 refl) (takes 4 refl) refl constants-bare (binding-item w) refl m in
     let z = p .fills in
     let d = p .deep in
     let q : spanAt w i ≡ 1 + runSize double (pairsOf (bindingOf w) (spanAt w i) w (i + 1) (next w i)) = omega arith in
@@ -204,33 +207,33 @@ unfolding DefinitionAt sizeD depthD firstSlot isDue
 d-include w l i m =
     let o = m .some in
     let v = m .level in
-    let p = pairs-law (aliasOf w) AliasAt w (takes 5 refl) (takes 6 refl) refl names-bare (alias-item w) (spanAt w i) (l + 1) (i + 1) (next w i) (omega arith) (children-as refl m) (omega arith) in
+    let p = pairs-of (aliasOf w) AliasAt (takes 5 refl) (takes 6 refl) refl names-bare (alias-item w) refl m in
     let z = p .fills in
     let d = p .deep in
     let q : spanAt w i ≡ 1 + runSize double (pairsOf (aliasOf w) (spanAt w i) w (i + 1) (next w i)) = omega arith in
-    record { is = (record { head = record { kind-is = m .kind-is; span-is = q }; token = refl }, p .is); fills = sym q; deep = omega arith }
+    record { is = (headed (m .kind-is) q, p .is); fills = sym q; deep = omega arith }
 
 d-model : (w : List ℕ) (l i : ℕ) → Node w l i 12 → ItemD w l i (definitionBy (partOf 12) w i)
 unfolding DefinitionAt sizeD depthD firstSlot
 d-model w l i m =
     let o = m .some in
     let v = m .level in
-    let p = run-law (tokenAt w) NameAt single single w (takes 7 refl) (name-item w) (spanAt w i) (l + 1) (i + 1) (next w i) (omega arith) (children-as refl m) (omega arith) in
+    let p = run-of (tokenAt w) NameAt single single (takes 7 refl) (name-item w) refl m in
     let z = p .fills in
     let d = p .deep in
     let q : spanAt w i ≡ 1 + runSize single (listOf (tokenAt w) (spanAt w i) w (i + 1) (next w i)) = omega arith in
-    record { is = (record { head = record { kind-is = m .kind-is; span-is = q }; token = refl }, p .is); fills = sym q; deep = omega arith }
+    record { is = (headed (m .kind-is) q, p .is); fills = sym q; deep = omega arith }
 
 d-public-model : (w : List ℕ) (l i : ℕ) → Node w l i 13 → ItemD w l i (definitionBy (partOf 13) w i)
 unfolding DefinitionAt sizeD depthD firstSlot
 d-public-model w l i m =
     let o = m .some in
     let v = m .level in
-    let p = run-law (tokenAt w) NameAt single single w (takes 7 refl) (name-item w) (spanAt w i) (l + 1) (i + 1) (next w i) (omega arith) (children-as refl m) (omega arith) in
+    let p = run-of (tokenAt w) NameAt single single (takes 7 refl) (name-item w) refl m in
     let z = p .fills in
     let d = p .deep in
     let q : spanAt w i ≡ 1 + runSize single (listOf (tokenAt w) (spanAt w i) w (i + 1) (next w i)) = omega arith in
-    record { is = (record { head = record { kind-is = m .kind-is; span-is = q }; token = refl }, p .is); fills = sym q; deep = omega arith }
+    record { is = (headed (m .kind-is) q, p .is); fills = sym q; deep = omega arith }
 
 d-function : (w : List ℕ) (l i : ℕ) → Node w l i 14 → ItemD w l i (definitionBy (partOf 14) w i)
 unfolding DefinitionAt sizeD depthD firstSlot
@@ -245,11 +248,11 @@ unfolding DefinitionAt sizeD depthD firstSlot
 d-implement w l i m =
     let o = m .some in
     let v = m .level in
-    let p = run-law (functionOf w) (FunctionAt 14) sizeF depthF w (takes 10 refl) (method-item w) (spanAt w i) (l + 1) (i + 1) (next w i) (omega arith) (children-as refl m) (omega arith) in
+    let p = run-of (functionOf w) (FunctionAt 14) sizeF depthF (takes 10 refl) (method-item w) refl m in
     let z = p .fills in
     let d = p .deep in
     let q : spanAt w i ≡ 1 + runSize sizeF (listOf (functionOf w) (spanAt w i) w (i + 1) (next w i)) = omega arith in
-    record { is = (record { head = record { kind-is = m .kind-is; span-is = q }; token = refl }, p .is); fills = sym q; deep = omega arith }
+    record { is = (headed (m .kind-is) q, p .is); fills = sym q; deep = omega arith }
 
 d-apply : (w : List ℕ) (l i : ℕ) → Node w l i 17 → ItemD w l i (definitionBy (partOf 17) w i)
 unfolding DefinitionAt sizeD depthD firstSlot isDue
@@ -275,13 +278,14 @@ definition-item w l i h m = any (λ k. Node w l i k → ItemD w l i (definitionB
 
 -- documents
 
-pub document-item : (w : List ℕ) (l i : ℕ) → has (kindAt w i) (1 ∷ []) ≡ true → Node w l i (kindAt w i) → Item DocumentAt sizeDoc depthDoc w l i (documentOf w i)
+pub document-item : (w : List ℕ) (l i : ℕ) → has (kindAt w i) (1 ∷ []) ≡ true → Node w l i (kindAt w i)
+    → Item DocumentAt sizeDoc depthDoc w l i (documentOf w i)
 unfolding documentOf firstSlot
 document-item w l i h n =
     let m = node-as n (only-one (kindAt w i) 1 h) in
     let o = m .some in
     let v = m .level in
-    let p = run-law (definitionOf w) DefinitionAt sizeD depthD w (takes 2 refl) (definition-item w) (spanAt w i) (l + 1) (i + 1) (next w i) (omega arith) (children-as refl m) (omega arith) in
+    let p = run-of (definitionOf w) DefinitionAt sizeD depthD (takes 2 refl) (definition-item w) refl m in
     let z = p .fills in
     let d = p .deep in
     let q : spanAt w i ≡ 1 + runSize sizeD (listOf (definitionOf w) (spanAt w i) w (i + 1) (next w i)) = omega arith in

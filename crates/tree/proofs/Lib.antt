@@ -10,3 +10,4 @@ pub mod Runs
 pub mod Definitions
 pub mod Bundle
 pub mod View
+pub mod Examples

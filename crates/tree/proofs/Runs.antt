@@ -11,7 +11,7 @@ use Rattle.tree.specs.Rules.{has, isDue, firstSlot}
 use Rattle.words.specs.Record.{kindAt, spanAt, tokenAt, mostLevels}
 use Rattle.tree.specs.At.{Head, Leaf, RunAt, runSize, runDepth, single, double}
 use Rattle.tree.specs.Reading.{next, listOf, pairsOf}
-use Rattle.tree.proofs.Children.{Takes, first, first-if, alone, leaf-first, Children, Node}
+use Rattle.tree.proofs.Children.{children-as, Takes, first, first-if, alone, leaf-first, Children, Node}
 
 -- a thing that stands at i, on level l: it fills its record's span, and no level of it is past the last
 pub record Item {A : Type 0} (at : A → List ℕ → ℕ → Type 0) (size depth : A → ℕ) (w : List ℕ) (l i : ℕ) (x : A) : Type 0 where
@@ -32,7 +32,8 @@ unfolding RunAt runSize runDepth listOf
 run-law f at size depth w t item zero l i e d k b = let o = k .ordered in record { is = tt; fills = omega arith; deep = omega arith }
 run-law {A} f at size depth w {s} {ks} t item (suc n) l i e d k b = go (decLt i e) (run-law f at size depth w t item n l)
   where
-    go : Dec (i < e) → ((i e : ℕ) → l ≤ mostLevels + 1 → Children w s l i e → e - i ≤ n → Run at size depth w l i e (listOf f n w i e)) → Run at size depth w l i e (listOf f (suc n) w i e)
+    go : Dec (i < e) → ((i e : ℕ) → l ≤ mostLevels + 1 → Children w s l i e → e - i ≤ n → Run at size depth w l i e (listOf f n w i e))
+        → Run at size depth w l i e (listOf f (suc n) w i e)
     go (no h) r = let o = k .ordered in rw (le-ltb i e (omega arith)) (record { is = tt; fills = omega arith; deep = omega arith })
     go (yes h) r =
         let x = first-if t h k in
@@ -44,7 +45,11 @@ run-law {A} f at size depth w {s} {ks} t item (suc n) l i e d k b = go (decLt i 
         let z = q .fills in
         let d₁ = p .deep in
         let d₂ = q .deep in
-        rw (lt-ltb i e h) (record { is = (p .is, subst (λ j. RunAt at size (listOf f n w (next w i) e) w (i + j)) (sym y) (q .is)); fills = omega arith; deep = omega arith })
+        rw (lt-ltb i e h) (record {
+          is = (p .is, subst (λ j. RunAt at size (listOf f n w (next w i) e) w (i + j)) (sym y) (q .is));
+          fills = omega arith;
+          deep = omega arith;
+        })
 
 -- pairs: a name, then a record without children
 pub pairs-law : {A : Type 0} (f : ℕ → A) (at : A → List ℕ → ℕ → Type 0) (w : List ℕ) {s s′ : ℕ} {ks : List ℕ}
@@ -73,3 +78,21 @@ pairs-law {A} f at w {s} {s′} {ks} t u q bare item (suc n) l i e d k b = go (d
         let d₁ = y .node .level in
         let d₂ = p .deep in
         rw (lt-ltb i e h) (record { is = (item i a (y .is) c, p .is); fills = omega arith; deep = omega arith })
+
+-- the children of one record, all of one sort
+pub run-of : {A : Type 0} (f : ℕ → A) (at : A → List ℕ → ℕ → Type 0) (size depth : A → ℕ) {w : List ℕ} {s l i k : ℕ} {ks : List ℕ} → Takes s ks s
+    → ((l i : ℕ) → has (kindAt w i) ks ≡ true → Node w l i (kindAt w i) → Item at size depth w l i (f i)) → firstSlot k ≡ s → Node w l i k
+    → Run at size depth w (l + 1) (i + 1) (next w i) (listOf f (spanAt w i) w (i + 1) (next w i))
+run-of f at size depth {w} {s} {l} {i} t item q m =
+    let o = m .some in
+    let v = m .level in
+    run-law f at size depth w t item (spanAt w i) (l + 1) (i + 1) (next w i) (omega arith) (children-as q m) (omega arith)
+
+pub pairs-of : {A : Type 0} (f : ℕ → A) (at : A → List ℕ → ℕ → Type 0) {w : List ℕ} {s s′ l i k : ℕ} {ks : List ℕ}
+    → Takes s (40 ∷ []) s′ → Takes s′ ks s → isDue s′ ≡ true → ((k : ℕ) → has k ks ≡ true → firstSlot k ≡ 0)
+    → ((i : ℕ) → Leaf w i 40 (tokenAt w i) → has (kindAt w (i + 1)) ks ≡ true → Head w (i + 1) (kindAt w (i + 1)) 1 → at (f i) w i)
+    → firstSlot k ≡ s → Node w l i k → Run at double single w (l + 1) (i + 1) (next w i) (pairsOf f (spanAt w i) w (i + 1) (next w i))
+pairs-of f at {w} {s} {s′} {l} {i} t u d bare item q m =
+    let o = m .some in
+    let v = m .level in
+    pairs-law f at w t u d bare item (spanAt w i) (l + 1) (i + 1) (next w i) (omega arith) (children-as q m) (omega arith)

@@ -15,8 +15,8 @@ use Rattle.tree.specs.At.{Head, Leaf, sizeE, sizeEs, sizeVs, sizeS, size
 use Rattle.tree.specs.At.{ExpressionsAt, VariablesAt, StatementAt, StatementsAt}
 use Rattle.tree.specs.Reading.{next, formOf, expressionBy, actOf, statementBy, variableBy, expressionOf, expressionsOf, variablesOf}
 use Rattle.tree.specs.Reading.{statementOf, statementsOf}
-use Rattle.tree.proofs.Children.{takes, First, first, first-if, only-one, alone, leaf, leaf-first, children-as, Children, no-child, any}
-use Rattle.tree.proofs.Children.{no-more, _&_, Node, node, node-as}
+use Rattle.tree.proofs.Children.{headed, takes, First, first, first-if, only-one, alone, leaf, leaf-first, children-as, Children, no-child}
+use Rattle.tree.proofs.Children.{any, no-more, _&_, Node, node, node-as}
 
 -- what is read at a place is what stands there, it fills the record's span, and no level of it is past 64
 pub record ReadsE (w : List ℕ) (l i : ℕ) (x : Expression) : Type 0 where
@@ -87,14 +87,19 @@ module _ {w : List ℕ} {n : ℕ} (L : Laws w n) where
       let y = f .node .some in
       record { a = one f (omega arith); b = one g (omega arith); end = no-child (g .rest) }
 
+  -- what is read of a record whose kind is k
+  abbrev e-by : ℕ → ℕ → Expression
+  e-by k i = expressionBy (formOf k) w i (λ j. expressionOf n w j) (λ j. expressionsOf n w j (next w i)) (λ j. statementsOf n w (j + 1) (next w j))
+
   e-as : {l i : ℕ} (k : ℕ) → kindAt w i ≡ k
-      → ReadsE w l i (expressionBy (formOf k) w i (λ j. expressionOf n w j) (λ j. expressionsOf n w j (next w i)) (λ j. statementsOf n w (j + 1) (next w j)))
+      → ReadsE w l i (e-by k i)
       → ReadsE w l i (expressionOf (suc n) w i)
   unfolding expressionOf
   e-as {l} {i} k q r =
-      subst (λ x. ReadsE w l i (expressionBy (formOf x) w i (λ j. expressionOf n w j) (λ j. expressionsOf n w j (next w i)) (λ j. statementsOf n w (j + 1) (next w j)))) (sym q) r
+      subst (λ x. ReadsE w l i (e-by x i)) (sym q) r
 
-  e-leaf : {l i : ℕ} (k : ℕ) (x : Expression) → (Leaf w i k (tokenAt w i) → ExpressionAt x w i) → sizeE x ≡ 1 → depthE x ≡ 1 → firstSlot k ≡ 0 → Node w l i k → ReadsE w l i x
+  e-leaf : {l i : ℕ} (k : ℕ) (x : Expression) → (Leaf w i k (tokenAt w i) → ExpressionAt x w i)
+      → sizeE x ≡ 1 → depthE x ≡ 1 → firstSlot k ≡ 0 → Node w l i k → ReadsE w l i x
   e-leaf {l} {i} k x f s d z m =
       let h = leaf z m in
       let p = h .head .span-is in
@@ -110,7 +115,7 @@ module _ {w : List ℕ} {n : ℕ} (L : Laws w n) where
       let z = r .size in
       let d = r .deep in
       let q : spanAt w i ≡ 1 + sizeEs (expressionsOf n w (i + 1) (next w i)) = omega arith in
-      record { is = (record { head = record { kind-is = m .kind-is; span-is = q }; token = refl }, r .is); size = sym q; deep = omega arith }
+      record { is = (headed (m .kind-is) q, r .is); size = sym q; deep = omega arith }
 
   e-prefix : {l i : ℕ} → Node w l i 38 → 2 * spanAt w i ≤ suc (suc n) → ReadsE w l i (Prefix (tokenAt w i) (expressionOf n w (i + 1)))
   unfolding ExpressionAt sizeE depthE firstSlot isDue
@@ -123,7 +128,7 @@ module _ {w : List ℕ} {n : ℕ} (L : Laws w n) where
       let d = r .deep in
       let y = no-child (f .rest) in
       let q : spanAt w i ≡ 1 + sizeE (expressionOf n w (i + 1)) = omega arith in
-      record { is = (record { head = record { kind-is = m .kind-is; span-is = q }; token = refl }, r .is); size = sym q; deep = omega arith }
+      record { is = (headed (m .kind-is) q, r .is); size = sym q; deep = omega arith }
 
   -- of two expressions: the record's span, where the second stands, how deep they are
   record Pair (l i : ℕ) : Type 0 where
@@ -149,23 +154,26 @@ module _ {w : List ℕ} {n : ℕ} (L : Laws w n) where
         deep = omega arith;
       }
 
-  e-infix : {l i : ℕ} → Node w l i 39 → 2 * spanAt w i ≤ suc (suc n) → ReadsE w l i (Infix (expressionOf n w (i + 1)) (tokenAt w i) (expressionOf n w (next w (i + 1))))
+  e-infix : {l i : ℕ} → Node w l i 39 → 2 * spanAt w i ≤ suc (suc n)
+      → ReadsE w l i (Infix (expressionOf n w (i + 1)) (tokenAt w i) (expressionOf n w (next w (i + 1))))
   unfolding ExpressionAt sizeE depthE firstSlot
   e-infix {l} {i} m b =
       let p = e-pair refl m b in
-      record { is = (record { head = record { kind-is = m .kind-is; span-is = p .span }; token = refl }, p .left, p .right); size = sym (p .span); deep = p .deep }
+      record { is = (headed (m .kind-is) (p .span), p .left, p .right); size = sym (p .span); deep = p .deep }
 
-  e-instance : {l i : ℕ} → Node w l i 45 → 2 * spanAt w i ≤ suc (suc n) → ReadsE w l i (InstanceGet (tokenAt w i) (expressionOf n w (i + 1)) (expressionOf n w (next w (i + 1))))
+  e-instance : {l i : ℕ} → Node w l i 45 → 2 * spanAt w i ≤ suc (suc n)
+      → ReadsE w l i (InstanceGet (tokenAt w i) (expressionOf n w (i + 1)) (expressionOf n w (next w (i + 1))))
   unfolding ExpressionAt sizeE depthE firstSlot
   e-instance {l} {i} m b =
       let p = e-pair refl m b in
-      record { is = (record { head = record { kind-is = m .kind-is; span-is = p .span }; token = refl }, p .left, p .right); size = sym (p .span); deep = p .deep }
+      record { is = (headed (m .kind-is) (p .span), p .left, p .right); size = sym (p .span); deep = p .deep }
 
-  e-index : {l i : ℕ} → Node w l i 46 → 2 * spanAt w i ≤ suc (suc n) → ReadsE w l i (IndexGet (tokenAt w i) (expressionOf n w (i + 1)) (expressionOf n w (next w (i + 1))))
+  e-index : {l i : ℕ} → Node w l i 46 → 2 * spanAt w i ≤ suc (suc n)
+      → ReadsE w l i (IndexGet (tokenAt w i) (expressionOf n w (i + 1)) (expressionOf n w (next w (i + 1))))
   unfolding ExpressionAt sizeE depthE firstSlot
   e-index {l} {i} m b =
       let p = e-pair refl m b in
-      record { is = (record { head = record { kind-is = m .kind-is; span-is = p .span }; token = refl }, p .left, p .right); size = sym (p .span); deep = p .deep }
+      record { is = (headed (m .kind-is) (p .span), p .left, p .right); size = sym (p .span); deep = p .deep }
 
   e-call : {l i : ℕ} → Node w l i 44 → 2 * spanAt w i ≤ suc (suc n)
       → ReadsE w l i (Call (tokenAt w i) (expressionOf n w (i + 1)) (expressionsOf n w (next w (i + 1)) (next w i)))
@@ -184,7 +192,7 @@ module _ {w : List ℕ} {n : ℕ} (L : Laws w n) where
       let q : spanAt w i ≡ 1 + sizeE (expressionOf n w (i + 1)) + sizeEs (expressionsOf n w (next w (i + 1)) (next w i)) = omega arith in
       record {
         is = (
-          record { head = record { kind-is = m .kind-is; span-is = q }; token = refl },
+          headed (m .kind-is) q,
           r .is,
           subst (λ j. ExpressionsAt (expressionsOf n w (next w (i + 1)) (next w i)) w (i + 1 + j)) (sym y) (p .is),
         );
@@ -263,12 +271,12 @@ module _ {w : List ℕ} {n : ℕ} (L : Laws w n) where
         }
 
   e-42 : {l i : ℕ} → Node w l i 42 → 2 * spanAt w i ≤ suc (suc n)
-      → ReadsE w l i (expressionBy (formOf 42) w i (λ j. expressionOf n w j) (λ j. expressionsOf n w j (next w i)) (λ j. statementsOf n w (j + 1) (next w j)))
+      → ReadsE w l i (e-by 42 i)
   unfolding c t f
   e-42 {l} {i} m b = go (decLt (next w (next w (i + 1))) (next w i)) (e-parts m b)
     where
       go : Dec (next w (next w (i + 1)) < next w i) → Parts l i
-          → ReadsE w l i (expressionBy (formOf 42) w i (λ j. expressionOf n w j) (λ j. expressionsOf n w j (next w i)) (λ j. statementsOf n w (j + 1) (next w j)))
+          → ReadsE w l i (e-by 42 i)
       go (yes h) p =
           let g = first-if (takes 22 refl) h (p .rest) in
           let x = p .condition .size in
@@ -346,7 +354,8 @@ module _ {w : List ℕ} {n : ℕ} (L : Laws w n) where
   v-by : Bool → ℕ → ℕ → Variables
   v-by t i e = variableBy t w i (λ k. expressionOf n w k) (λ k. variablesOf n w k e)
 
-  v-bare : (l i e : ℕ) → l ≤ mostLevels → Leaf w i 40 (tokenAt w i) → Head w (i + 1) 49 1 → Children w 13 l (i + 2) e → 2 * (e - i) ≤ suc n → i + 2 ≤ e → ReadsVs w l i e (v-by true i e)
+  v-bare : (l i e : ℕ) → l ≤ mostLevels → Leaf w i 40 (tokenAt w i) → Head w (i + 1) 49 1 → Children w 13 l (i + 2) e
+      → 2 * (e - i) ≤ suc n → i + 2 ≤ e → ReadsVs w l i e (v-by true i e)
   unfolding ExpressionAt sizeE depthE v-by
   v-bare l i e d a h k b o =
       let p = L .vs l (i + 2) e (omega arith) k (omega arith) in
@@ -354,7 +363,8 @@ module _ {w : List ℕ} {n : ℕ} (L : Laws w n) where
       let d₂ = p .deep in
       record { is = (a, h, p .is); size = omega arith; deep = omega arith }
 
-  v-valued : (l i e : ℕ) → l ≤ mostLevels → Leaf w i 40 (tokenAt w i) → First w expressions 13 l (i + 1) e → 2 * (e - i) ≤ suc n → i < e → ReadsVs w l i e (v-by false i e)
+  v-valued : (l i e : ℕ) → l ≤ mostLevels → Leaf w i 40 (tokenAt w i) → First w expressions 13 l (i + 1) e
+      → 2 * (e - i) ≤ suc n → i < e → ReadsVs w l i e (v-by false i e)
   unfolding ExpressionAt sizeE depthE v-by
   v-valued l i e d a f b o =
       let g = f .fits in
@@ -401,14 +411,18 @@ module _ {w : List ℕ} {n : ℕ} (L : Laws w n) where
 
   -- statements
 
+  abbrev s-by : ℕ → ℕ → Statement
+  s-by k i = statementBy (actOf k) w i (λ j. expressionOf n w j) (λ j. variablesOf n w j (next w i)) (λ j. statementsOf n w j (next w i))
+
   s-as : {l i : ℕ} (k : ℕ) → kindAt w i ≡ k
-      → ReadsS w l i (statementBy (actOf k) w i (λ j. expressionOf n w j) (λ j. variablesOf n w j (next w i)) (λ j. statementsOf n w j (next w i)))
+      → ReadsS w l i (s-by k i)
       → ReadsS w l i (statementOf (suc n) w i)
   unfolding expressionOf
   s-as {l} {i} k q r =
-      subst (λ x. ReadsS w l i (statementBy (actOf x) w i (λ j. expressionOf n w j) (λ j. variablesOf n w j (next w i)) (λ j. statementsOf n w j (next w i)))) (sym q) r
+      subst (λ x. ReadsS w l i (s-by x i)) (sym q) r
 
-  s-leaf : {l i : ℕ} (k : ℕ) (x : Statement) → (Leaf w i k (tokenAt w i) → StatementAt x w i) → sizeS x ≡ 1 → depthS x ≡ 1 → firstSlot k ≡ 0 → Node w l i k → ReadsS w l i x
+  s-leaf : {l i : ℕ} (k : ℕ) (x : Statement) → (Leaf w i k (tokenAt w i) → StatementAt x w i)
+      → sizeS x ≡ 1 → depthS x ≡ 1 → firstSlot k ≡ 0 → Node w l i k → ReadsS w l i x
   s-leaf {l} {i} k x f s d z m =
       let h = leaf z m in
       let p = h .head .span-is in
@@ -460,7 +474,7 @@ module _ {w : List ℕ} {n : ℕ} (L : Laws w n) where
       let q : spanAt w i ≡ 2 + sizeE (expressionOf n w (i + 2)) + sizeSs (statementsOf n w (next w (i + 2)) (next w i)) = omega arith in
       record {
         is = (
-          record { head = record { kind-is = m .kind-is; span-is = q }; token = refl },
+          headed (m .kind-is) q,
           a,
           r .is,
           subst (λ j. StatementsAt (statementsOf n w (next w (i + 2)) (next w i)) w (i + 2 + j)) (sym y) (p .is),

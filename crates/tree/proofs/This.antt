@@ -81,13 +81,14 @@ threads w (suc n) s l t i e u k b = go (decLt i e) (λ s l t i e u. threads w n 
             let m : x .middle ≡ a = p .kept (λ v. omega arith) in
             q .kept (λ v. omega arith) ∙ m
 
-        keep : (x : Step w s l t i e u) → Threads w (thisAfter (kindAt w i) (valueAt w i) t) (x .middle) (i + 1) (i + spanAt w i) → Threads w (x .middle) u (i + spanAt w i) e → (t ≡ 0 → ⊥) → u ≡ t
+        keep : (x : Step w s l t i e u) → Threads w (thisAfter (kindAt w i) (valueAt w i) t) (x .middle) (i + 1) (i + spanAt w i)
+            → Threads w (x .middle) u (i + spanAt w i) e → (t ≡ 0 → ⊥) → u ≡ t
         keep x p q z =
             let a : thisAfter (kindAt w i) (valueAt w i) t ≡ t = after-any (kindAt w i) (valueAt w i) t (x .sound .this) z in
             on x (thisAfter (kindAt w i) (valueAt w i) t) p q (omega arith) ∙ a
 
-        one : (x : Step w s l t i e u) → Threads w (thisAfter (kindAt w i) (valueAt w i) t) (x .middle) (i + 1) (i + spanAt w i) → Threads w (x .middle) u (i + spanAt w i) e
-            → (j : ℕ) → i ≤ j → j < e → kindAt w j ≡ 41 → (valueAt w j ≡ u) × (0 < u)
+        one : (x : Step w s l t i e u) → Threads w (thisAfter (kindAt w i) (valueAt w i) t) (x .middle) (i + 1) (i + spanAt w i)
+            → Threads w (x .middle) u (i + spanAt w i) e → (j : ℕ) → i ≤ j → j < e → kindAt w j ≡ 41 → (valueAt w j ≡ u) × (0 < u)
         one x p q j a g c = by (ℕ-discrete i j) (decLt j (i + spanAt w i))
           where
             by : Dec (i ≡ j) → Dec (j < i + spanAt w i) → (valueAt w j ≡ u) × (0 < u)

@@ -209,7 +209,8 @@ kindD-in (ImplementDefinition t fs) = refl
 kindD-in (ApplyDefinition s t) = refl
 
 -- kind 42 is an if with or without a false part; the others stand alone at their kind
-pub if-cases : {e : Expression} (P : Expression → Type 0) → ViewE 42 e → ((c : Expression) (t : Statements) → P (If c t)) → ((c : Expression) (t f : Statements) → P (IfElse c t f)) → P e
+pub if-cases : {e : Expression} (P : Expression → Type 0) → ViewE 42 e → ((c : Expression) (t : Statements) → P (If c t))
+    → ((c : Expression) (t f : Statements) → P (IfElse c t f)) → P e
 if-cases P (v-If {c} {t}) a b = a c t
 if-cases P (v-IfElse {c} {t} {f}) a b = b c t f
 
@@ -221,4 +222,6 @@ function-case P (v-PlainFunction {f}) g = g f
 
 -- a value is absent exactly at kind 49
 pub value-there : (e : Expression) (w : List ℕ) (i : ℕ) → ExpressionAt e w i → kindAt w i ≡ 49 → ⊥
-value-there e w i h q = let k : has 49 expressions ≡ true = subst (λ j. has j expressions ≡ true) (sym (headE e h .kind-is) ∙ q) (kindE-in e) in let z : _≡_ {A = ℕ} 0 1 = cc in omega arith
+value-there e w i h q =
+    let k : has 49 expressions ≡ true = subst (λ j. has j expressions ≡ true) (sym (headE e h .kind-is) ∙ q) (kindE-in e) in
+    let z : _≡_ {A = ℕ} 0 1 = cc in omega arith

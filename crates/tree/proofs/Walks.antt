@@ -103,7 +103,9 @@ walk-by-done zero w s l t i e h = refl
 walk-by-done (suc n) w s l t i e h = simp (le-ltb i e h)
 
 abbrev on : ℕ → List ℕ → ℕ → ℕ → ℕ → ℕ → ℕ → Outcome
-on n w s l t i e = thenOn (walkBy n w (firstSlot (kindAt w i)) (l + 1) t (i + 1) (i + spanAt w i)) (λ t₂. walkBy n w (slotAfter s (kindAt w i)) l t₂ (i + spanAt w i) e)
+on n w s l t i e =
+    thenOn (walkBy n w (firstSlot (kindAt w i)) (l + 1) t (i + 1) (i + spanAt w i))
+    (λ t₂. walkBy n w (slotAfter s (kindAt w i)) l t₂ (i + spanAt w i) e)
 
 walk-by-on : (n : ℕ) (w : List ℕ) (s l t i e : ℕ) → i < e → walkBy (suc n) w s l t i e ≡ thenOn (headAt w s l t i e) (λ t₁. on n w s l t₁ i e)
 unfolding walkBy
@@ -114,7 +116,8 @@ walk-fuel zero m w s l t i e a b = walk-by-done zero w s l t i e (omega arith) �
 walk-fuel (suc n) zero w s l t i e a b = walk-by-done (suc n) w s l t i e (omega arith) ∙ sym (walk-by-done zero w s l t i e (omega arith))
 walk-fuel (suc n) (suc m) w s l t i e a b = go (decLt i e) (walk-fuel n m w)
   where
-    go : Dec (i < e) → ((s l t i e : ℕ) → e - i ≤ n → e - i ≤ m → walkBy n w s l t i e ≡ walkBy m w s l t i e) → walkBy (suc n) w s l t i e ≡ walkBy (suc m) w s l t i e
+    go : Dec (i < e) → ((s l t i e : ℕ) → e - i ≤ n → e - i ≤ m → walkBy n w s l t i e ≡ walkBy m w s l t i e)
+        → walkBy (suc n) w s l t i e ≡ walkBy (suc m) w s l t i e
     go (no h) r = walk-by-done (suc n) w s l t i e (omega arith) ∙ sym (walk-by-done (suc m) w s l t i e (omega arith))
     go (yes h) r = walk-by-on n w s l t i e h ∙ then-same (headAt w s l t i e) (λ t₁. on n w s l t₁ i e) (λ t₁. on m w s l t₁ i e)
         (λ t₁ g.

@@ -20,8 +20,8 @@ use Rattle.tree.proofs.Walks.{lacks-stop, lacks-on, sound-within, walk-
 pub lacks-out : (w : List ℕ) (s j e : ℕ) {sp : ℕ} {b : Bool} → j < e → sp ≡ spanAt w j → b ≡ withinOf j sp e → not b ≡ true → false ≡ lacksOf w s j e
 lacks-out w s j e {sp} {b} h a p q = sym (lacks-stop w s j e h (let n : b ≡ false = not-true b q in cc))
 
-pub lacks-more : (w : List ℕ) (s j e : ℕ) {k sp r : ℕ} {b : Bool} → j < e → k ≡ kindAt w j → sp ≡ spanAt w j → b ≡ withinOf j sp e → not b ≡ false → r ≡ slotAfter s k
-    → lacksOf w s j e ≡ lacksOf w r (j + sp) e
+pub lacks-more : (w : List ℕ) (s j e : ℕ) {k sp r : ℕ} {b : Bool}
+    → j < e → k ≡ kindAt w j → sp ≡ spanAt w j → b ≡ withinOf j sp e → not b ≡ false → r ≡ slotAfter s k → lacksOf w s j e ≡ lacksOf w r (j + sp) e
 lacks-more w s j e {k} {sp} {r} {b} h x a p q y =
     let n : b ≡ true = not-false b q in
     let o : lacksOf w s j e ≡ lacksOf w (slotAfter s (kindAt w j)) (j + spanAt w j) e = lacks-on w s j e h (cc) in
@@ -117,6 +117,7 @@ pub shape-none : (w : List ℕ) → length w % 4 ≡ 0 → recordsOf w ≤ mostR
 unfolding shapeOf
 shape-none w a n z = simp (eq-eqb (length w % 4) 0 a, le-ltb mostRecords (recordsOf w) n, eq-eqb (recordsOf w) 0 z)
 
-pub shape-walked : (w : List ℕ) → length w % 4 ≡ 0 → recordsOf w ≤ mostRecords → (recordsOf w ≡ 0 → ⊥) → {o : Outcome} → o ≡ walkOf w 1 1 0 0 (recordsOf w) → shapeBy o ≡ shapeOf w
+pub shape-walked : (w : List ℕ) → length w % 4 ≡ 0 → recordsOf w ≤ mostRecords → (recordsOf w ≡ 0 → ⊥) → {o : Outcome}
+    → o ≡ walkOf w 1 1 0 0 (recordsOf w) → shapeBy o ≡ shapeOf w
 unfolding shapeOf
 shape-walked w a n z O = simp (eq-eqb (length w % 4) 0 a, le-ltb mostRecords (recordsOf w) n, ne-eqb (recordsOf w) 0 z) (ap shapeBy O)

@@ -1,4 +1,5 @@
--- What the records from a place on spell: relations between the tree of `Ast` and `Book` and the words
+-- What the records from a place on spell, node by node: relations between the tree of `Ast` and the words. The kinds, the order of children, and that a
+-- span counts 'records in its subtree, itself included' are 01's, 'The tree'
 use Prim.Native.Nat.{ℕ, _+_, max}
 use mathlib.Core.Path.{_≡_}
 use mathlib.Core.Option.{Option, none, some}
@@ -12,16 +13,17 @@ use Rattle.words.specs.Ast.{Rescue, Expr, ∅ₛ, _∷ₛ_, Binding, Alias, Fun
 use Rattle.words.specs.Ast.{ModelDefinition, PublicModelDefinition, PlainFunction, PublicFunction, ImplementDefinition, ApplyDefinition, Document}
 use Rattle.words.specs.Record.{tokenAt, kindAt, spanAt, valueAt}
 
--- what every record says of itself: its kind and its span
+-- what every record says of itself: its kind and its span (01, 'A record is four 64-bit words')
 pub record Head (w : List ℕ) (i kind span : ℕ) : Type 0 where
   pub kind-is : kindAt w i ≡ kind
   pub span-is : spanAt w i ≡ span
 
--- a record without children, and its token
+-- a record without children, and its token: position, kind and value
 pub record Leaf (w : List ℕ) (i kind : ℕ) (t : Token) : Type 0 where
   pub head : Head w i kind 1
   pub token : t ≡ tokenAt w i
 
+-- the kinds of expressions (01, 'The tree')
 abbrev pub kindE : Expression → ℕ
 kindE (Identifier t) = 30
 kindE (This t) = 31
@@ -39,6 +41,7 @@ kindE (Call t f ps) = 44
 kindE (InstanceGet t a b) = 45
 kindE (IndexGet t a b) = 46
 
+-- the kinds of statements
 abbrev pub kindS : Statement → ℕ
 kindS (Local vs) = 20
 kindS (Return t) = 21
@@ -47,6 +50,7 @@ kindS (Rescue t) = 23
 kindS (For t n e ss) = 24
 kindS (Expr e) = 25
 
+-- the kinds of definitions
 abbrev pub kindD : Definition → ℕ
 kindD (LocalDefinition bs) = 10
 kindD (IncludeDefinition t l) = 11
@@ -57,7 +61,7 @@ kindD (PublicFunction f) = 15
 kindD (ImplementDefinition t fs) = 16
 kindD (ApplyDefinition s t) = 17
 
--- how many records spell it
+-- how many records spell it: its span. Blocks (43), names (40) and absent values (49) are records too
 unfoldable mutual
   pub sizeE : Expression → ℕ
   sizeE (Identifier t) = 1
@@ -97,7 +101,7 @@ unfoldable mutual
   sizeSs ∅ₛ = 0
   sizeSs (s ∷ₛ ss) = sizeS s + sizeSs ss
 
--- how many levels it has
+-- how many levels it has, itself counted: a child is one level below (01, 'A document is level 1'). A name beside an expression is no deeper than it
 unfoldable mutual
   pub depthE : Expression → ℕ
   depthE (Identifier t) = 1
@@ -137,11 +141,13 @@ unfoldable mutual
   depthSs ∅ₛ = 0
   depthSs (s ∷ₛ ss) = max (depthS s) (depthSs ss)
 
--- a record of a kind with its token, and what its children are
+-- a record of a kind and a span with its token
 pub record Headed (w : List ℕ) (i kind span : ℕ) (t : Token) : Type 0 where
   pub head : Head w i kind span
   pub token : t ≡ tokenAt w i
 
+-- what stands at a place: the record of its kind and span, and its children from the next place on, each after the span of the one before. Kinds 20, 25,
+-- 42 and 43 have no token (01: position and value 0), so a `Head` alone
 unfoldable mutual
   pub ExpressionAt : Expression → List ℕ → ℕ → Type 0
   ExpressionAt (Identifier t) w i = Leaf w i 30 t
@@ -177,14 +183,15 @@ unfoldable mutual
   StatementAt (Return t) w i = Leaf w i 21 t
   StatementAt (Break t) w i = Leaf w i 22 t
   StatementAt (Rescue t) w i = Leaf w i 23 t
-  StatementAt (For t n e ss) w i = Headed w i 24 (2 + sizeE e + sizeSs ss) t × Leaf w (i + 1) 40 n × ExpressionAt e w (i + 2) × StatementsAt ss w (i + 2 + sizeE e)
+  StatementAt (For t n e ss) w i = Headed w i 24 (2 + sizeE e + sizeSs ss) t × Leaf w (i + 1) 40 n × ExpressionAt e w (i + 2)
+      × StatementsAt ss w (i + 2 + sizeE e)
   StatementAt (Expr e) w i = Head w i 25 (1 + sizeE e) × ExpressionAt e w (i + 1)
 
   pub StatementsAt : Statements → List ℕ → ℕ → Type 0
   StatementsAt ∅ₛ w i = Unit {0}
   StatementsAt (s ∷ₛ ss) w i = StatementAt s w i × StatementsAt ss w (i + sizeS s)
 
--- a list of things, one after the other
+-- a list of things, one after the other; their records, and the most levels of one
 unfoldable pub RunAt : {A : Type 0} → (A → List ℕ → ℕ → Type 0) → (A → ℕ) → List A → List ℕ → ℕ → Type 0
 RunAt at size [] w i = Unit {0}
 RunAt at size (x ∷ xs) w i = at x w i × RunAt at size xs w (i + size x)
@@ -197,35 +204,39 @@ unfoldable pub runDepth : {A : Type 0} → (A → ℕ) → List A → ℕ
 runDepth depth [] = 0
 runDepth depth (x ∷ xs) = max (depth x) (runDepth depth xs)
 
--- definitions: names, pairs, functions
-
+-- kind 40
 abbrev pub NameAt : Token → List ℕ → ℕ → Type 0
 NameAt t w i = Leaf w i 40 t
 
+-- a thing of one record, which is one level, or of two side by side
 abbrev pub single : {A : Type 0} → A → ℕ
 single x = 1
 
 abbrev pub double : {A : Type 0} → A → ℕ
 double x = 2
 
+-- kinds 40 and 41
 abbrev pub isParameter : ℕ → Bool
 isParameter k = eqb k 40 || eqb k 41
 
--- names, or `this` parameters
+-- the parameters of a 14 or 15: names, or `this` parameters
 unfoldable pub ParametersAt : List Token → List ℕ → ℕ → Type 0
 ParametersAt [] w i = Unit {0}
 ParametersAt (t ∷ ts) w i = Leaf w i (t .kind) t × (isParameter (t .kind) ≡ true) × ParametersAt ts w (i + 1)
 
+-- the value of a local definition's pair; 49 where there is none
 unfoldable pub ValueAt : Option Token → List ℕ → ℕ → Type 0
 ValueAt none w i = Head w i 49 1
 ValueAt (some t) w i = Leaf w i (t .kind) t × (t .kind ≡ 49 → ⊥)
 
+-- the pairs of kinds 10 and 11
 abbrev pub BindingAt : Binding → List ℕ → ℕ → Type 0
 BindingAt b w i = Leaf w i 40 (b .variable) × ValueAt (b .value) w (i + 1)
 
 abbrev pub AliasAt : Alias → List ℕ → ℕ → Type 0
 AliasAt a w i = Leaf w i 40 (a .publicName) × Leaf w (i + 1) 40 (a .alias)
 
+-- kinds 14 and 15
 abbrev pub sizeF : FunctionDefinition → ℕ
 sizeF f = 1 + length (f .parameters) + sizeSs (f .body)
 
@@ -234,6 +245,7 @@ pub record FunctionAt (kind : ℕ) (f : FunctionDefinition) (w : List ℕ) (i : 
   pub parameters : ParametersAt (f .parameters) w (i + 1)
   pub body : StatementsAt (f .body) w (i + 1 + length (f .parameters))
 
+-- definitions, kinds 10 to 17
 unfoldable pub sizeD : Definition → ℕ
 sizeD (LocalDefinition bs) = 1 + runSize double bs
 sizeD (IncludeDefinition t l) = 1 + runSize double l
@@ -254,6 +266,7 @@ DefinitionAt (PublicFunction f) w i = FunctionAt 15 f w i
 DefinitionAt (ImplementDefinition t fs) w i = Headed w i 16 (1 + runSize sizeF fs) t × RunAt (FunctionAt 14) sizeF fs w (i + 1)
 DefinitionAt (ApplyDefinition s t) w i = Head w i 17 3 × Leaf w (i + 1) 40 s × Leaf w (i + 2) 40 t
 
+-- documents, kind 1
 abbrev pub sizeDoc : Document → ℕ
 sizeDoc d = 1 + runSize sizeD (d .definitions)
 

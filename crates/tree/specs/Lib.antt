@@ -4,4 +4,3 @@ pub mod Check
 pub mod At
 pub mod Reading
 pub mod Spelled
-pub mod Examples

@@ -1,5 +1,5 @@
--- The tree that words spell, whatever they are: `documentsOf` reads each record once, by its kind. On words that `shapeOf` finds fine it is
--- the tree that stands there (`DocumentsAt`)
+-- The tree that words spell, whatever they are: `documentsOf` reads each record by its kind, children by spans (01, 'The tree'). On words that `shapeOf`
+-- finds fine it is the tree that stands there (`DocumentsAt`): `fine-spells`, proofs/Bundle.antt
 use Prim.Native.Nat.{ℕ, zero, suc, _+_, _*_}
 use mathlib.Core.Bool.{Bool, true, false, cond, _||_}
 use mathlib.Core.Option.{none, some}
@@ -14,18 +14,26 @@ use mathlib.Core.Path.{_≡_, refl}
 use Rattle.words.specs.Record.{fieldOf, kindAt, spanAt, valueAt, tokenAt}
 use Rattle.tree.specs.Check.{recordsOf, onlyIf}
 
--- the record after the subtree at a place
+-- the record after the subtree at a place, by its span
 abbrev pub next : List ℕ → ℕ → ℕ
 next w i = i + spanAt w i
 
--- what a kind stands for, so that a clause may match it
+-- the entry of a number in a table
+abbrev pub look : {A : Type 0} → ℕ → List (ℕ × A) → A → A
+look k [] other = other
+look k (p ∷ ps) other = cond (eqb k (p .0)) (p .1) (look k ps other)
+
+-- what a kind of expression stands for, so that a clause may match it
 pub data Form : Type 0 where
   fIdentifier fThis fNull fInteger fFloat fText fBoolean fArray fPrefix fInfix fIf fCall fInstance fIndex : Form
 
+abbrev pub forms : List (ℕ × Form)
+forms =
+    (30, fIdentifier) ∷ (31, fThis) ∷ (32, fNull) ∷ (33, fInteger) ∷ (34, fFloat) ∷ (35, fText) ∷ (36, fBoolean) ∷ (37, fArray) ∷ (38, fPrefix)
+    ∷ (39, fInfix) ∷ (42, fIf) ∷ (44, fCall) ∷ (45, fInstance) ∷ (46, fIndex) ∷ []
+
 abbrev pub formOf : ℕ → Form
-formOf k =
-    cond (eqb k 30) fIdentifier (cond (eqb k 31) fThis (cond (eqb k 33) fInteger (cond (eqb k 34) fFloat (cond (eqb k 35) fText (cond (eqb k 36) fBoolean
-    (cond (eqb k 37) fArray (cond (eqb k 38) fPrefix (cond (eqb k 39) fInfix (cond (eqb k 42) fIf (cond (eqb k 44) fCall (cond (eqb k 45) fInstance (cond (eqb k 46) fIndex fNull))))))))))))
+formOf k = look k forms fNull
 
 -- an expression of the record at i, from readers of an expression, of expressions up to the record's end, and of a block's statements
 abbrev pub expressionBy : Form → List ℕ → ℕ → (ℕ → Expression) → (ℕ → Expressions) → (ℕ → Statements) → Expression
@@ -46,11 +54,15 @@ expressionBy fCall w i one many block = Call (tokenAt w i) (one (i + 1)) (many (
 expressionBy fInstance w i one many block = InstanceGet (tokenAt w i) (one (i + 1)) (one (next w (i + 1)))
 expressionBy fIndex w i one many block = IndexGet (tokenAt w i) (one (i + 1)) (one (next w (i + 1)))
 
+-- and of statements
 pub data Act : Type 0 where
   aLocal aReturn aBreak aRescue aFor aExpr : Act
 
+abbrev pub acts : List (ℕ × Act)
+acts = (20, aLocal) ∷ (21, aReturn) ∷ (22, aBreak) ∷ (23, aRescue) ∷ (24, aFor) ∷ (25, aExpr) ∷ []
+
 abbrev pub actOf : ℕ → Act
-actOf k = cond (eqb k 20) aLocal (cond (eqb k 22) aBreak (cond (eqb k 23) aRescue (cond (eqb k 24) aFor (cond (eqb k 25) aExpr aReturn))))
+actOf k = look k acts aReturn
 
 abbrev pub statementBy : Act → List ℕ → ℕ → (ℕ → Expression) → (ℕ → Variables) → (ℕ → Statements) → Statement
 statementBy aLocal w i one pairs many = Local (pairs (i + 1))
@@ -60,6 +72,7 @@ statementBy aRescue w i one pairs many = Rescue (tokenAt w i)
 statementBy aFor w i one pairs many = For (tokenAt w i) (tokenAt w (i + 1)) (one (i + 2)) (many (next w (i + 2)))
 statementBy aExpr w i one pairs many = Expr (one (i + 1))
 
+-- a pair of a 20: a name, and 49 or an expression
 abbrev pub variableBy : Bool → List ℕ → ℕ → (ℕ → Expression) → (ℕ → Variables) → Variables
 variableBy true w i one more = Bare (tokenAt w i) (more (i + 2))
 variableBy false w i one more = Valued (tokenAt w i) (one (i + 1)) (more (next w (i + 1)))
@@ -98,9 +111,11 @@ unfoldable pub pairsOf : {A : Type 0} → (ℕ → A) → ℕ → List ℕ → �
 pairsOf f zero w i e = []
 pairsOf f (suc n) w i e = onlyIf (ltb i e) [] (λ j. f j ∷ pairsOf f n w (j + 2) e) i
 
+-- a pair of a 10: a name, and 49 or a value
 abbrev pub bindingOf : List ℕ → ℕ → Binding
 bindingOf w i = record { variable = tokenAt w i; value = cond (eqb (kindAt w (i + 1)) 49) none (some (tokenAt w (i + 1))) }
 
+-- a pair of an 11: 'public name then alias'
 abbrev pub aliasOf : List ℕ → ℕ → Alias
 aliasOf w i = record { publicName = tokenAt w i; alias = tokenAt w (i + 1) }
 
@@ -115,13 +130,16 @@ functionOf w i =
     let ps = parametersOf (spanAt w i) w (i + 1) (next w i) in
     record { name = tokenAt w i; parameters = ps; body = statementsOf (2 * spanAt w i) w (i + 1 + length ps) (next w i) }
 
+-- what a kind of definition stands for
 pub data Part : Type 0 where
   pLocal pInclude pModel pPublicModel pFunction pPublicFunction pImplement pApply : Part
 
+abbrev pub parts : List (ℕ × Part)
+parts =
+    (10, pLocal) ∷ (11, pInclude) ∷ (12, pModel) ∷ (13, pPublicModel) ∷ (14, pFunction) ∷ (15, pPublicFunction) ∷ (16, pImplement) ∷ (17, pApply) ∷ []
+
 abbrev pub partOf : ℕ → Part
-partOf k =
-    cond (eqb k 10) pLocal (cond (eqb k 11) pInclude (cond (eqb k 12) pModel (cond (eqb k 13) pPublicModel
-    (cond (eqb k 14) pFunction (cond (eqb k 15) pPublicFunction (cond (eqb k 16) pImplement pApply))))))
+partOf k = look k parts pApply
 
 abbrev pub definitionBy : Part → List ℕ → ℕ → Definition
 definitionBy pLocal w i = LocalDefinition (pairsOf (bindingOf w) (spanAt w i) w (i + 1) (next w i))
@@ -136,28 +154,10 @@ definitionBy pApply w i = ApplyDefinition (tokenAt w (i + 1)) (tokenAt w (i + 2)
 unfoldable pub definitionOf : List ℕ → ℕ → Definition
 definitionOf w i = definitionBy (partOf (kindAt w i)) w i
 
+-- kind 1: the file is its value
 unfoldable pub documentOf : List ℕ → ℕ → Document
 documentOf w i = record { filename = valueAt w i; definitions = listOf (definitionOf w) (spanAt w i) w (i + 1) (next w i) }
 
+-- 'a bundle is one or more documents; the first is the root'
 unfoldable pub documentsOf : List ℕ → List Document
 documentsOf w = listOf (documentOf w) (recordsOf w) w 0 (recordsOf w)
-
--- the listing's book: file 2 holds f (text 3) with parameter x (text 4): `if x return end`
-readDocuments : List ℕ → List Document
-unfolding documentsOf documentOf definitionOf listOf parametersOf expressionOf fieldOf
-readDocuments w = documentsOf w
-
-abbrev tok : ℕ → ℕ → ℕ → Token
-tok p k v = record { position = p; kind = k; value = v }
-
-listing : readDocuments (1 ∷ 8 ∷ 0 ∷ 2 ∷ 15 ∷ 7 ∷ 65546 ∷ 3 ∷ 40 ∷ 1 ∷ 0 ∷ 4 ∷ 25 ∷ 5 ∷ 0 ∷ 0 ∷ 42 ∷ 4 ∷ 0 ∷ 0 ∷ 30 ∷ 1 ∷ 131078 ∷ 4 ∷ 43 ∷ 2 ∷ 0 ∷ 0 ∷ 21 ∷ 1 ∷ 196613 ∷ 0 ∷ [])
-    ≡ record {
-      filename = 2;
-      definitions = PublicFunction (record {
-        name = tok 65546 15 3;
-        parameters = tok 0 40 4 ∷ [];
-        body = Expr (If (Identifier (tok 131078 30 4)) (Return (tok 196613 21 0) ∷ₛ ∅ₛ)) ∷ₛ ∅ₛ;
-      }) ∷ [];
-    } ∷ []
-unfolding readDocuments
-listing = refl

@@ -1,16 +1,28 @@
--- The rows in which the code holds the tables of `Rules`: a slot's kinds are one number, with a bit for each kind
-use Prim.Native.Nat.{ℕ, _+_, _^_}
+-- The numbers in which the code holds the rows of the tables in `Rules`. That they say the same is proved, proofs/Tables.antt
+use Prim.Native.Nat.{ℕ, _+_, _*_, _/_, _%_, _^_}
+use mathlib.Core.Bool.{cond}
 use mathlib.Core.List.{List, [], _∷_}
-use Rattle.tree.specs.Rules.{Slot, Rule}
-use Rattle.tree.specs.declared.SlotRow.{SlotRow}
-use Rattle.tree.specs.declared.RuleRow.{RuleRow}
+use lib.Dec.{eqb}
+use Rattle.tree.specs.Rules.{Slot, Rule, anywhere, text, anything}
 
+-- a slot: a bit for each of its kinds, which are below 50, then the slot after it, then whether a child is due
 abbrev pub bits : List ℕ → ℕ
 bits [] = 0
 bits (k ∷ ks) = 2 ^ k + bits ks
 
-abbrev pub slotRow : Slot → SlotRow
-slotRow s = (bits (s .kinds), s .next, s .due)
+abbrev pub slotRow : Slot → ℕ
+slotRow s = bits (s .kinds) + s .next * 2 ^ 50 + cond (s .due) (2 ^ 55) 0
 
-abbrev pub ruleRow : Rule → RuleRow
-ruleRow r = (r .first, r .position, r .least, r .most)
+-- a rule: the slot of the first child, which is below 32, whether it has a position, whether its value is a text or any word, else the greatest value
+abbrev pub valueRow : ℕ → ℕ
+valueRow most = cond (eqb most text) 64 (cond (eqb most anything) 128 (most * 256))
+
+abbrev pub ruleRow : Rule → ℕ
+ruleRow r = r .first + cond (eqb (r .position) 0) 0 32 + valueRow (r .most)
+
+-- the greatest position and the greatest value that a row says
+unfoldable pub positionIn : ℕ → ℕ
+positionIn row = cond (eqb (row / 32 % 2) 1) anywhere 0
+
+unfoldable pub mostIn : ℕ → ℕ
+mostIn row = cond (eqb (row / 64 % 2) 1) text (cond (eqb (row / 128 % 2) 1) anything (row / 256))

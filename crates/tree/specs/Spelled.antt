@@ -1,4 +1,4 @@
--- What the rest of the compiler learns of words that `shapeOf` finds fine. Proved as `fine-spells` in proofs/Bundle.antt
+-- What the rest of the compiler learns of words that `shapeOf` finds fine. Proved as `fine-spells`, proofs/Bundle.antt
 use Prim.Native.Nat.{ℕ, _%_, _≤_, _<_}
 use mathlib.Core.Path.{_≡_}
 use mathlib.Core.Bool.{true}
@@ -10,7 +10,8 @@ use Rattle.tree.specs.Check.{recordsOf}
 use Rattle.tree.specs.Rules.{inRange}
 use Rattle.tree.specs.At.{DocumentsAt, runSize, sizeDoc, runDepth, depthDoc}
 
--- the words spell the documents, which fill them; no level is past 64; positions and values are in range; 41 has one number
+-- the words spell the documents, node by node, and hold nothing else; no level is past the last; the length is one of row 2's; every record's position
+-- and value are in range; all 41s have one number (01, 'The tree')
 pub record Spelled (w : List ℕ) (ds : List Document) : Type 0 where
   pub documents : DocumentsAt ds w 0
   pub fills : runSize sizeDoc ds ≡ recordsOf w

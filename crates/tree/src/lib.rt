@@ -3,7 +3,7 @@
 use words::record::field;
 ghost use mathlib.Core.Path.{_≡_};
 ghost use Rattle.tree.specs.Rules.{slotOf, ruleOf, mayStand, goesOn, slotAfter, isDue, firstSlot, inRange};
-ghost use Rattle.tree.specs.Rows.{slotRow, ruleRow};
+ghost use Rattle.tree.specs.Rows.{slotRow, ruleRow, positionIn, mostIn};
 ghost use Rattle.tree.specs.Check.{withinOf, lacksOf, walkOf, sameThis, thisAfter, soundAt, shapeOf};
 
 // Limits of 01: records of a bundle, levels, the number of a text, a position (65,535 lines and columns, packed).
@@ -11,11 +11,11 @@ const MOST_RECORDS: usize = 1048576;
 
 const MOST_LEVELS: usize = 64;
 
-const TEXT: u64 = 1048575;
+const MOST_TEXT: u64 = 1048575;
 
-const ANYWHERE: u64 = 4294967295;
+const MOST_POSITION: u64 = 4294967295;
 
-const ANYTHING: u64 = 18446744073709551615;
+const MOST_WORD: u64 = 18446744073709551615;
 
 // The kinds that parameters have.
 const NAME: u64 = 40;
@@ -23,8 +23,6 @@ const NAME: u64 = 40;
 const THIS_PARAMETER: u64 = 41;
 
 // Sets of kinds, a bit for each.
-const NONE: u64 = 0;
-
 const DOCUMENT: u64 = 1 << 1;
 
 const DEFINITIONS: u64 = 0xFF << 10;
@@ -33,9 +31,9 @@ const FUNCTION: u64 = 1 << 14;
 
 const STATEMENTS: u64 = 0x3F << 20;
 
-const EXPRESSIONS: u64 = (0x3FF << 30) | (1 << 42) | (7 << 44);
+const EXPRESSIONS: u64 = (0x3FF << 30) + (1 << 42) + (7 << 44);
 
-const CONSTANTS: u64 = (1 << 30) | (0x1F << 32) | (1 << 47) | (1 << 49);
+const CONSTANTS: u64 = (1 << 30) + (0x1F << 32) + (1 << 47) + (1 << 49);
 
 const NAMES: u64 = 1 << 40;
 
@@ -45,93 +43,103 @@ const BLOCK: u64 = 1 << 43;
 
 const ABSENT: u64 = 1 << 49;
 
-// A place among the children of a record: the kinds that may stand there, the slot after it, and whether a child is due.
-struct SlotRow(u64, usize, bool);
+// A slot, a place among the children of a record, is one number: the kinds that may stand there, NEXT times the slot after it, and DUE where a child
+// is due.
+const NEXT: u64 = 1 << 50;
 
-const SLOTS: [SlotRow; 24] = [
-    SlotRow(NONE, 0, false), // 0: nothing more
-    SlotRow(DOCUMENT, 1, false), // 1: documents
-    SlotRow(DEFINITIONS, 2, false), // 2: definitions
-    SlotRow(NAMES, 4, false), // 3: local definition: a name, or no more
-    SlotRow(CONSTANTS, 3, true), // 4: its value
-    SlotRow(NAMES, 6, false), // 5: include: a public name, or no more
-    SlotRow(NAMES, 5, true), // 6: its alias
-    SlotRow(NAMES, 7, false), // 7: names
-    SlotRow(PARAMETERS | STATEMENTS, 9, false), // 8: parameters, then statements
-    SlotRow(STATEMENTS, 9, false), // 9: statements
-    SlotRow(FUNCTION, 10, false), // 10: functions
-    SlotRow(NAMES, 12, true), // 11: apply: the source
-    SlotRow(NAMES, 0, true), // 12: the target
-    SlotRow(NAMES, 14, false), // 13: local statement: a name, or no more
-    SlotRow(ABSENT | EXPRESSIONS, 13, true), // 14: its value
-    SlotRow(NAMES, 16, true), // 15: for: the name
-    SlotRow(EXPRESSIONS, 9, true), // 16: the enumerable
-    SlotRow(EXPRESSIONS, 0, true), // 17: one expression
-    SlotRow(EXPRESSIONS, 18, false), // 18: expressions
-    SlotRow(EXPRESSIONS, 17, true), // 19: the first of two expressions
-    SlotRow(EXPRESSIONS, 21, true), // 20: if: the condition
-    SlotRow(BLOCK, 22, true), // 21: the true part
-    SlotRow(BLOCK, 0, false), // 22: the false part, or no more
-    SlotRow(EXPRESSIONS, 18, true), // 23: call: the function
+const DUE: u64 = 1 << 55;
+
+const SLOTS: [u64; 24] = [
+    0, // 0: nothing more
+    DOCUMENT + NEXT, // 1: documents
+    DEFINITIONS + 2 * NEXT, // 2: definitions
+    NAMES + 4 * NEXT, // 3: local definition: a name, or no more
+    CONSTANTS + 3 * NEXT + DUE, // 4: its value
+    NAMES + 6 * NEXT, // 5: include: a public name, or no more
+    NAMES + 5 * NEXT + DUE, // 6: its alias
+    NAMES + 7 * NEXT, // 7: names
+    PARAMETERS + STATEMENTS + 9 * NEXT, // 8: parameters, then statements
+    STATEMENTS + 9 * NEXT, // 9: statements
+    FUNCTION + 10 * NEXT, // 10: functions
+    NAMES + 12 * NEXT + DUE, // 11: apply: the source
+    NAMES + DUE, // 12: the target
+    NAMES + 14 * NEXT, // 13: local statement: a name, or no more
+    ABSENT + EXPRESSIONS + 13 * NEXT + DUE, // 14: its value
+    NAMES + 16 * NEXT + DUE, // 15: for: the name
+    EXPRESSIONS + 9 * NEXT + DUE, // 16: the enumerable
+    EXPRESSIONS + DUE, // 17: one expression
+    EXPRESSIONS + 18 * NEXT, // 18: expressions
+    EXPRESSIONS + 17 * NEXT + DUE, // 19: the first of two expressions
+    EXPRESSIONS + 21 * NEXT + DUE, // 20: if: the condition
+    BLOCK + 22 * NEXT + DUE, // 21: the true part
+    BLOCK, // 22: the false part, or no more
+    EXPRESSIONS + 18 * NEXT + DUE, // 23: call: the function
 ];
 
-// The slot of functions' children.
+// The slot of a function's children.
 const FUNCTION_PARTS: usize = 8;
 
-// What a kind may have: the slot of its first child, its greatest position, its least and its greatest value.
-struct RuleRow(usize, u64, u64, u64);
+// What a kind may have is one number: the slot of its first child, PLACED where it may have a position, and its value: TEXT for a text, WORD for any
+// 64 bits, else MOST times the greatest.
+const PLACED: u64 = 1 << 5;
 
-const RULES: [RuleRow; 50] = [
-    RuleRow(0, 0, 0, 0),
-    RuleRow(2, 0, 1, TEXT), // 1 document
-    RuleRow(0, 0, 0, 0),
-    RuleRow(0, 0, 0, 0),
-    RuleRow(0, 0, 0, 0),
-    RuleRow(0, 0, 0, 0),
-    RuleRow(0, 0, 0, 0),
-    RuleRow(0, 0, 0, 0),
-    RuleRow(0, 0, 0, 0),
-    RuleRow(0, 0, 0, 0),
-    RuleRow(3, 0, 0, 0), // 10 local definition
-    RuleRow(5, ANYWHERE, 1, TEXT), // 11 include
-    RuleRow(7, ANYWHERE, 1, TEXT), // 12 model
-    RuleRow(7, ANYWHERE, 1, TEXT), // 13 public model
-    RuleRow(8, ANYWHERE, 1, TEXT), // 14 function
-    RuleRow(8, ANYWHERE, 1, TEXT), // 15 public function
-    RuleRow(10, ANYWHERE, 1, TEXT), // 16 implement
-    RuleRow(11, 0, 0, 0), // 17 apply
-    RuleRow(0, 0, 0, 0),
-    RuleRow(0, 0, 0, 0),
-    RuleRow(13, 0, 0, 0), // 20 local statement
-    RuleRow(0, ANYWHERE, 0, 0), // 21 return
-    RuleRow(0, ANYWHERE, 0, 0), // 22 break
-    RuleRow(0, ANYWHERE, 0, 0), // 23 rescue
-    RuleRow(15, ANYWHERE, 0, 0), // 24 for
-    RuleRow(17, 0, 0, 0), // 25 expression
-    RuleRow(0, 0, 0, 0),
-    RuleRow(0, 0, 0, 0),
-    RuleRow(0, 0, 0, 0),
-    RuleRow(0, 0, 0, 0),
-    RuleRow(0, ANYWHERE, 1, TEXT), // 30 identifier
-    RuleRow(0, ANYWHERE, 0, 0), // 31 this
-    RuleRow(0, ANYWHERE, 0, 0), // 32 null
-    RuleRow(0, ANYWHERE, 0, ANYTHING), // 33 integer
-    RuleRow(0, ANYWHERE, 0, ANYTHING), // 34 float
-    RuleRow(0, ANYWHERE, 1, TEXT), // 35 string
-    RuleRow(0, ANYWHERE, 0, 1), // 36 boolean
-    RuleRow(18, ANYWHERE, 0, 0), // 37 array
-    RuleRow(17, ANYWHERE, 0, 2), // 38 prefix
-    RuleRow(19, ANYWHERE, 0, 19), // 39 infix
-    RuleRow(0, ANYWHERE, 1, TEXT), // 40 name
-    RuleRow(0, ANYWHERE, 1, TEXT), // 41 this parameter
-    RuleRow(20, 0, 0, 0), // 42 if
-    RuleRow(9, 0, 0, 0), // 43 block
-    RuleRow(23, ANYWHERE, 0, 0), // 44 call
-    RuleRow(19, ANYWHERE, 0, 0), // 45 instance get
-    RuleRow(19, ANYWHERE, 0, 0), // 46 index get
-    RuleRow(0, ANYWHERE, 0, 0), // 47 other token
-    RuleRow(0, 0, 0, 0),
-    RuleRow(0, 0, 0, 0), // 49 absent
+const TEXT: u64 = 1 << 6;
+
+const WORD: u64 = 1 << 7;
+
+const MOST: u64 = 1 << 8;
+
+const RULES: [u64; 50] = [
+    0,
+    2 + TEXT, // 1 document
+    0,
+    0,
+    0,
+    0,
+    0,
+    0,
+    0,
+    0,
+    3, // 10 local definition
+    5 + PLACED + TEXT, // 11 include
+    7 + PLACED + TEXT, // 12 model
+    7 + PLACED + TEXT, // 13 public model
+    8 + PLACED + TEXT, // 14 function
+    8 + PLACED + TEXT, // 15 public function
+    10 + PLACED + TEXT, // 16 implement
+    11, // 17 apply
+    0,
+    0,
+    13, // 20 local statement
+    PLACED, // 21 return
+    PLACED, // 22 break
+    PLACED, // 23 rescue
+    15 + PLACED, // 24 for
+    17, // 25 expression
+    0,
+    0,
+    0,
+    0,
+    PLACED + TEXT, // 30 identifier
+    PLACED, // 31 this
+    PLACED, // 32 null
+    PLACED + WORD, // 33 integer
+    PLACED + WORD, // 34 float
+    PLACED + TEXT, // 35 string
+    PLACED + MOST, // 36 boolean
+    18 + PLACED, // 37 array
+    17 + PLACED + 2 * MOST, // 38 prefix
+    19 + PLACED + 19 * MOST, // 39 infix
+    PLACED + TEXT, // 40 name
+    PLACED + TEXT, // 41 this parameter
+    20, // 42 if
+    9, // 43 block
+    23 + PLACED, // 44 call
+    19 + PLACED, // 45 instance get
+    19 + PLACED, // 46 index get
+    PLACED, // 47 other token
+    0,
+    0, // 49 absent
 ];
 
 // What a bundle is: fine, or refused by a row of 01 at a place.
@@ -146,28 +154,24 @@ pub enum Outcome {
     Fault(u64, usize),
 }
 
-fn slot_row(slot: usize) -> SlotRow
+fn slot_row(slot: usize) -> u64
     ensures { λ r. ⌜ r ≡ slotRow (slotOf slot) ⌝ }
 {
-    if slot < 24 { SLOTS[slot] } else { SLOTS[0] }
+    if slot < 24 { SLOTS[slot] } else { 0 }
 }
 
-fn rule_row(kind: u64) -> RuleRow
+fn rule_row(kind: u64) -> u64
     ensures { λ r. ⌜ r ≡ ruleRow (ruleOf kind) ⌝ }
 {
-    if kind < 50 {
-        RULES[kind as usize]
-    } else {
-        RULES[0]
-    }
+    if kind < 50 { RULES[kind as usize] } else { 0 }
 }
 
 fn may_stand(slot: usize, kind: u64) -> bool
     ensures { λ r. ⌜ r ≡ mayStand slot kind ⌝ }
 {
     let row = slot_row(slot);
-    if kind < 64 {
-        (row.0 >> kind) % 2 == 1
+    if kind < 50 {
+        (row >> kind) % 2 == 1
     } else {
         false
     }
@@ -194,32 +198,59 @@ fn slot_after(slot: usize, kind: u64) -> usize
     if goes_on(slot, kind) {
         return slot;
     }
-    slot_row(slot).1
+    let row = slot_row(slot);
+    ((row / NEXT) % 32) as usize
 }
 
 fn is_due(slot: usize) -> bool
     ensures { λ r. ⌜ r ≡ isDue slot ⌝ }
 {
-    slot_row(slot).2
+    let row = slot_row(slot);
+    row / DUE == 1
 }
 
 fn first_slot(kind: u64) -> usize
     ensures { λ r. ⌜ r ≡ firstSlot kind ⌝ }
 {
-    rule_row(kind).0
+    let row = rule_row(kind);
+    (row % PLACED) as usize
+}
+
+fn most_position(row: u64) -> u64
+    ensures { λ r. ⌜ r ≡ positionIn row ⌝ }
+{
+    if (row / PLACED) % 2 == 1 {
+        MOST_POSITION
+    } else {
+        0
+    }
+}
+
+fn most_value(row: u64) -> u64
+    ensures { λ r. ⌜ r ≡ mostIn row ⌝ }
+{
+    if (row / TEXT) % 2 == 1 {
+        return MOST_TEXT;
+    }
+    if (row / WORD) % 2 == 1 {
+        return MOST_WORD;
+    }
+    row / MOST
 }
 
 fn in_range(kind: u64, position: u64, value: u64) -> bool
     ensures { λ r. ⌜ r ≡ inRange kind position value ⌝ }
 {
     let row = rule_row(kind);
-    if position > row.1 {
+    let highest = most_position(row);
+    if position > highest {
         return false;
     }
-    if value < row.2 {
+    if value < (row / TEXT) % 2 {
         return false;
     }
-    value <= row.3
+    let most = most_value(row);
+    value <= most
 }
 
 // The span of the record at a place is not 0 and does not pass the end.

@@ -7,20 +7,26 @@ use borrow.Author.Needs.{needs}
 
 returns : tie.Need-returns
 returns c = range-high (c .before .before .before .args .kind) (c .before .before .before .args .position) (c .before .before .before .args .value)
-    (c .before .before .rule-row .ensures) (c .if1 .taken)
+    (c .before .before .rule-row .ensures) (c .before .most-position .ensures) (c .if1 .taken)
 
 returns-2 : tie.Need-returns-2
-returns-2 c =
-    let c5 = c .before .before .before .before .before in
-    range-low (c5 .args .kind) (c5 .args .position) (c5 .args .value) (c .before .before .before .before .rule-row .ensures) (c .before .before .if1 .left)
-    (c .if2 .taken)
+returns-2 c = range-low (c .before .before .before .before .args .kind) (c .before .before .before .before .args .position)
+    (c .before .before .before .before .args .value) (c .before .before .before .rule-row .ensures) (c .before .before .most-position .ensures)
+    (c .before .if1 .left) (c .if2 .taken)
 
 returns-3 : tie.Need-returns-3
 returns-3 c =
     let c5 = c .before .before .before .before .before in
-    let c6 = c5 .before in
-    range-most (c6 .args .kind) (c6 .args .position) (c6 .args .value) (c5 .rule-row .ensures) (c .before .before .before .if1 .left) (c .before .if2 .left)
+    range-most (c5 .args .kind) (c5 .args .position) (c5 .args .value) (c .before .before .before .before .rule-row .ensures)
+    (c .before .before .before .most-position .ensures) (c .before .before .if1 .left) (c .before .if2 .left) (c .most-value .ensures)
 
 pub in-range-spec : {M : Type 1} → statement M
 in-range-spec =
-    tie.close (tie.spec (λ c κs. search needs) returns returns-2 returns-3)
+    tie.close
+    (tie.spec
+    (λ c κs. search needs)
+    (λ c κs. search needs)
+    returns
+    returns-2
+    (λ c κs. search needs)
+    returns-3)

@@ -6,8 +6,7 @@ use Rattle.tree.proofs.may_stand.Tie as tie
 use borrow.Author.Needs.{needs}
 
 returns : tie.Need-returns
-returns c = may-bit (c .before .before .before .args .slot) (c .before .before .before .args .kind) (c .before .before .slot-row .ensures)
-    (c .before .if1 .taken)
+returns c = may-bit (c .before .before .args .slot) (c .before .before .args .kind) (c .before .slot-row .ensures) (c .if1 .taken)
 
 returns-2 : tie.Need-returns-2
 returns-2 c = may-past (c .before .before .args .slot) (c .before .before .args .kind) (c .if1 .left)

@@ -6,11 +6,11 @@ use Rattle.tree.proofs.rule_row.Tie as tie
 use borrow.Author.Needs.{needs}
 
 returns : tie.Need-returns
-returns c = rule-row (c .before .before .args .kind)
+returns c = rule-row (c .before .args .kind)
 
 returns-2 : tie.Need-returns-2
-returns-2 c = no-rule (c .before .if1 .left)
+returns-2 c = no-rule (c .if1 .left)
 
 pub rule-row-spec : {M : Type 1} → statement M
 rule-row-spec =
-    tie.close (tie.spec (λ c. search needs) (λ c. search needs) (λ c. search needs) returns returns-2)
+    tie.close (tie.spec (λ c. search needs) (λ c. search needs) returns returns-2)

@@ -6,11 +6,11 @@ use Rattle.tree.proofs.slot_row.Tie as tie
 use borrow.Author.Needs.{needs}
 
 returns : tie.Need-returns
-returns c = slot-row (c .before .before .args .slot)
+returns c = slot-row (c .before .args .slot)
 
 returns-2 : tie.Need-returns-2
-returns-2 c = no-slot (c .before .if1 .left)
+returns-2 c = no-slot (c .if1 .left)
 
 pub slot-row-spec : {M : Type 1} → statement M
 slot-row-spec =
-    tie.close (tie.spec (λ c. search needs) (λ c. search needs) (λ c. search needs) returns returns-2)
+    tie.close (tie.spec (λ c. search needs) (λ c. search needs) returns returns-2)

@@ -1,10 +1,13 @@
--- Rows 2 to 4 on small books, by computing
+-- Rows 2 to 4 on small books, the tree of the listing's book in 01, and its levels: each by computing. Assumes nothing.
 use Prim.Native.Nat.{ℕ, zero, suc, _+_}
 use mathlib.Core.Path.{_≡_, refl}
 use mathlib.Core.List.{List, [], _∷_, _++_}
+use Rattle.words.specs.Record.{fieldOf}
+use Rattle.words.specs.Ast.{Token, Identifier, If, Return, Expr, ∅ₛ, _∷ₛ_, PublicFunction, Document}
 use Rattle.tree.specs.Rules.{mayStand, slotAfter, isDue, firstSlot, goesOn, inRange}
 use Rattle.tree.specs.Check.{shapeOf, walkBy, headAt, soundAt, thisAfter, sameThis, lacksBy, withinOf}
-use Rattle.words.specs.Record.{fieldOf}
+use Rattle.tree.specs.Reading.{documentsOf, documentOf, definitionOf, listOf, parametersOf, expressionOf, pairsOf}
+use Rattle.tree.specs.At.{runDepth, depthDoc, depthD, depthE}
 use Rattle.tree.specs.declared.Shape.{Shape}
 use Rattle.tree.specs.declared.Shape.the-variants.{Fine, Refused}
 
@@ -31,10 +34,31 @@ alone : answer (rec 1 1 0 2) ≡ Fine
 unfolding answer
 alone = refl
 
--- the listing's: `if x return end` in f
-listing : answer (rec 1 8 0 2 · rec 15 7 65546 3 · rec 40 1 0 4 · rec 25 5 0 0 · rec 42 4 0 0 · rec 30 1 131078 4 · rec 43 2 0 0 · rec 21 1 196613 0) ≡ Fine
-unfolding answer
-listing = refl
+-- the listing's book: file 2 holds f (text 3) with parameter x (text 4): `if x return end`
+book : List ℕ
+book = rec 1 8 0 2 · rec 15 7 65546 3 · rec 40 1 0 4 · rec 25 5 0 0 · rec 42 4 0 0 · rec 30 1 131078 4 · rec 43 2 0 0 · rec 21 1 196613 0
+
+book-fine : answer book ≡ Fine
+unfolding answer book
+book-fine = refl
+
+read : List ℕ → List Document
+unfolding documentsOf documentOf definitionOf listOf pairsOf parametersOf expressionOf fieldOf
+read w = documentsOf w
+
+abbrev tok : ℕ → ℕ → ℕ → Token
+tok p k v = record { position = p; kind = k; value = v }
+
+book-read : read book ≡ record {
+  filename = 2;
+  definitions = PublicFunction (record {
+    name = tok 65546 15 3;
+    parameters = tok 0 40 4 ∷ [];
+    body = Expr (If (Identifier (tok 131078 30 4)) (Return (tok 196613 21 0) ∷ₛ ∅ₛ)) ∷ₛ ∅ₛ;
+  }) ∷ [];
+} ∷ []
+unfolding read book
+book-read = refl
 
 -- an infix with one child, whose value is out of range: the infix is at fault
 due : answer (rec 1 5 0 2 · rec 14 4 0 3 · rec 25 3 0 0 · rec 39 2 0 1 · rec 30 1 0 0) ≡ Refused 3 3
@@ -92,3 +116,30 @@ level-65 = refl
 level-65-bad : answer (deep 62 1) ≡ Refused 3 64
 unfolding answer deep
 level-65-bad = refl
+
+-- levels are counted as 01 does: the innermost array is the last of 64, a parameter is at level 3
+levels : List Document → ℕ
+unfolding runDepth depthD depthE
+levels ds = runDepth depthDoc ds
+
+levels-64 : levels (read (deep 61 0)) ≡ 64
+unfolding levels read deep
+levels-64 = refl
+
+levels-parameter : levels (read (rec 1 3 0 2 · rec 14 2 0 3 · rec 40 1 0 9)) ≡ 3
+unfolding levels read
+levels-parameter = refl
+
+-- kinds 40 and 41 in any order, then a statement; a local definition, a model and an include without pairs
+parameters : answer (rec 1 6 0 2 · rec 14 5 0 3 · rec 40 1 0 9 · rec 41 1 0 8 · rec 40 1 0 7 · rec 21 1 0 0) ≡ Fine
+unfolding answer
+parameters = refl
+
+no-pairs : answer (rec 1 4 0 2 · rec 10 1 0 0 · rec 12 1 0 5 · rec 11 1 0 5) ≡ Fine
+unfolding answer
+no-pairs = refl
+
+-- a pair without its value: the local definition is at fault
+half : answer (rec 1 3 0 2 · rec 10 2 0 0 · rec 40 1 0 9) ≡ Refused 3 1
+unfolding answer
+half = refl
