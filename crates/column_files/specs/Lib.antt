@@ -1,0 +1,2 @@
+-- Column files of 01, 'The tree': their numbers, their lines, and what the two converters answer
+pub mod Numeral
