@@ -240,3 +240,43 @@ module _ (w : ℕ) (l : leastSize ≤ w) (g : w < 18446744073709551616) where
   above-word =
       let x : 2 ^ 64 - suc (18446744073709551615 - w) ≡ w = omega arith in
       held _ above-held above-small ∙ sym (toZ-neg w64 (18446744073709551615 - w) (omega arith)) ∙ ap (toZ w64) x
+
+-- a local of the machine that holds a number negated
+
+abbrev pub sizeHeld : ℕ → ℕ
+sizeHeld n = natAbs (toZ w64 n)
+
+pub record Held (n : ℕ) : Type 0 where
+  pub bits : n ≡ ofZ w64 (neg (sizeHeld n))
+  pub small : sizeHeld n ≤ leastSize
+
+pub held-is : (n : ℕ) → Held n → toZ w64 n ≡ neg (sizeHeld n)
+held-is n h = ap (toZ w64) (h .bits) ∙ back (neg-fits (sizeHeld n) (h .small))
+
+pub size-of : (z : ℤ) (m : ℕ) → z ≡ neg m → m ≤ leastSize → sizeHeld (ofZ w64 z) ≡ m
+size-of z m e l = ap natAbs (held z e (neg-fits m l)) ∙ neg-abs m
+
+pub held-of : (z : ℤ) (m : ℕ) → z ≡ neg m → m ≤ leastSize → Held (ofZ w64 z)
+held-of z m e l =
+    let x : sizeHeld (ofZ w64 z) ≡ m = size-of z m e l in
+    record { bits = ap (ofZ w64) (e ∙ ap neg (sym x)); small = omega arith }
+
+pub held-zero : (n : ℕ) → Held n → sizeHeld n ≡ 0 → n ≡ 0
+held-zero n h e = h .bits ∙ ap (λ (m : ℕ). ofZ w64 (neg m)) e
+
+pub held-word : (n : ℕ) → Held n → 0 < sizeHeld n → ofZ w64 (toZ w64 n) ≡ 18446744073709551616 - sizeHeld n
+held-word n h l = ap (ofZ w64) (held-is n h) ∙ neg-bits (sizeHeld n) l
+
+-- the integer of a negative word
+
+module _ (w : ℕ) (l : leastSize ≤ w) (g : w < 18446744073709551616) where
+  integer-is : toZ w64 w ≡ negsuc (18446744073709551615 - w)
+  integer-is =
+      let x : 2 ^ 64 - suc (18446744073709551615 - w) ≡ w = omega arith in
+      ap (toZ w64) (sym x) ∙ toZ-neg w64 (18446744073709551615 - w) (omega arith)
+
+  pub integer-size : natAbs (toZ w64 w) ≡ 18446744073709551616 - w
+  integer-size = let x : natAbs (toZ w64 w) ≡ suc (18446744073709551615 - w) = ap natAbs integer-is in omega (arith, x)
+
+  pub integer-neg : toZ w64 w ≡ neg (natAbs (toZ w64 w))
+  integer-neg = integer-is ∙ ap neg (sym (ap natAbs integer-is))

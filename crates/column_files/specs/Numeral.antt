@@ -96,9 +96,12 @@ numberFrom signed negative [] = Off
 numberFrom signed negative (b ∷ bs) = cond (eqb b 48) (zeroFrom negative bs) (digitsFrom signed negative 0 (b ∷ bs))
 
 -- after the blanks: a sign where one may be, then the digits
+unfoldable pub signAt : Bool → List ℕ → Bool
+signAt signed [] = false
+signAt signed (b ∷ bs) = signed && eqb b minusSign
+
 unfoldable pub signFrom : Bool → List ℕ → Number
-signFrom signed [] = Off
-signFrom signed (b ∷ bs) = cond (signed && eqb b minusSign) (numberFrom signed true bs) (numberFrom signed false (b ∷ bs))
+signFrom signed bs = cond (signAt signed bs) (numberFrom signed true (drop 1 bs)) (numberFrom signed false bs)
 
 -- a field
 unfoldable pub readNumeral : Bool → List ℕ → Number

@@ -3,12 +3,13 @@
 ghost use mathlib.Core.Path.{_≡_};
 ghost use mathlib.Core.Bool.{true, false};
 ghost use Prim.Native.Nat.{_+_, _*_, _/_, _%_, _≤_, _<_};
-ghost use lib.ListN.{drop, length};
+ghost use lib.ListN.{drop, length, replicate};
+ghost use mathlib.Core.List.{_++_};
 ghost use lib.IntN.{natAbs, negℤ, pos};
 ghost use lib.Dec.{leb};
 ghost use mir.Syntax.{w64};
 ghost use mir.Val.{ofZ, toZ};
-ghost use Rattle.column_files.specs.Numeral.{mostOf, leastSize, numberFrom, signFrom, readNumeral, Wrote, Spelt, Led};
+ghost use Rattle.column_files.specs.Numeral.{mostOf, leastSize, negativeOf, numberFrom, signAt, signFrom, readNumeral, Wrote, Spelt, Led};
 
 pub const BLANK: u8 = b' ';
 
@@ -171,16 +172,24 @@ fn read_negative(bytes: &[u8], at: usize) -> Number
     Number::Word(word)
 }
 
+// A sign stands at a place, where one may be.
+fn has_sign(bytes: &[u8], at: usize, signed: bool) -> bool
+    ensures { λ r. ⌜ r ≡ signAt signed (drop at (now (bytes .entry))) ⌝ }
+{
+    if at < bytes.len() {
+        if signed {
+            return bytes[at] == MINUS;
+        }
+    }
+    false
+}
+
 // What stands after the blanks: a sign where one may be, then the digits.
 fn read_sign(bytes: &[u8], at: usize, signed: bool) -> Number
     ensures { λ r. ⌜ r ≡ signFrom signed (drop at (now (bytes .entry))) ⌝ }
 {
-    if signed {
-        if at < bytes.len() {
-            if bytes[at] == MINUS {
-                return read_negative(bytes, at + 1);
-            }
-        }
+    if has_sign(bytes, at, signed) {
+        return read_negative(bytes, at + 1);
     }
     read_natural(bytes, at, signed)
 }
@@ -199,24 +208,33 @@ pub fn read_number(bytes: &[u8], signed: bool) -> Number
     Number::Off
 }
 
-// Writes what stands before a place: blanks, the last of them a sign where the number is negative. False where the sign has no place.
-fn write_lead(out: &mut [u8], at: usize, negative: bool) -> bool
-    requires { ⌜ at ≤ length (now out) ⌝ }
-    ensures { λ r. ⌜ Led negative at (now (out .entry)) (now (out .exit)) r ⌝ }
+// Blanks up to a place.
+fn fill_blanks(out: &mut [u8], end: usize)
+    requires { ⌜ end ≤ length (now out) ⌝ }
+    ensures { λ _. ⌜ now (out .exit) ≡ replicate end 32 ++ drop end (now (out .entry)) ⌝ }
 {
-    let mut end = at;
-    if negative {
-        if at == 0 {
-            return false;
-        }
-        end = at - 1;
-        out[end] = MINUS;
-    }
     let mut i: usize = 0;
     while i < end {
         out[i] = BLANK;
         i += 1;
     }
+}
+
+// Writes what stands before a place: blanks, the last of them a sign where the number is negative. False where the sign has no place.
+fn write_lead(out: &mut [u8], at: usize, negative: bool) -> bool
+    requires { ⌜ at ≤ length (now out) ⌝ }
+    ensures { λ r. ⌜ Led negative at (now (out .entry)) (now (out .exit)) r ⌝ }
+{
+    if !negative {
+        fill_blanks(out, at);
+        return true;
+    }
+    if at == 0 {
+        return false;
+    }
+    let sign = at - 1;
+    out[sign] = MINUS;
+    fill_blanks(out, sign);
     true
 }
 
@@ -265,15 +283,23 @@ fn write_negative(out: &mut [u8], number: i64) -> bool
     write_lead(out, k, true)
 }
 
+// The word stands for a negative integer.
+fn is_negative(word: u64, signed: bool) -> bool
+    ensures { λ r. ⌜ r ≡ negativeOf signed word ⌝ }
+{
+    if !signed {
+        return false;
+    }
+    word >= NEGATIVE_WORDS
+}
+
 // Writes a word to a field, right-justified; false where it is wider, and the field then has its last bytes.
 pub fn write_number(out: &mut [u8], word: u64, signed: bool) -> bool
     ensures { λ r. ⌜ Wrote signed word (now (out .entry)) (now (out .exit)) r ⌝ }
 {
-    if signed {
-        if word >= NEGATIVE_WORDS {
-            let number = integer_of(word);
-            return write_negative(out, number);
-        }
+    if is_negative(word, signed) {
+        let number = integer_of(word);
+        return write_negative(out, number);
     }
     write_natural(out, word)
 }
