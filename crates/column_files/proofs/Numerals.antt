@@ -14,6 +14,9 @@ use Rattle.column_files.specs.declared.number.Number.{Number}
 use Rattle.column_files.specs.declared.number.Number.the-variants.{Word, Off}
 use Rattle.column_files.proofs.Reading.{digit-yes}
 
+absurd-bool : false ≡ true → ⊥
+absurd-bool e = let z : _≡_ {A = ℕ} 0 1 = cc in omega arith
+
 -- a digit is read
 digit-low : (m : ℕ) → 48 ≤ digitOf m
 digit-low m = omega arith
@@ -132,3 +135,187 @@ read-spelled s g (suc w) m y n f l = go (eqb m 0) refl
     go false e =
         let k : m ≡ 0 → ⊥ = eqb-false m 0 e in
         read-step s g w m [] y k f (λ x. read-rest s g w (m / 10) (digitOf m ∷ []) y x f)
+
+-- reading a written number gives the number
+
+word-natural : (s : Bool) (word : ℕ) → word ≤ mostOf s → wordOf s false word ≡ Word word
+unfolding wordOf
+word-natural s word l = simp (le-leb word (mostOf s) l)
+
+word-negative : (s : Bool) (word : ℕ) → leastSize ≤ word → word < wordEnd → wordOf s true (wordEnd - word) ≡ Word word
+unfolding wordOf
+word-negative s word l h =
+    let e : wordEnd - (wordEnd - word) ≡ word = omega arith in
+    simp (le-leb (wordEnd - word) leastSize (omega arith)) (ap Word e)
+
+pub read-written : (width : ℕ) (signed : Bool) (word : ℕ) → word < wordEnd → numeralFits width signed word ≡ true
+    → readNumeral signed (numeral width signed word) ≡ Word word
+read-written width false word h f = read-spelled false false width word (λ e. e) (λ e. absurd (absurd-bool e)) f (omega arith) ∙ word-natural false word (omega arith)
+read-written width true word h f = go (leb leastSize word) refl f
+  where
+    go : (t : Bool) → leb leastSize word ≡ t → spellFits width t (cond t (wordEnd - word) word) ≡ true
+        → readNumeral true (spelled width (leb leastSize word) (cond (leb leastSize word) (wordEnd - word) word)) ≡ Word word
+    go true e g =
+        let l : leastSize ≤ word = leb-true leastSize word e in
+        rw e (read-spelled true true width (wordEnd - word) (λ x. refl) (λ x z. omega arith) g (omega arith) ∙ word-negative true word l h)
+    go false e g =
+        let l : word < leastSize = leb-false leastSize word e in
+        rw e (read-spelled true false width word (λ x. refl) (λ x. absurd (absurd-bool x)) g (omega arith) ∙ word-natural true word (omega arith))
+
+-- writing a number that was read gives the bytes
+
+not-word : {x : ℕ} → Off ≡ Word x → ⊥
+not-word e = let z : _≡_ {A = ℕ} 0 1 = cc in omega arith
+
+if-word : (t : Bool) {n : Number} {x : ℕ} → cond t n Off ≡ Word x → (t ≡ true) × (n ≡ Word x)
+if-word true e = (refl, e)
+if-word false e = absurd (not-word e)
+
+same-word : {x y : ℕ} → Word x ≡ Word y → x ≡ y
+same-word e = cc
+
+pub record Parts (s g : Bool) (m word : ℕ) : Type 0 where
+  pub sign : negativeOf s word ≡ g
+  pub size : magnitudeOf s word ≡ m
+  pub small : word < wordEnd
+
+and-false : (s : Bool) {t : Bool} → t ≡ false → (s && t) ≡ false
+and-false true e = e
+and-false false e = refl
+
+natural-parts : (s : Bool) (m : ℕ) → m ≤ mostOf s → Parts s false m m
+natural-parts true m l =
+    let n : negativeOf true m ≡ false = lt-leb leastSize m (omega arith) in
+    record { sign = n; size = simp n; small = omega arith }
+natural-parts false m l = record { sign = refl; size = refl; small = omega arith }
+
+negative-parts : (m : ℕ) → 0 < m → m ≤ leastSize → Parts true true m (wordEnd - m)
+negative-parts m p l =
+    let n : negativeOf true (wordEnd - m) ≡ true = le-leb leastSize (wordEnd - m) (omega arith) in
+    record { sign = n; size = simp n (omega arith); small = omega arith }
+
+word-parts : (s g : Bool) (m word : ℕ) → MaySign s g → (g ≡ true → 0 < m) → wordOf s g m ≡ Word word → Parts s g m word
+unfolding wordOf
+word-parts s true m word y p e =
+    let h = if-word (leb m leastSize) e in
+    let u : wordEnd - m ≡ word = same-word (h .1) in
+    let v : s ≡ true = y refl in
+    rw (← u, v) (negative-parts m (p refl) (leb-true m leastSize (h .0)))
+word-parts s false m word y p e =
+    let h = if-word (leb m (mostOf s)) e in
+    let u : m ≡ word = same-word (h .1) in
+    rw (← u) (natural-parts s m (leb-true m (mostOf s) (h .0)))
+
+spelled-rest : (w : ℕ) (g : Bool) (m : ℕ) → (m ≡ 0 → ⊥) → spelled w g m ≡ restOf w g m
+unfolding spelled restOf
+spelled-rest zero g m n = refl
+spelled-rest (suc w) g m n = simp (ne-eqb m 0 n)
+
+-- what is read of a field, and written again
+abbrev Again : Bool → ℕ → List ℕ → Type 0
+Again s word bs = (numeral (length bs) s word ≡ bs) × (word < wordEnd)
+
+snoc-length : (pre : List ℕ) (b : ℕ) → length (pre ++ (b ∷ [])) ≡ suc (length pre)
+snoc-length pre b = length-append pre (b ∷ []) ∙ omega arith
+
+digit-range : (b : ℕ) → isDigit b ≡ true → (48 ≤ b) × (b ≤ 57)
+digit-range b e = go (leb 48 b) refl e
+  where
+    go : (t : Bool) → leb 48 b ≡ t → (t && leb b 57) ≡ true → (48 ≤ b) × (b ≤ 57)
+    go true x y = (leb-true 48 b x, leb-true b 57 y)
+    go false x y = absurd (let z : _≡_ {A = ℕ} 0 1 = cc in omega arith)
+
+-- one digit more
+grow : (g : Bool) (pre : List ℕ) (m b : ℕ) → restOf (length pre) g m ≡ pre → 48 ≤ b → b ≤ 57 → (m * 10 + (b - 48) ≡ 0 → ⊥)
+    → restOf (length (pre ++ (b ∷ []))) g (m * 10 + (b - 48)) ≡ pre ++ (b ∷ [])
+unfolding restOf
+grow g pre m b e l h n =
+    let q : (m * 10 + (b - 48)) / 10 ≡ m = omega arith in
+    let r : 48 + (m * 10 + (b - 48)) % 10 ≡ b = omega arith in
+    rw (snoc-length pre b) (simp (ne-eqb (m * 10 + (b - 48)) 0 n, q, r, e))
+
+numeral-parts : (w : ℕ) (s g : Bool) (m word : ℕ) → Parts s g m word → numeral w s word ≡ spelled w g m
+numeral-parts w s g m word p = ap (λ (t : Bool). spelled w t (magnitudeOf s word)) (p .sign) ∙ ap (spelled w g) (p .size)
+
+from-digits : (s g : Bool) (m : ℕ) (pre bs : List ℕ) (word : ℕ) → MaySign s g → restOf (length pre) g m ≡ pre → (m ≡ 0 → ⊥)
+    → digitsFrom s g m bs ≡ Word word → Again s word (pre ++ bs)
+unfolding digitsFrom
+from-digits s g m pre [] word y e n w =
+    let p = word-parts s g m word y (λ x. omega arith) w in
+    (rw append-nil (numeral-parts (length pre) s g m word p ∙ spelled-rest (length pre) g m n ∙ e), p .small)
+from-digits s g m pre (b ∷ bs) word y e n w =
+    let h = if-word (isDigit b) w in
+    let d = digit-range b (h .0) in
+    let k : m * 10 + (b - 48) ≡ 0 → ⊥ = λ x. n (omega arith) in
+    rw (← append-snoc) (from-digits s g (m * 10 + (b - 48)) (pre ++ (b ∷ [])) bs word y (grow g pre m b e (d .0) (d .1) k) k (h .1))
+
+-- after what leads
+from-zero : (s g : Bool) (pre bs : List ℕ) (word : ℕ) → leadOf (length pre) g ≡ pre → zeroFrom g bs ≡ Word word → Again s word (pre ++ (48 ∷ bs))
+unfolding zeroFrom spelled
+from-zero s true pre bs word l w = absurd (not-word w)
+from-zero s false pre (b ∷ bs) word l w = absurd (not-word w)
+from-zero s false pre [] word l w =
+    let z : word ≡ 0 = sym (same-word w) in
+    let p : Parts s false 0 0 = natural-parts s 0 (omega arith) in (
+      rw (z, snoc-length pre 48) (numeral-parts (suc (length pre)) s false 0 0 p
+          ∙ ap (λ (l : List ℕ). l ++ (48 ∷ [])) (rest-lead (length pre) false 0 refl ∙ l)),
+      omega arith,
+    )
+
+first-lead : (g : Bool) (pre : List ℕ) → leadOf (length pre) g ≡ pre → restOf (length pre) g 0 ≡ pre
+first-lead g pre l = rest-lead (length pre) g 0 refl ∙ l
+
+from-number : (s g : Bool) (pre bs : List ℕ) (word : ℕ) → MaySign s g → leadOf (length pre) g ≡ pre → numberFrom s g bs ≡ Word word
+    → Again s word (pre ++ bs)
+unfolding numberFrom digitsFrom
+from-number s g pre [] word y l w = absurd (not-word w)
+from-number s g pre (b ∷ bs) word y l w = go (eqb b 48) refl w
+  where
+    go : (t : Bool) → eqb b 48 ≡ t → cond t (zeroFrom g bs) (digitsFrom s g 0 (b ∷ bs)) ≡ Word word → Again s word (pre ++ (b ∷ bs))
+    go true e w = let z : b ≡ 48 = eqb-true b 48 e in rw z (from-zero s g pre bs word l w)
+    go false e w =
+        let h = if-word (isDigit b) w in
+        let d = digit-range b (h .0) in
+        let n : b ≡ 48 → ⊥ = eqb-false b 48 e in
+        let k : 0 * 10 + (b - 48) ≡ 0 → ⊥ = λ x. n (omega arith) in
+        rw (← append-snoc)
+        (from-digits s g (0 * 10 + (b - 48)) (pre ++ (b ∷ [])) bs word y (grow g pre 0 b (first-lead g pre l) (d .0) (d .1) k) k (h .1))
+
+blank-snoc : (j : ℕ) (bs : List ℕ) → replicate j blank ++ (blank ∷ bs) ≡ replicate (suc j) blank ++ bs
+blank-snoc zero bs = refl
+blank-snoc (suc j) bs = ap (λ (l : List ℕ). blank ∷ l) (blank-snoc j bs)
+
+blank-lead : (j : ℕ) → leadOf (length (replicate j blank)) false ≡ replicate j blank
+unfolding leadOf
+blank-lead j = ap (λ (k : ℕ). replicate k blank) (length-replicate j blank)
+
+minus-lead : (j : ℕ) → leadOf (length (replicate j blank ++ (minusSign ∷ []))) true ≡ replicate j blank ++ (minusSign ∷ [])
+unfolding leadOf
+minus-lead j = rw (snoc-length (replicate j blank) minusSign) (ap (λ (k : ℕ). replicate k blank ++ (minusSign ∷ [])) (length-replicate j blank))
+
+from-sign : (s : Bool) (j : ℕ) (b : ℕ) (bs : List ℕ) (word : ℕ) → signFrom s (b ∷ bs) ≡ Word word → Again s word (replicate j blank ++ (b ∷ bs))
+unfolding signFrom signAt
+from-sign false j b bs word w = from-number false false (replicate j blank) (b ∷ bs) word (λ e. e) (blank-lead j) w
+from-sign true j b bs word w = go (eqb b 45) refl w
+  where
+    go : (t : Bool) → eqb b 45 ≡ t → cond t (numberFrom true true bs) (numberFrom true false (b ∷ bs)) ≡ Word word → Again true word (replicate j blank ++ (b ∷ bs))
+    go true e w =
+        let z : b ≡ 45 = eqb-true b 45 e in
+        rw (z, ← append-snoc) (from-number true true (replicate j blank ++ (minusSign ∷ [])) bs word (λ e. refl) (minus-lead j) w)
+    go false e w = from-number true false (replicate j blank) (b ∷ bs) word (λ e. refl) (blank-lead j) w
+
+from-field : (s : Bool) (j : ℕ) (bs : List ℕ) (word : ℕ) → readNumeral s bs ≡ Word word → Again s word (replicate j blank ++ bs)
+unfolding readNumeral
+from-field s j [] word w = absurd (not-word w)
+from-field s j (b ∷ bs) word w = by (eqb b 32) refl w (λ x. from-field s (suc j) bs word x)
+  where
+    by : (t : Bool) → eqb b 32 ≡ t → cond t (readNumeral s bs) (signFrom s (b ∷ bs)) ≡ Word word
+        → (readNumeral s bs ≡ Word word → Again s word (replicate (suc j) blank ++ bs)) → Again s word (replicate j blank ++ (b ∷ bs))
+    by true e w more = let z : b ≡ 32 = eqb-true b 32 e in rw (z, blank-snoc) (more w)
+    by false e w more = from-sign s j b bs word w
+
+pub written-read : (signed : Bool) (bs : List ℕ) (word : ℕ) → readNumeral signed bs ≡ Word word → numeral (length bs) signed word ≡ bs
+written-read signed bs word w = from-field signed 0 bs word w .0
+
+pub read-small : (signed : Bool) (bs : List ℕ) (word : ℕ) → readNumeral signed bs ≡ Word word → word < wordEnd
+read-small signed bs word w = from-field signed 0 bs word w .1
