@@ -166,3 +166,14 @@ module _ (kind span position value : ℕ) (b0 b1 b2 b3 b4 b5 : List ℕ) (long :
 
   pub written-length : length (set b5 45 10) ≡ length b0
   written-length = let x = begun-length _ b0 b5 45 s5 (omega arith) in length-set b5 45 10 ∙ x
+
+-- a record's line is as long as every line
+pub line-size : (kind span position value : ℕ) → length (recordLine kind span position value) ≡ lineLength
+unfolding recordLine
+line-size kind span position value =
+    let a = numeral-length 4 false kind in
+    let b = numeral-length 8 false span in
+    let c = numeral-length 6 false (lineOf position) in
+    let d = numeral-length 6 false (columnOf position) in
+    let e = numeral-length 21 (eqb kind 33) value in
+    simp length-append (omega (arith, a, b, c, d, e))
