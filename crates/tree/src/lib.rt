@@ -166,7 +166,7 @@ fn rule_row(kind: u64) -> u64
     if kind < 50 { RULES[kind as usize] } else { 0 }
 }
 
-fn may_stand(slot: usize, kind: u64) -> bool
+pub fn may_stand(slot: usize, kind: u64) -> bool
     ensures { λ r. ⌜ r ≡ mayStand slot kind ⌝ }
 {
     let row = slot_row(slot);
@@ -192,7 +192,7 @@ fn goes_on(slot: usize, kind: u64) -> bool
     }
 }
 
-fn slot_after(slot: usize, kind: u64) -> usize
+pub fn slot_after(slot: usize, kind: u64) -> usize
     ensures { λ r. ⌜ r ≡ slotAfter slot kind ⌝ }
 {
     if goes_on(slot, kind) {
@@ -202,14 +202,14 @@ fn slot_after(slot: usize, kind: u64) -> usize
     ((row / NEXT) % 32) as usize
 }
 
-fn is_due(slot: usize) -> bool
+pub fn is_due(slot: usize) -> bool
     ensures { λ r. ⌜ r ≡ isDue slot ⌝ }
 {
     let row = slot_row(slot);
     row / DUE == 1
 }
 
-fn first_slot(kind: u64) -> usize
+pub fn first_slot(kind: u64) -> usize
     ensures { λ r. ⌜ r ≡ firstSlot kind ⌝ }
 {
     let row = rule_row(kind);
@@ -238,7 +238,7 @@ fn most_value(row: u64) -> u64
     row / MOST
 }
 
-fn in_range(kind: u64, position: u64, value: u64) -> bool
+pub fn in_range(kind: u64, position: u64, value: u64) -> bool
     ensures { λ r. ⌜ r ≡ inRange kind position value ⌝ }
 {
     let row = rule_row(kind);
@@ -254,7 +254,7 @@ fn in_range(kind: u64, position: u64, value: u64) -> bool
 }
 
 // The span of the record at a place is not 0 and does not pass the end.
-fn within(at: usize, span: usize, end: usize) -> bool
+pub fn within(at: usize, span: usize, end: usize) -> bool
     ensures { λ r. ⌜ r ≡ withinOf at span end ⌝ }
 {
     if span == 0 {
@@ -281,7 +281,7 @@ fn lacks(tree: &[u64], slot: usize, at: usize, end: usize) -> bool
     is_due(s)
 }
 
-fn same_this(kind: u64, value: u64, this: u64) -> bool
+pub fn same_this(kind: u64, value: u64, this: u64) -> bool
     ensures { λ r. ⌜ r ≡ sameThis kind value this ⌝ }
 {
     if kind == THIS_PARAMETER {
@@ -291,7 +291,7 @@ fn same_this(kind: u64, value: u64, this: u64) -> bool
     }
 }
 
-fn this_after(kind: u64, value: u64, this: u64) -> u64
+pub fn this_after(kind: u64, value: u64, this: u64) -> u64
     ensures { λ r. ⌜ r ≡ thisAfter kind value this ⌝ }
 {
     if kind == THIS_PARAMETER { value } else { this }

@@ -1,0 +1,3 @@
+-- Laws of column files and records, each file by its subject. Assumes nothing.
+pub mod Files
+pub mod Converting

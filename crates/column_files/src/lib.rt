@@ -1,0 +1,187 @@
+// The two converters between column files and records (01, 'The tree' and 'Replies of the compiler'). `columns_to_records` reads the whole file for
+// row 1 first. Where the output has room the words are written and checked there; where it has none, rows 2 to 4 are answered from the bytes.
+pub mod bytes;
+pub mod file;
+
+use crate::bytes::check_file;
+use crate::file::clear_bytes;
+use crate::file::first_bad;
+use crate::file::line_at;
+use column_lines::line::LINE_LENGTH;
+use column_lines::line::Line;
+use column_lines::line::write_line;
+use tree::Shape;
+use tree::check;
+use words::areas::clear_from;
+use words::areas::write4;
+ghost use mathlib.Core.Path.{_≡_};
+ghost use mathlib.Core.List.{_++_};
+ghost use Prim.Native.Nat.{_+_, _*_, _≤_};
+ghost use lib.ListN.{length, take, drop};
+ghost use Rattle.column_lines.specs.Line.{readLine};
+ghost use Rattle.column_lines.specs.Form.{lineLength};
+ghost use Rattle.column_files.specs.Files.{Lent, wordsIn, wordsBy, linesBy};
+ghost use Rattle.column_files.specs.Convert.{columnsToRecords, recordsToColumns, shortReply, Converts};
+
+const BAD_LINE: u64 = 1;
+
+const AREA_FULL: u64 = 9;
+
+const RECORD_WORDS: usize = 4;
+
+// What a converter answers: the number of a refusal's row and its place, or 0 and 0, and how many records it converted.
+pub struct Converted {
+    pub number: u64,
+    pub place: usize,
+    pub total: usize,
+}
+
+// Writes a record's line at a place.
+fn write_record(tree: &[u64], at: usize, out: &mut [u8])
+    requires { ⌜ (at + 1) * 4 ≤ length (now tree) ⌝ }
+    requires { ⌜ (at + 1) * 46 ≤ length (now out) ⌝ }
+    ensures { λ _. ⌜ Lent (linesBy 1 (drop (at * 4) (now (tree .entry)))) (at * 46) (at * 46 + 46) (now (out .entry)) (now (out .exit)) ⌝ }
+{
+    let i = at * RECORD_WORDS;
+    let from = at * LINE_LENGTH;
+    let end = from + LINE_LENGTH;
+    write_line(
+        &mut out[from..end],
+        tree[i],
+        tree[i + 1],
+        tree[i + 2],
+        tree[i + 3],
+    );
+}
+
+// Writes the lines of a number of records.
+fn write_records(tree: &[u64], records: usize, out: &mut [u8])
+    requires { ⌜ records * 4 ≤ length (now tree) ⌝ }
+    requires { ⌜ records * 46 ≤ length (now out) ⌝ }
+    ensures { λ _. ⌜ now (out .exit) ≡ linesBy records (now (tree .entry)) ++ drop (records * 46) (now (out .entry)) ⌝ }
+{
+    let mut i: usize = 0;
+    while i < records {
+        write_record(tree, i, out);
+        i += 1;
+    }
+}
+
+// Writes the words of a line at its record's place.
+fn write_words(file: &[u8], at: usize, out: &mut [u64])
+    requires { ⌜ (at + 1) * 4 ≤ length (now out) ⌝ }
+    ensures { λ _. ⌜ Lent (wordsIn (readLine (take lineLength (drop (at * 46) (now (file .entry)))))) (at * 4) (at * 4 + 4) (now (out .entry)) (now (out .exit)) ⌝ }
+{
+    let line = line_at(file, at);
+    match line {
+        Line::Record(kind, span, position, value) => {
+            write4(out, at, kind, span, position, value);
+        }
+        Line::Bad => {
+            write4(out, at, 0, 0, 0, 0);
+        }
+    }
+}
+
+// Writes the words of a number of lines.
+fn write_lines(file: &[u8], lines: usize, out: &mut [u64])
+    requires { ⌜ lines * 4 ≤ length (now out) ⌝ }
+    ensures { λ _. ⌜ now (out .exit) ≡ wordsBy lines (now (file .entry)) ++ drop (lines * 4) (now (out .entry)) ⌝ }
+{
+    let mut i: usize = 0;
+    while i < lines {
+        write_words(file, i, out);
+        i += 1;
+    }
+}
+
+// The reply where the output is too short.
+fn short_reply(shape: Shape) -> Converted
+    ensures { λ r. ⌜ r ≡ shortReply shape ⌝ }
+{
+    match shape {
+        Shape::Refused(row, place) => Converted {
+            number: row,
+            place,
+            total: 0,
+        },
+        Shape::Fine => Converted {
+            number: AREA_FULL,
+            place: 0,
+            total: 0,
+        },
+    }
+}
+
+// Records to a column file: its bytes, zeros after them, and how many records; a refusal leaves zeros.
+pub fn records_to_columns(tree: &[u64], out: &mut [u8]) -> Converted
+    ensures { λ r. ⌜ Converts (recordsToColumns (now (tree .entry)) (length (now (out .entry)))) (now (out .exit)) r ⌝ }
+{
+    let shape = check(tree);
+    let records = tree.len() / RECORD_WORDS;
+    if out.len() / LINE_LENGTH < records {
+        clear_bytes(out, 0);
+        return short_reply(shape);
+    }
+    match shape {
+        Shape::Refused(row, place) => {
+            clear_bytes(out, 0);
+            return Converted {
+                number: row,
+                place,
+                total: 0,
+            };
+        }
+        Shape::Fine => {
+            write_records(tree, records, out);
+            clear_bytes(out, records * LINE_LENGTH);
+            return Converted {
+                number: 0,
+                place: 0,
+                total: records,
+            };
+        }
+    }
+}
+
+// A column file to records: their words, zeros after them, and how many records; a refusal leaves zeros.
+pub fn columns_to_records(file: &[u8], out: &mut [u64]) -> Converted
+    ensures { λ r. ⌜ Converts (columnsToRecords (now (file .entry)) (length (now (out .entry)))) (now (out .exit)) r ⌝ }
+{
+    let bad = first_bad(file);
+    if bad != 0 {
+        clear_from(out, 0);
+        return Converted {
+            number: BAD_LINE,
+            place: bad,
+            total: 0,
+        };
+    }
+    let lines = file.len() / LINE_LENGTH;
+    if out.len() / RECORD_WORDS < lines {
+        let shape = check_file(file);
+        clear_from(out, 0);
+        return short_reply(shape);
+    }
+    write_lines(file, lines, out);
+    let words = lines * RECORD_WORDS;
+    let shape = check(&out[..words]);
+    match shape {
+        Shape::Refused(row, place) => {
+            clear_from(out, 0);
+            return Converted {
+                number: row,
+                place,
+                total: 0,
+            };
+        }
+        Shape::Fine => {
+            clear_from(out, words);
+            return Converted {
+                number: 0,
+                place: 0,
+                total: lines,
+            };
+        }
+    }
+}

@@ -1,0 +1,7 @@
+-- Laws of column files, each file by its subject. Assumes nothing.
+pub mod Integers
+pub mod Reading
+pub mod Writing
+pub mod Negated
+pub mod Numerals
+pub mod Lines
