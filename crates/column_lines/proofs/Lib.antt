@@ -5,3 +5,4 @@ pub mod Writing
 pub mod Negated
 pub mod Numerals
 pub mod Lines
+pub mod Again
