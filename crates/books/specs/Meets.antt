@@ -1,10 +1,12 @@
 -- What a routine does to the state and the areas, said by the definition's step: whatever work they hold before, they hold the step's work after
-use Prim.Native.Nat.{ℕ, _<_}
+use Prim.Native.Nat.{ℕ, _+_, _<_, min}
 use mathlib.Core.Path.{_≡_}
-use mathlib.Core.Bool.{true}
+use mathlib.Core.Bool.{true, cond}
 use mathlib.Core.List.{List}
+use lib.Dec.{eqb, ltb}
 use Rattle.words.specs.Ast.{Token, Expression}
-use Rattle.words.specs.Record.{kindAt}
+use Rattle.words.specs.Object.{NULL, TRUE, FALSE}
+use Rattle.words.specs.Record.{kindAt, spanAt}
 use Rattle.words.specs.Opcode.{Not}
 use Rattle.definition.specs.Uses.{Limits}
 use Rattle.definition.specs.Compiler.{Work, Step, InfixKind, Assigning, Plain, Negated, Compound, Unknown, compileOperation, compileExpression}
@@ -59,3 +61,11 @@ operated (Plain n) t w = compileOperation n t skip skip w
 operated (Negated n) t w = let w₁ = compileOperation n t skip skip w in emitOpcode Not (t .position) w₁
 operated (Compound n) t w = compileOperation n t skip skip w
 operated Unknown t w = w
+
+-- the constant that null and the booleans are
+abbrev pub standingOf : ℕ → ℕ → ℕ
+standingOf kind value = cond (eqb kind 36) (cond (eqb value 1) TRUE FALSE) NULL
+
+-- where the subtree at a place ends, not beyond the end
+unfoldable pub skipC : List ℕ → ℕ → ℕ → ℕ
+skipC w at end = cond (ltb at end) (cond (eqb (spanAt w at) 0) (at + 1) (min (at + spanAt w at) end)) at

@@ -6,8 +6,8 @@ ghost use Rattle.words.specs.Codes.{numberOf};
 ghost use Rattle.words.specs.Object.{constantOf};
 ghost use Rattle.words.specs.Opcode.{PushConstant};
 ghost use Rattle.definition.specs.Compiler.{pushError, emitConstant, emitGlobal, emitName, compileAssignName, compilePrefixExpression, compileRescue};
-ghost use Rattle.definition.specs.Compiler.{infixKind, skip};
-ghost use Rattle.books.specs.Meets.{OnCode, OnErrors, OnFaults, OnPool, OnNames, Leafs, operated};
+ghost use Rattle.definition.specs.Compiler.{skip};
+ghost use Rattle.books.specs.Meets.{OnErrors, OnFaults, OnPool, OnNames, Leafs, standingOf, skipC};
 use building::context;
 use building::function_state;
 use building::function_state::FunctionState;
@@ -113,4 +113,164 @@ fn name(
         return function_state::emit(code, state, instruction, position);
     }
     global(code, constants, state, other, text, position)
+}
+
+// The name of a target, set by the assignment whose record is `token`.
+fn set_name(
+    tree: &[u64],
+    at: usize,
+    token: usize,
+    state: FunctionState,
+    start: usize,
+    count: usize,
+    locals: &[u64],
+    code: &mut [u64],
+    constants: &mut [u64],
+    names: &[u64],
+) -> FunctionState
+    ensures { λ r. ⌜ OnNames start count (now (locals .entry)) state (now (code .entry)) (now (constants .entry)) (now (names .entry)) r (now (code .exit))
+        (now (constants .exit)) (compileAssignName (tokenAt (now (tree .entry)) at) (tokenAt (now (tree .entry)) token)) ⌝ }
+{
+    let text = field(tree, at, record::VALUE);
+    let position = field(tree, token, record::POSITION);
+    name(
+        state,
+        start,
+        count,
+        locals,
+        code,
+        constants,
+        names,
+        OpCode::LocalSet,
+        OpCode::ContextSet,
+        OpCode::GlobalSet,
+        text,
+        position,
+    )
+}
+
+// The constant that null and the booleans are.
+fn standing(kind: u64, value: u64) -> u64
+    ensures { λ r. ⌜ r ≡ standingOf kind value ⌝ }
+{
+    if kind == record::BOOLEAN {
+        if value == 1 {
+            return 1;
+        }
+        return 2;
+    }
+    0
+}
+
+// Kinds 30 to 36.
+fn leaf(
+    tree: &[u64],
+    at: usize,
+    state: FunctionState,
+    start: usize,
+    count: usize,
+    locals: &[u64],
+    code: &mut [u64],
+    constants: &mut [u64],
+    names: &[u64],
+) -> FunctionState
+    ensures { λ r. ⌜ Leafs (now (tree .entry)) at start count (now (locals .entry)) state (now (code .entry)) (now (constants .entry))
+        (now (names .entry)) r (now (code .exit)) (now (constants .exit)) ⌝ }
+{
+    let kind = field(tree, at, record::KIND);
+    let position = field(tree, at, record::POSITION);
+    let value = field(tree, at, record::VALUE);
+    if kind == record::IDENTIFIER {
+        return name(
+            state,
+            start,
+            count,
+            locals,
+            code,
+            constants,
+            names,
+            OpCode::LocalGet,
+            OpCode::ContextGet,
+            OpCode::GlobalGet,
+            value,
+            position,
+        );
+    }
+    if kind == record::THIS {
+        let read = OpCode::LocalGet.to_instruction(0);
+        return function_state::emit(code, state, read, position);
+    }
+    if kind == record::INTEGER {
+        return constant(code, constants, state, INTEGER_KIND, value, position);
+    }
+    if kind == record::FLOAT {
+        return constant(code, constants, state, FLOAT_KIND, value, position);
+    }
+    if kind == record::STRING {
+        return constant(code, constants, state, TEXT_KIND, value, position);
+    }
+    let index = standing(kind, value);
+    let instruction = OpCode::PushConstant.to_instruction(index);
+    function_state::emit(code, state, instruction, position)
+}
+
+// What a prefix does when its expression is there.
+fn prefix(
+    tree: &[u64],
+    at: usize,
+    code: &mut [u64],
+    errors: &mut [u64],
+    state: FunctionState,
+) -> FunctionState
+    ensures { λ r. ⌜ OnFaults state (now (code .entry)) (now (errors .entry)) r (now (code .exit)) (now (errors .exit))
+        (compilePrefixExpression (tokenAt (now (tree .entry)) at) skip) ⌝ }
+{
+    let value = field(tree, at, record::VALUE);
+    let position = field(tree, at, record::POSITION);
+    if value == record::PREFIX_MINUS {
+        return function_state::emit_opcode(code, state, OpCode::Negative, position);
+    }
+    if value == record::PREFIX_NOT {
+        return function_state::emit_opcode(code, state, OpCode::Not, position);
+    }
+    fault(tree, at, errors, state, reply::ERROR_UNKNOWN_OPERATION)
+}
+
+// A rescue part: only where a statement is not inside another.
+fn rescue(
+    tree: &[u64],
+    at: usize,
+    code: &mut [u64],
+    errors: &mut [u64],
+    state: FunctionState,
+) -> FunctionState
+    ensures { λ r. ⌜ OnFaults state (now (code .entry)) (now (errors .entry)) r (now (code .exit)) (now (errors .exit))
+        (compileRescue (tokenAt (now (tree .entry)) at)) ⌝ }
+{
+    if state.full != 0 {
+        return state;
+    }
+    if 1 < state.depth {
+        return fault(tree, at, errors, state, reply::ERROR_RESCUE_IN_LAYER);
+    }
+    let position = field(tree, at, record::POSITION);
+    let s1 = function_state::emit_return(code, state, position);
+    function_state::set_rescue(s1)
+}
+
+// The end of the subtree at a place, held to the end.
+fn skip(tree: &[u64], at: usize, end: usize) -> usize
+    ensures { λ r. ⌜ r ≡ skipC (now (tree .entry)) at end ⌝ }
+{
+    if at < end {
+        let span = field(tree, at, record::SPAN);
+        if span == 0 {
+            return at + 1;
+        }
+        if span < (end - at) as u64 {
+            return at + span as usize;
+        }
+        return end;
+    }
+    at
 }
