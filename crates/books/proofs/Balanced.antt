@@ -252,7 +252,8 @@ balanced-for {a} {b} A B t i w =
     let s₉ : Balanced w₈ w₉ = balanced-trans {b = u₉} (balanced-function w₈ _ refl refl refl) (balanced-function u₉ _ refl refl refl) in
     let r₃ : Balanced v₁ v₃ = balanced-trans {b = v₂} (balanced-function v₁ _ refl refl refl) (balanced-function v₂ _ refl refl refl) in
     let r₄ : Balanced v₃ v₄ = balanced-function v₃ _ refl refl refl in
-    let inner : Balanced w₁ v₄ = balanced-trans (A w₁) (balanced-trans s₃ (balanced-trans s₄ (balanced-trans s₅ (balanced-trans s₆ (balanced-trans s₈ (balanced-trans s₉
+    let inner : Balanced w₁ v₄ = balanced-trans (A w₁) (balanced-trans s₃ (balanced-trans s₄ (balanced-trans s₅ (balanced-trans s₆ (balanced-trans s₈
+    (balanced-trans s₉
     (balanced-trans (B w₉) (balanced-trans r₃ r₄)))))))) in
     record { is-open = ap isOpen (inner .scopes); scopes = ap tail (inner .scopes); breaks = ap tail (inner .breaks) }
 
@@ -284,7 +285,8 @@ balanced-bare n t w = balanced-trans (balanced-define (t .value) w) (go (defineL
 
 pub balanced-rescue : (t : Token) → Balancing (compileRescue t)
 unfolding compileRescue
-balanced-rescue t w = cond-case (Balanced w) (ltb 1 (w .function .depth)) (λ h. balanced-error 4 t w) (λ h. let b = return-balanced (t .position) (w .function) in balanced-function w _ (b .is-open) (b .scopes) (b .breaks))
+balanced-rescue t w = cond-case (Balanced w) (ltb 1 (w .function .depth)) (λ h. balanced-error 4 t w)
+    (λ h. let b = return-balanced (t .position) (w .function) in balanced-function w _ (b .is-open) (b .scopes) (b .breaks))
 
 pub balanced-deeper : {a : Step} → Balancing a → Balancing (deeper a)
 unfolding deeper

@@ -2,3 +2,4 @@ pub mod Balanced
 pub mod Steps
 pub mod Leaves
 pub mod Tokens
+pub mod Runs

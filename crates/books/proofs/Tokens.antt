@@ -57,7 +57,8 @@ module _ {start count : ℕ} {locals : List ℕ} {s s′ : FunctionState} {c c�
     where
       go : (e : Expression) → ViewE 30 e → ExpressionAt e tree at → OnNames start count locals s c k n s′ c′ k′ (compileExpression e)
       go (Identifier t) v-Identifier h =
-          token-as tree at kind-is position-is value-is (λ (u : Token). OnNames start count locals s c k n s′ c′ k′ (emitName LocalGet ContextGet GlobalGet (u .value) (u .position))) (h .token) N
+          token-as tree at kind-is position-is value-is
+          (λ (u : Token). OnNames start count locals s c k n s′ c′ k′ (emitName LocalGet ContextGet GlobalGet (u .value) (u .position))) (h .token) N
 
   pub leaf-integer : kind ≡ 33 → OnPool s c k s′ c′ k′ (emitConstant PushConstant (constantOf 2 value) position)
       → Leafs tree at start count locals s c k n s′ c′ k′
@@ -66,7 +67,8 @@ module _ {start count : ℕ} {locals : List ℕ} {s s′ : FunctionState} {c c�
     where
       go : (e : Expression) → ViewE 33 e → ExpressionAt e tree at → OnNames start count locals s c k n s′ c′ k′ (compileExpression e)
       go (Integer t) v-Integer h =
-          pool-names (token-as tree at kind-is position-is value-is (λ (u : Token). OnPool s c k s′ c′ k′ (emitConstant PushConstant (constantOf 2 (u .value)) (u .position))) (h .token) P)
+          pool-names (token-as tree at kind-is position-is value-is
+          (λ (u : Token). OnPool s c k s′ c′ k′ (emitConstant PushConstant (constantOf 2 (u .value)) (u .position))) (h .token) P)
 
   pub leaf-float : kind ≡ 34 → OnPool s c k s′ c′ k′ (emitConstant PushConstant (constantOf 3 value) position)
       → Leafs tree at start count locals s c k n s′ c′ k′
@@ -75,7 +77,8 @@ module _ {start count : ℕ} {locals : List ℕ} {s s′ : FunctionState} {c c�
     where
       go : (e : Expression) → ViewE 34 e → ExpressionAt e tree at → OnNames start count locals s c k n s′ c′ k′ (compileExpression e)
       go (Float t) v-Float h =
-          pool-names (token-as tree at kind-is position-is value-is (λ (u : Token). OnPool s c k s′ c′ k′ (emitConstant PushConstant (constantOf 3 (u .value)) (u .position))) (h .token) P)
+          pool-names (token-as tree at kind-is position-is value-is
+          (λ (u : Token). OnPool s c k s′ c′ k′ (emitConstant PushConstant (constantOf 3 (u .value)) (u .position))) (h .token) P)
 
   pub leaf-text : kind ≡ 35 → OnPool s c k s′ c′ k′ (emitConstant PushConstant (constantOf 4 value) position)
       → Leafs tree at start count locals s c k n s′ c′ k′
@@ -84,7 +87,8 @@ module _ {start count : ℕ} {locals : List ℕ} {s s′ : FunctionState} {c c�
     where
       go : (e : Expression) → ViewE 35 e → ExpressionAt e tree at → OnNames start count locals s c k n s′ c′ k′ (compileExpression e)
       go (Text t) v-Text h =
-          pool-names (token-as tree at kind-is position-is value-is (λ (u : Token). OnPool s c k s′ c′ k′ (emitConstant PushConstant (constantOf 4 (u .value)) (u .position))) (h .token) P)
+          pool-names (token-as tree at kind-is position-is value-is
+          (λ (u : Token). OnPool s c k s′ c′ k′ (emitConstant PushConstant (constantOf 4 (u .value)) (u .position))) (h .token) P)
 
 -- a leaf that emits one instruction
 module _ {start count : ℕ} {locals : List ℕ} {s s′ : FunctionState} {c c′ k n : List ℕ} (tree : List ℕ) (at : ℕ) {kind position x : ℕ}
@@ -97,7 +101,8 @@ module _ {start count : ℕ} {locals : List ℕ} {s s′ : FunctionState} {c c�
       go (This t) v-This h = record {
         does = λ b e. record {
           meets = λ κ E w I H.
-              put-reads (emitted (toInstruction LocalGet 0) (t .position) d (λ z. as-word) (λ z. position-is ∙ sym (ap (λ (u : Token). u .position) (h .token))) H)
+              put-reads (emitted (toInstruction LocalGet 0) (t .position) d (λ z. as-word)
+              (λ z. position-is ∙ sym (ap (λ (u : Token). u .position) (h .token))) H)
               (w .function .thisReads ++ (getNextInstructionIndex (w .function) ∷ []));
         };
       }
@@ -142,16 +147,19 @@ module _ {start count : ℕ} {locals : List ℕ} {s s′ : FunctionState} {c c�
 
 -- `prefix`
 module _ (tree : List ℕ) (at : ℕ) {value : ℕ} (value-is : value ≡ valueAt tree at) {s s′ : FunctionState} where
-  pub prefix-minus : {c c′ e : List ℕ} {position : ℕ} → value ≡ 0 → position ≡ positionAt tree at → coded s′ c′ ≡ emitC (word (toInstruction Negative 0)) position (coded s c)
+  pub prefix-minus : {c c′ e : List ℕ} {position : ℕ} → value ≡ 0 → position ≡ positionAt tree at
+      → coded s′ c′ ≡ emitC (word (toInstruction Negative 0)) position (coded s c)
       → OnFaults s c e s′ c′ e (compilePrefixExpression (tokenAt tree at) skip)
   unfolding compilePrefixExpression skip
   prefix-minus q p d = record {
     acts = λ k n b. record {
-      meets = λ κ E w H. rw (eq-eqb (valueAt tree at) 0 (sym value-is ∙ q)) (emitted (toInstruction Negative 0) (positionAt tree at) d (λ z. refl) (λ z. p) H);
+      meets = λ κ E w H. rw (eq-eqb (valueAt tree at) 0 (sym value-is ∙ q))
+          (emitted (toInstruction Negative 0) (positionAt tree at) d (λ z. refl) (λ z. p) H);
     };
   }
 
-  pub prefix-not : {c c′ e : List ℕ} {position : ℕ} → value ≡ 1 → position ≡ positionAt tree at → coded s′ c′ ≡ emitC (word (toInstruction Not 0)) position (coded s c)
+  pub prefix-not : {c c′ e : List ℕ} {position : ℕ} → value ≡ 1 → position ≡ positionAt tree at
+      → coded s′ c′ ≡ emitC (word (toInstruction Not 0)) position (coded s c)
       → OnFaults s c e s′ c′ e (compilePrefixExpression (tokenAt tree at) skip)
   unfolding compilePrefixExpression skip
   prefix-not q p d = record {

@@ -1,18 +1,18 @@
 -- What a routine does to the state and the areas, said by the definition's step: whatever work they hold before, they hold the step's work after
-use Prim.Native.Nat.{ℕ, _+_, _<_, min}
+use Prim.Native.Nat.{ℕ, _+_, _-_, _<_, min}
 use mathlib.Core.Path.{_≡_}
 use mathlib.Core.Bool.{true, cond}
 use mathlib.Core.List.{List}
 use lib.Dec.{eqb, ltb}
-use Rattle.words.specs.Ast.{Token, Expression}
+use Rattle.words.specs.Ast.{Token, Expression, Expressions}
 use Rattle.words.specs.Object.{NULL, TRUE, FALSE}
 use Rattle.words.specs.Record.{kindAt, spanAt}
-use Rattle.words.specs.Opcode.{Not}
+use Rattle.words.specs.Opcode.{Not, OPERATION_EQUAL, OPERATION_AND, OPERATION_OR}
 use Rattle.definition.specs.Uses.{Limits}
 use Rattle.definition.specs.Compiler.{Work, Step, InfixKind, Assigning, Plain, Negated, Compound, Unknown, compileOperation, compileExpression}
-use Rattle.definition.specs.Compiler.{emitOpcode, skip}
+use Rattle.definition.specs.Compiler.{emitOpcode, skip, infixKind, count}
 use Rattle.definition.specs.Program.{Entries}
-use Rattle.tree.specs.At.{ExpressionAt}
+use Rattle.tree.specs.At.{ExpressionAt, ExpressionsAt, sizeEs}
 use Rattle.building.specs.declared.function_state.FunctionState.{FunctionState}
 use Rattle.building.specs.Held.{Machine, machine, Held, LocalsHeld, isOpen}
 
@@ -69,3 +69,20 @@ standingOf kind value = cond (eqb kind 36) (cond (eqb value 1) TRUE FALSE) NULL
 -- where the subtree at a place ends, not beyond the end
 unfoldable pub skipC : List ℕ → ℕ → ℕ → ℕ
 skipC w at end = cond (ltb at end) (cond (eqb (spanAt w at) 0) (at + 1) (min (at + spanAt w at) end)) at
+
+-- how many expressions stand from a place up to the end, n counted before it
+pub record Counted (tree : List ℕ) (at end n r : ℕ) : Type 0 where
+  pub counts : (es : Expressions) → ExpressionsAt es tree at → at + sizeEs es ≡ end → r ≡ n + count es
+
+-- the operation of an infix value between 1 and 18
+abbrev pub operationOf : ℕ → ℕ
+operationOf n =
+    cond (eqb n 0) 0
+    (cond (ltb n 6) (n - 1)
+    (cond (ltb n 11) (n - 6)
+    (cond (ltb n 13) OPERATION_EQUAL
+    (cond (ltb n 17) (n - 7)
+    (cond (eqb n 17) OPERATION_AND OPERATION_OR)))))
+
+pub record Operates (value position : ℕ) (s : FunctionState) (c : List ℕ) (s′ : FunctionState) (c′ : List ℕ) : Type 0 where
+  pub operates : (t : Token) → t .position ≡ position → 0 < value → value < 19 → OnCode s c s′ c′ (operated (infixKind value) t)

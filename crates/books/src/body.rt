@@ -8,6 +8,7 @@ ghost use Rattle.words.specs.Opcode.{PushConstant};
 ghost use Rattle.definition.specs.Compiler.{pushError, emitConstant, emitGlobal, emitName, compileAssignName, compilePrefixExpression, compileRescue};
 ghost use Rattle.definition.specs.Compiler.{skip};
 ghost use Rattle.books.specs.Meets.{OnErrors, OnFaults, OnPool, OnNames, Leafs, standingOf, skipC};
+ghost use Rattle.books.specs.Meets.{Counted, operationOf, Operates};
 use building::context;
 use building::function_state;
 use building::function_state::FunctionState;
@@ -273,4 +274,55 @@ fn skip(tree: &[u64], at: usize, end: usize) -> usize
         return end;
     }
     at
+}
+
+// How many subtrees stand one after the other.
+fn count_children(tree: &[u64], at: usize, end: usize) -> u64
+    ensures { λ r. ⌜ Counted (now (tree .entry)) at end 0 r ⌝ }
+{
+    let mut i = at;
+    let mut n: u64 = 0;
+    while i < end {
+        i = skip(tree, i, end);
+        n += 1;
+    }
+    n
+}
+
+// The operation of an infix value between 1 and 18.
+fn operation_of(value: u64) -> u64
+    ensures { λ r. ⌜ r ≡ operationOf value ⌝ }
+{
+    if value == 0 {
+        return 0;
+    }
+    if value < 6 {
+        return value - 1;
+    }
+    if value < 11 {
+        return value - 6;
+    }
+    if value < 13 {
+        return 5;
+    }
+    if value < 17 {
+        return value - 7;
+    }
+    if value == 17 {
+        return 257;
+    }
+    258
+}
+
+// What an infix does when both sides are there.
+fn operation(code: &mut [u64], state: FunctionState, value: u64, position: u64) -> FunctionState
+    ensures { λ r. ⌜ Operates value position state (now (code .entry)) r (now (code .exit)) ⌝ }
+{
+    let number = operation_of(value);
+    let instruction = OpCode::Operation.to_instruction(number);
+    let s1 = function_state::emit(code, state, instruction, position);
+    if value == record::INFIX_NOT_EQUAL {
+        return function_state::emit_opcode(code, s1, OpCode::Not, position);
+    }
+    s1
 }
