@@ -3,3 +3,4 @@ pub mod Steps
 pub mod Leaves
 pub mod Tokens
 pub mod Runs
+pub mod ExpressionWays

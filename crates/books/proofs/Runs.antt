@@ -102,7 +102,8 @@ module _ {s s₁ : FunctionState} {c c₁ : List ℕ} (value position : ℕ) {nu
   one m q t p = record {
     acts = λ k n b e. record {
       meets = λ κ E w H.
-          emitted (toInstruction Operation m) (t .position) d (λ z. as-word ∙ ap (λ (i : ℕ). word (toInstruction Operation i)) (number-is ∙ sym q)) (λ z. sym p) H;
+          emitted (toInstruction Operation m) (t .position) d
+          (λ z. as-word ∙ ap (λ (i : ℕ). word (toInstruction Operation i)) (number-is ∙ sym q)) (λ z. sym p) H;
     };
   }
 
