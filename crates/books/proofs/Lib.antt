@@ -1,0 +1,6 @@
+pub mod Balanced
+pub mod Steps
+pub mod Leaves
+pub mod Tokens
+pub mod Runs
+pub mod ExpressionWays

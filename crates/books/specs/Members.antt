@@ -1,0 +1,22 @@
+-- What the members of the cycle promise: of whatever stands at `at` and ends exactly at `end`, they do the definition's step
+use Prim.Native.Nat.{ℕ, _+_}
+use mathlib.Core.Path.{_≡_}
+use mathlib.Core.List.{List}
+use Rattle.words.specs.Ast.{Expression, Expressions}
+use Rattle.definition.specs.Compiler.{andThen, compileExpression, compileExpressions}
+use Rattle.tree.specs.At.{ExpressionAt, ExpressionsAt, sizeE, sizeEs}
+use Rattle.building.specs.Held.{Machine}
+use Rattle.books.specs.Meets.{Does}
+
+-- `expression`
+pub record MeetsE (tree : List ℕ) (at end start count : ℕ) (locals : List ℕ) (m m′ : Machine) : Type 0 where
+  pub meets : (e : Expression) → ExpressionAt e tree at → at + sizeE e ≡ end → Does start count locals m m′ (compileExpression e)
+
+-- `expressions`
+pub record MeetsEs (tree : List ℕ) (at end start count : ℕ) (locals : List ℕ) (m m′ : Machine) : Type 0 where
+  pub meets : (es : Expressions) → ExpressionsAt es tree at → at + sizeEs es ≡ end → Does start count locals m m′ (compileExpressions es)
+
+-- `two`: one expression and then another
+pub record MeetsTwo (tree : List ℕ) (at end start count : ℕ) (locals : List ℕ) (m m′ : Machine) : Type 0 where
+  pub meets : (a b : Expression) → ExpressionAt a tree at → ExpressionAt b tree (at + sizeE a) → at + sizeE a + sizeE b ≡ end
+      → Does start count locals m m′ (andThen (compileExpression a) (compileExpression b))

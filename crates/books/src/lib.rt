@@ -1,0 +1,2 @@
+// `backend/compiler.rs` over lent areas: function bodies.
+pub mod body;
