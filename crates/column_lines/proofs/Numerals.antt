@@ -9,7 +9,9 @@ use lib.ListN.{length, drop, replicate, length-append, length-replicate}
 use lib.Seq.{append-snoc}
 use lib.Dec.{leb, eqb}
 use borrow.Author.Tests.{eq-eqb, ne-eqb, le-leb, lt-leb, leb-true, leb-false, eqb-true, eqb-false}
-use Rattle.column_lines.specs.Numeral.{blank, minusSign, digitOf, isDigit, leastSize, wordEnd, mostOf, negativeOf, magnitudeOf, leadOf, restOf, spelled, leadFits, restFits, spellFits, numeral, numeralFits, wordOf, digitsFrom, zeroFrom, numberFrom, signAt, signFrom, readNumeral}
+use Rattle.column_lines.specs.Numeral.{blank, minusSign, digitOf, isDigit, leastSize, wordEnd, mostOf, negativeOf, magnitudeOf, leadOf, restOf}
+use Rattle.column_lines.specs.Numeral.{spelled, leadFits, restFits, spellFits, numeral, numeralFits, wordOf, digitsFrom, zeroFrom, numberFrom, signAt}
+use Rattle.column_lines.specs.Numeral.{signFrom, readNumeral}
 use Rattle.column_lines.specs.declared.number.Number.{Number}
 use Rattle.column_lines.specs.declared.number.Number.the-variants.{Word, Off}
 use Rattle.column_lines.proofs.Reading.{digit-yes}
@@ -150,7 +152,8 @@ word-negative s word l h =
 
 pub read-written : (width : ℕ) (signed : Bool) (word : ℕ) → word < wordEnd → numeralFits width signed word ≡ true
     → readNumeral signed (numeral width signed word) ≡ Word word
-read-written width false word h f = read-spelled false false width word (λ e. e) (λ e. absurd (absurd-bool e)) f (omega arith) ∙ word-natural false word (omega arith)
+read-written width false word h f = read-spelled false false width word (λ e. e) (λ e. absurd (absurd-bool e)) f (omega arith)
+    ∙ word-natural false word (omega arith)
 read-written width true word h f = go (leb leastSize word) refl f
   where
     go : (t : Bool) → leb leastSize word ≡ t → spellFits width t (cond t (wordEnd - word) word) ≡ true
@@ -298,7 +301,8 @@ unfolding signFrom signAt
 from-sign false j b bs word w = from-number false false (replicate j blank) (b ∷ bs) word (λ e. e) (blank-lead j) w
 from-sign true j b bs word w = go (eqb b 45) refl w
   where
-    go : (t : Bool) → eqb b 45 ≡ t → cond t (numberFrom true true bs) (numberFrom true false (b ∷ bs)) ≡ Word word → Again true word (replicate j blank ++ (b ∷ bs))
+    go : (t : Bool) → eqb b 45 ≡ t → cond t (numberFrom true true bs) (numberFrom true false (b ∷ bs)) ≡ Word word
+        → Again true word (replicate j blank ++ (b ∷ bs))
     go true e w =
         let z : b ≡ 45 = eqb-true b 45 e in
         rw (z, ← append-snoc) (from-number true true (replicate j blank ++ (minusSign ∷ [])) bs word (λ e. refl) (minus-lead j) w)

@@ -9,7 +9,8 @@ use lib.ListN.{length, drop, getD, drop-of-length-le}
 use lib.Seq.{drop-cons, drop-drop}
 use lib.Dec.{leb, ltb, eqb}
 use borrow.Author.Tests.{le-leb, lt-leb, eq-eqb, ne-eqb, leb-true, leb-false, ltb-true, ltb-false}
-use Rattle.column_lines.specs.Numeral.{blank, minusSign, isDigit, leastSize, mostOf, wordEnd, wordOf, digitsFrom, zeroFrom, numberFrom, signAt, signFrom, readNumeral}
+use Rattle.column_lines.specs.Numeral.{blank, minusSign, isDigit, leastSize, mostOf, wordEnd, wordOf, digitsFrom, zeroFrom, numberFrom, signAt}
+use Rattle.column_lines.specs.Numeral.{signFrom, readNumeral}
 use Rattle.column_lines.specs.declared.number.Number.{Number}
 use Rattle.column_lines.specs.declared.number.Number.the-variants.{Word, Off}
 
