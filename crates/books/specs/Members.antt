@@ -2,9 +2,9 @@
 use Prim.Native.Nat.{ℕ, _+_}
 use mathlib.Core.Path.{_≡_}
 use mathlib.Core.List.{List}
-use Rattle.words.specs.Ast.{Expression, Expressions, Statements}
-use Rattle.definition.specs.Compiler.{andThen, compileExpression, compileExpressions, compilePart, compileStatements}
-use Rattle.tree.specs.At.{ExpressionAt, ExpressionsAt, StatementsAt, sizeE, sizeEs, sizeSs}
+use Rattle.words.specs.Ast.{Expression, Expressions, Statement, Statements}
+use Rattle.definition.specs.Compiler.{andThen, compileExpression, compileExpressions, compilePart, compileStatement, compileStatements}
+use Rattle.tree.specs.At.{ExpressionAt, ExpressionsAt, StatementAt, StatementsAt, sizeE, sizeEs, sizeS, sizeSs}
 use Rattle.building.specs.Held.{Machine}
 use Rattle.books.specs.Meets.{Does}
 
@@ -29,3 +29,7 @@ pub record MeetsSs (tree : List ℕ) (at end start count : ℕ) (locals : List �
 pub record MeetsBlock (tree : List ℕ) (at end start count : ℕ) (locals : List ℕ) (m m′ : Machine) : Type 0 where
   pub meets : (ss : Statements) → StatementsAt ss tree (at + 1) → at + 1 + sizeSs ss ≡ end
       → Does start count locals m m′ (compilePart (compileStatements ss))
+
+-- `statement`
+pub record MeetsS (tree : List ℕ) (at end start count : ℕ) (locals : List ℕ) (m m′ : Machine) : Type 0 where
+  pub meets : (s : Statement) → StatementAt s tree at → at + sizeS s ≡ end → Does start count locals m m′ (compileStatement s)
