@@ -4,7 +4,7 @@ use Prim.Native.Nat.{ℕ, _+_, _≤_, _<_}
 use native.Mathlib.Omega.{arith}
 use mathlib.Core.Path.{_≡_, refl, sym, ap, _∙_}
 use mathlib.Core.List.{List}
-use Rattle.words.specs.Ast.{Statement, Statements, ∅ₛ, _∷ₛ_}
+use Rattle.words.specs.Ast.{Statements, ∅ₛ, _∷ₛ_}
 use Rattle.definition.specs.FunctionState.{enterScope, tail, Entry}
 use Rattle.definition.specs.Uses.{total}
 use Rattle.definition.specs.Compiler.{doing, compilePart, compileStatements, skip}
