@@ -14,7 +14,7 @@ use Rattle.definition.specs.FunctionState as Emission
 use Rattle.definition.specs.FunctionState.{FunctionState, Entry, removePopOrPushNull, emitReturn, emitBreak, exitBreakScope, defineLocal, lastOpcode}
 use Rattle.definition.specs.FunctionState.{innermost, findName, tail}
 use Rattle.definition.specs.Compiler
-use Rattle.definition.specs.Compiler.{Work, Step, Added, withFunction, doing, emit, emitOpcode, pushError, addConstant, addConstantNoCheck, findConstant}
+use Rattle.definition.specs.Compiler.{Work, Step, Added, withFunction, doing, emit, pushError, addConstant, addConstantNoCheck, findConstant}
 use Rattle.definition.specs.Compiler.{emitConstant, emitGlobal, emitName, InfixKind, Assigning, Plain, Negated, Compound, Unknown, infixKind, compileInfixBy}
 use Rattle.definition.specs.Compiler.{compileStatement, compileStatements, compileExpression, compileExpressions, compileVariables}
 use Rattle.definition.specs.Compiler.{compileAssignExpressionLeftPart, skip, andThen, deeper, compileRescue, compileBare}

@@ -4,3 +4,4 @@ pub mod Leaves
 pub mod Tokens
 pub mod Runs
 pub mod ExpressionWays
+pub mod StatementWays

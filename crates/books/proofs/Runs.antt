@@ -1,15 +1,15 @@
 -- One lemma for each way through the count of children, the operations and the end of a loop. Whatever is counted from here is counted from the start.
 -- Assumes nothing.
-use Prim.Native.Nat.{ℕ, zero, suc, _+_, _-_, _%_, _^_, _≤_, _<_}
+use Prim.Native.Nat.{ℕ, zero, suc, _+_, _-_, _≤_, _<_}
 use native.Mathlib.Omega.{arith}
 use mathlib.Core.Path.{_≡_, refl, sym, ap, _∙_}
-use mathlib.Core.Bool.{Bool, true, false, cond}
-use mathlib.Core.List.{List, [], _∷_}
+use mathlib.Core.Bool.{Bool, true, false}
+use mathlib.Core.List.{List}
 use lib.Dec.{eqb, ltb}
 use borrow.Author.Tests.{eqb-true, eqb-false, ltb-true, ltb-false, eq-eqb, ne-eqb, lt-ltb, le-ltb}
 use Rattle.words.specs.Ast.{Token, Expressions, ∅ₑ, _∷ₑ_}
-use Rattle.words.specs.Opcode.{toInstruction, word, Operation, Not, Jump, Iterate}
-use Rattle.definition.specs.Compiler.{Work, InfixKind, Plain, Negated, Compound, infixKind, count, compileOperation, skip}
+use Rattle.words.specs.Opcode.{toInstruction, word, Operation, Not}
+use Rattle.definition.specs.Compiler.{InfixKind, Plain, Negated, Compound, infixKind, count, compileOperation, skip}
 use Rattle.tree.specs.At.{ExpressionsAt, sizeEs}
 use Rattle.tree.proofs.View.{headE, sizeE-pos}
 use Rattle.building.specs.declared.function_state.FunctionState.{FunctionState}

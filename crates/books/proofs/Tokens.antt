@@ -4,7 +4,7 @@ use native.Mathlib.Omega.{arith}
 use mathlib.Core.Path.{_≡_, refl, sym, ap, _∙_}
 use mathlib.Core.Bool.{Bool, true, false, cond}
 use mathlib.Core.List.{List, [], _∷_, _++_}
-use lib.Dec.{eqb, ltb}
+use lib.Dec.{eqb}
 use borrow.Author.Tests.{eqb-false, eq-eqb, ne-eqb, lt-ltb, le-ltb}
 use Rattle.words.specs.Ast.{Token, Expression, Identifier, This, Null, Integer, Float, Text, Boolean, Array, Prefix, Infix, If, IfElse, Call}
 use Rattle.words.specs.Ast.{InstanceGet, IndexGet}
@@ -12,18 +12,15 @@ use Rattle.words.specs.Object.{constantOf, NULL, TRUE, FALSE}
 use Rattle.words.specs.Opcode.{toInstruction, word, PushConstant, LocalGet, ContextGet, GlobalGet, LocalSet, ContextSet, GlobalSet, Not, Negative}
 use Rattle.words.specs.Record.{tokenAt, kindAt, spanAt, positionAt, valueAt}
 use Rattle.definition.specs.FunctionState.{getNextInstructionIndex}
-use Rattle.definition.specs.Uses.{Limits}
-use Rattle.definition.specs.Program.{Entries}
-use Rattle.definition.specs.Compiler.{Work, Step, emit, pushError, emitConstant, emitName, compileExpression, compileAssignName, compilePrefixExpression}
+use Rattle.definition.specs.Compiler.{Step, emit, pushError, emitConstant, emitName, compileExpression, compileAssignName, compilePrefixExpression}
 use Rattle.definition.specs.Compiler.{compileRescue, skip, compileIdentifierExpression, compileThisExpression, compileNullExpression}
 use Rattle.definition.specs.Compiler.{compileIntegerExpression, compileFloatExpression, compileStringExpression, compileBooleanExpression}
 use Rattle.definition.proofs.Steady.{steady-rescue}
 use Rattle.tree.specs.At.{Head, ExpressionAt}
-use Rattle.tree.proofs.View.{ViewE, seeE, headE}
+use Rattle.tree.proofs.View.{ViewE, seeE}
 use Rattle.tree.proofs.View.ViewE.{v-Identifier, v-This, v-Integer, v-Float, v-Text}
 use Rattle.building.specs.declared.function_state.FunctionState.{FunctionState}
 use Rattle.building.specs.Emission.{coded, emitC, emitReturnC, rescueC}
-use Rattle.building.specs.Held.{machine, Held}
 use Rattle.building.proofs.EmissionLaws.{held-coded, return-law}
 use Rattle.building.proofs.StateLaws.{put-rescue, put-reads}
 use Rattle.books.specs.Meets.{OnErrors, OnFaults, OnPool, OnNames, Leafs, standingOf, skipC}
