@@ -1,0 +1,55 @@
+// A column file on standard input to its records on standard output: a line with the reply, number, place and total, then a word a line, unsigned,
+// right-justified in 21. The buffers hold 1,424 records; longer input answers 9, place 0 (docs/FORMAT.md).
+use column_files::columns_to_records;
+use column_lines::number::write_number;
+use libc::STDIN_FILENO;
+use libc::STDOUT_FILENO;
+
+const MOST_BYTES: usize = 65504;
+
+const MOST_WORDS: usize = 5696;
+
+fn reply(number: u64, place: u64, total: u64) {
+    io::print_decimal(STDOUT_FILENO, number);
+    io::write_all(STDOUT_FILENO, b" ");
+    io::print_decimal(STDOUT_FILENO, place);
+    io::write_all(STDOUT_FILENO, b" ");
+    io::print_decimal(STDOUT_FILENO, total);
+    io::write_all(STDOUT_FILENO, b"\n");
+}
+
+fn write_word(word: u64) {
+    let mut digits = [0; 21];
+    write_number(&mut digits, word, false);
+    io::write_all(STDOUT_FILENO, &digits);
+    io::write_all(STDOUT_FILENO, b"\n");
+}
+
+fn write_words(words: &[u64]) {
+    let mut i: usize = 0;
+    while i < words.len() {
+        write_word(words[i]);
+        i += 1;
+    }
+}
+
+fn convert(file: &[u8]) {
+    if file.len() > MOST_BYTES {
+        reply(9, 0, 0);
+        return;
+    }
+    let mut words = [0; 5696];
+    let answer = columns_to_records(file, &mut words);
+    reply(answer.number, answer.place as u64, answer.total as u64);
+    let total = answer.total;
+    if total <= MOST_WORDS / 4 {
+        let end = total * 4;
+        write_words(&words[0..end]);
+    }
+}
+
+fn main() {
+    let mut text = io::large_buffer();
+    let n = io::read_full(STDIN_FILENO, &mut text);
+    convert(&text[..n]);
+}
