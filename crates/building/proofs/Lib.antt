@@ -14,3 +14,4 @@ pub mod Naming
 pub mod ScopeNames
 pub mod ScopeLaws
 pub mod Notes
+pub mod FunctionLaws
