@@ -10,9 +10,9 @@ use libc::STDOUT_FILENO;
 
 const HEADER: usize = 17;
 
-const MOST_FILE: usize = 2048;
+const MOST_FILE: usize = 4096;
 
-const MOST_ROOM: usize = 256;
+const MOST_ROOM: usize = 512;
 
 // A number of the header; past every limit where there is none.
 fn number(field: &[u8]) -> usize {
@@ -56,7 +56,18 @@ fn gives(words: &[u64], out: &mut [u8], number: u64, file: &[u8]) -> bool {
     is_file(out, file)
 }
 
-// The records give the file again, where there is room for it and where there is just room; one byte less has none, and leaves zeros.
+// One word less is no multiple of 4.
+fn odd(words: &[u64]) -> bool {
+    if words.len() == 0 {
+        return false;
+    }
+    let less = words.len() - 1;
+    let mut out = [7; 64];
+    gives(&words[0..less], &mut out, 2, b"")
+}
+
+// The records give the file again, where there is room for it and where there is just room; one byte less has none, and leaves zeros. So does one word
+// less, by row 2.
 fn back(words: &[u64], file: &[u8]) -> bool {
     let end = file.len();
     if end > MOST_FILE {
@@ -65,17 +76,20 @@ fn back(words: &[u64], file: &[u8]) -> bool {
     if end == 0 {
         return false;
     }
-    let mut wide = [7; 4096];
+    let mut wide = [7; 8192];
     if !gives(words, &mut wide, 0, file) {
         return false;
     }
-    let mut tight = [7; 2048];
+    let mut tight = [7; 4096];
     if !gives(words, &mut tight[0..end], 0, file) {
         return false;
     }
-    let mut short = [7; 2048];
+    let mut short = [7; 4096];
     let less = end - 1;
-    gives(words, &mut short[0..less], 9, b"")
+    if !gives(words, &mut short[0..less], 9, b"") {
+        return false;
+    }
+    odd(words)
 }
 
 fn field(n: u64) {
@@ -107,7 +121,7 @@ fn judge(file: &[u8], words: &mut [u64]) {
 }
 
 fn case(file: &[u8], room: usize) {
-    let mut words = [7; 256];
+    let mut words = [7; 512];
     if room <= MOST_ROOM {
         judge(file, &mut words[0..room]);
     }

@@ -64,7 +64,8 @@ lines-begun file out = record { long = refl; rest = refl }
 
 line-long : (w : List ℕ) → length (linesBy 1 w) ≡ 46
 unfolding linesBy
-line-long w = ap length (append-nil (recordLine (getD w 0 0) (getD w 1 0) (getD w 2 0) (getD w 3 0)))
+line-long w =
+    ap length (append-nil (recordLine (getD w 0 0) (getD w 1 0) (getD w 2 0) (getD w 3 0)))
     ∙ line-size (getD w 0 0) (getD w 1 0) (getD w 2 0) (getD w 3 0)
 
 pub records-more : (tree before out after : List ℕ) (i : ℕ) → Begun (linesBy i tree) before out (i * 46)

@@ -1,5 +1,5 @@
 -- A column file and its records, line by line (01, 'Column file': 'a record a line')
-use Prim.Native.Nat.{ℕ, zero, suc, _+_, _/_}
+use Prim.Native.Nat.{ℕ, zero, suc, _+_, _*_, _/_}
 use mathlib.Core.Path.{_≡_}
 use mathlib.Core.Bool.{cond}
 use mathlib.Core.List.{List, [], _∷_, _++_}
@@ -13,6 +13,10 @@ use Rattle.column_lines.specs.declared.line.Line.the-variants.{Record, Bad}
 -- how many whole lines a file has, or a rest of one
 abbrev pub linesIn : List ℕ → ℕ
 linesIn file = length file / lineLength
+
+-- line i of a file, read; bad where the file has none
+abbrev pub lineIn : ℕ → List ℕ → Line
+lineIn i file = readLine (take lineLength (drop (i * lineLength) file))
 
 -- the words of a line; of a bad one, zeros
 abbrev pub wordsIn : Line → List ℕ

@@ -3,16 +3,12 @@ use column_lines::line::LINE_LENGTH;
 use column_lines::line::Line;
 use column_lines::line::read_line;
 ghost use mathlib.Core.Path.{_≡_};
-ghost use Prim.Native.Nat.{_*_};
-ghost use lib.ListN.{take, drop};
 ghost use Rattle.words.specs.Areas.{clearedFrom};
-ghost use Rattle.column_lines.specs.Line.{readLine};
-ghost use Rattle.column_lines.specs.Form.{lineLength};
-ghost use Rattle.column_files.specs.Files.{firstBad};
+ghost use Rattle.column_files.specs.Files.{firstBad, lineIn};
 
 // Line i of a file; bad where the file has none.
 pub fn line_at(file: &[u8], i: usize) -> Line
-    ensures { λ r. ⌜ r ≡ readLine (take lineLength (drop (i * 46) (now (file .entry)))) ⌝ }
+    ensures { λ r. ⌜ r ≡ lineIn i (now (file .entry)) ⌝ }
 {
     if i >= file.len() / LINE_LENGTH {
         return Line::Bad;

@@ -17,10 +17,8 @@ use words::areas::write4;
 ghost use mathlib.Core.Path.{_≡_};
 ghost use mathlib.Core.List.{_++_};
 ghost use Prim.Native.Nat.{_+_, _*_, _≤_};
-ghost use lib.ListN.{length, take, drop};
-ghost use Rattle.column_lines.specs.Line.{readLine};
-ghost use Rattle.column_lines.specs.Form.{lineLength};
-ghost use Rattle.column_files.specs.Files.{Lent, wordsIn, wordsBy, linesBy};
+ghost use lib.ListN.{length, drop};
+ghost use Rattle.column_files.specs.Files.{Lent, lineIn, wordsIn, wordsBy, linesBy};
 ghost use Rattle.column_files.specs.Convert.{columnsToRecords, recordsToColumns, shortReply, Converts};
 
 const BAD_LINE: u64 = 1;
@@ -70,7 +68,7 @@ fn write_records(tree: &[u64], records: usize, out: &mut [u8])
 // Writes the words of a line at its record's place.
 fn write_words(file: &[u8], at: usize, out: &mut [u64])
     requires { ⌜ (at + 1) * 4 ≤ length (now out) ⌝ }
-    ensures { λ _. ⌜ Lent (wordsIn (readLine (take lineLength (drop (at * 46) (now (file .entry)))))) (at * 4) (at * 4 + 4) (now (out .entry)) (now (out .exit)) ⌝ }
+    ensures { λ _. ⌜ Lent (wordsIn (lineIn at (now (file .entry)))) (at * 4) (at * 4 + 4) (now (out .entry)) (now (out .exit)) ⌝ }
 {
     let line = line_at(file, at);
     match line {
@@ -120,7 +118,7 @@ pub fn records_to_columns(tree: &[u64], out: &mut [u8]) -> Converted
     let shape = check(tree);
     let records = tree.len() / RECORD_WORDS;
     if out.len() / LINE_LENGTH < records {
-        clear_bytes(out, 0);
+        clear_bytes(out, 0); // too short
         return short_reply(shape);
     }
     match shape {
@@ -160,7 +158,7 @@ pub fn columns_to_records(file: &[u8], out: &mut [u64]) -> Converted
     let lines = file.len() / LINE_LENGTH;
     if out.len() / RECORD_WORDS < lines {
         let shape = check_file(file);
-        clear_from(out, 0);
+        clear_from(out, 0); // too short
         return short_reply(shape);
     }
     write_lines(file, lines, out);

@@ -10,8 +10,8 @@ use lib.Seq.{append-snoc}
 use lib.Dec.{leb, eqb}
 use borrow.Author.Tests.{eq-eqb, ne-eqb, le-leb, lt-leb, leb-true, leb-false, eqb-true, eqb-false}
 use Rattle.column_lines.specs.Numeral.{blank, minusSign, digitOf, isDigit, leastSize, wordEnd, mostOf, negativeOf, magnitudeOf, leadOf, restOf}
-use Rattle.column_lines.specs.Numeral.{spelled, leadFits, restFits, spellFits, numeral, numeralFits, wordOf, digitsFrom, zeroFrom, numberFrom, signAt}
-use Rattle.column_lines.specs.Numeral.{signFrom, readNumeral}
+use Rattle.column_lines.specs.Numeral.{spelled, leadFits, restFits, spellFits, numeral, numeralFits, wordOf, digitsFrom, zeroFrom, numberFrom}
+use Rattle.column_lines.specs.Numeral.{signAt, signFrom, readNumeral}
 use Rattle.column_lines.specs.declared.number.Number.{Number}
 use Rattle.column_lines.specs.declared.number.Number.the-variants.{Word, Off}
 use Rattle.column_lines.proofs.Reading.{digit-yes}
@@ -152,8 +152,8 @@ word-negative s word l h =
 
 pub read-written : (width : ℕ) (signed : Bool) (word : ℕ) → word < wordEnd → numeralFits width signed word ≡ true
     → readNumeral signed (numeral width signed word) ≡ Word word
-read-written width false word h f = read-spelled false false width word (λ e. e) (λ e. absurd (absurd-bool e)) f (omega arith)
-    ∙ word-natural false word (omega arith)
+read-written width false word h f =
+    read-spelled false false width word (λ e. e) (λ e. absurd (absurd-bool e)) f (omega arith) ∙ word-natural false word (omega arith)
 read-written width true word h f = go (leb leastSize word) refl f
   where
     go : (t : Bool) → leb leastSize word ≡ t → spellFits width t (cond t (wordEnd - word) word) ≡ true

@@ -9,8 +9,8 @@ use lib.ListN.{length, take, drop, set, replicate, length-set, drop-of-length-le
 use lib.Seq.{set-split, drop-at, length-take-le, append-snoc}
 use lib.Dec.{leb, eqb}
 use borrow.Author.Tests.{eq-eqb, ne-eqb, le-leb, leb-true}
-use Rattle.column_lines.specs.Numeral.{digitOf, leadOf, restOf, spelled, leadFits, restFits, spellFits, negativeOf, magnitudeOf, wordEnd, leastSize}
-use Rattle.column_lines.specs.Numeral.{Wrote, Spelt, Led}
+use Rattle.column_lines.specs.Numeral.{digitOf, leadOf, restOf, spelled, leadFits, restFits, spellFits, negativeOf, magnitudeOf, wordEnd}
+use Rattle.column_lines.specs.Numeral.{leastSize, Wrote, Spelt, Led}
 
 pub drop-set : (l : List ℕ) (k d : ℕ) → k < length l → drop k (set l k d) ≡ d ∷ drop (suc k) l
 drop-set l k d h = rw (set-split l k d h) (drop-at (take k l) (d ∷ drop (suc k) l) k (length-take-le k l (omega arith)))

@@ -19,6 +19,9 @@ const ZERO: u8 = b'0';
 
 const NINE: u8 = b'9';
 
+// A negative number does not begin with it: -0 is off the form.
+const NO_FIRST_DIGIT: u8 = b'0';
+
 const MOST_WORD: u64 = 18446744073709551615;
 
 const MOST_INTEGER: u64 = 9223372036854775807;
@@ -148,7 +151,7 @@ fn read_negative(bytes: &[u8], at: usize) -> Number
     if at >= bytes.len() {
         return Number::Off;
     }
-    if bytes[at] == ZERO {
+    if bytes[at] == NO_FIRST_DIGIT {
         return Number::Off;
     }
     let mut n: i64 = 0;

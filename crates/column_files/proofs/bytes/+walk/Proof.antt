@@ -128,9 +128,9 @@ walk-returns-3 t c =
     let c15 = c13 .before .before in
     sym (c13 .loop .inv .1
     ∙ walk-fault (wordsOf (c15 .args .file .now)) (c13 .loop .s) (c15 .args .level) (c13 .loop .t) (c13 .loop .i) (c15 .args .end) (c12 .loop-test .taken)
-    (c11 .sound .ensures) (c10 .if1 .left) (c9 .if2 .left)
-    (c8 .field .ensures) (c7 .field2 .ensures) (c6 .field3 .ensures) (c5 .this-after .ensures) (c .before .before .before .before .first-slot .ensures)
-    (c .before .before .before .walk .ensures) (c .before .inner2 .given .1))
+    (c11 .sound .ensures) (c10 .if1 .left)
+    (c9 .if2 .left) (c8 .field .ensures) (c7 .field2 .ensures) (c6 .field3 .ensures) (c5 .this-after .ensures)
+    (c .before .before .before .before .first-slot .ensures) (c .before .before .before .walk .ensures) (c .before .inner2 .given .1))
 
 walk-add-i : (t : ℕ) → walk-lts.Need-add-i (walk-calls t) (walk-at t) walk.Post walk-Inv-loop walk-μ-loop
 walk-add-i t c =
@@ -182,8 +182,8 @@ walk-loop-again t c =
       ),
       c14 .loop .inv .1
           ∙ walk-more (wordsOf (c16 .args .file .now)) (c14 .loop .s) (c16 .args .level) (c14 .loop .t) (c14 .loop .i) (c16 .args .end) (c13 .loop-test .taken)
-          (c12 .sound .ensures) (c11 .if1 .left) (c10 .if2 .left)
-          (c9 .field .ensures) (c8 .field2 .ensures) (c7 .field3 .ensures) (c6 .this-after .ensures) (c5 .first-slot .ensures)
+          (c12 .sound .ensures) (c11 .if1 .left)
+          (c10 .if2 .left) (c9 .field .ensures) (c8 .field2 .ensures) (c7 .field3 .ensures) (c6 .this-after .ensures) (c5 .first-slot .ensures)
           (c .before .before .before .before .walk .ensures) (c .before .before .inner .given .1) (c .slot-after .ensures),
     )
 

@@ -21,7 +21,8 @@ returns-3 c =
     let c8 = c7 .before in
     let c10 = c8 .before .before in
     let c12 = c10 .before .before in
-    c .record-in .ensures ∙ rw (
+    c .record-in .ensures
+    ∙ rw (
       c7 .read-field .ensures,
       c6 .read-field2 .ensures,
       c .before .before .before .position-in .ensures,

@@ -1,0 +1,53 @@
+# Writes the stored cases of column_cases, records and columns, by a reading of 01 of its own. Run at the root of the repository.
+import random, os
+W=[4,8,6,6,21]
+def line(k,s,l,c,v): return ''.join(str(x).rjust(w) for x,w in zip([k,s,l,c,v],W))+'\n'
+D=lambda n,f=1: line(1,n,0,0,f)
+# example of 01: file 2, f (text 3, position 1 10), parameter x (text 4): if x return end
+ex=D(8,2)+line(14,7,1,10,3)+line(40,1,1,11,4)+line(25,5,0,0,0)+line(42,4,0,0,0)+line(30,1,2,6,4)+line(43,2,0,0,0)+line(21,1,3,5,0)
+def const(kind,v): # document, function, 25, constant
+    return D(4)+line(14,3,1,1,5)+line(25,2,0,0,0)+line(kind,1,65535,65535,v)
+cases=[]
+def add(f,room,exp): cases.append((f,room,exp))
+ok=lambda f,last: (0,0,len(f)//46,last,1)
+ref=lambda n,p: (n,p,0,0,1)
+add(ex,256,ok(ex,0)); add(ex,32,ok(ex,0)); add(ex,31,ref(9,0)); add(ex,0,ref(9,0))
+for k,v,w in [(33,-2**63,2**63),(33,2**63-1,2**63-1),(33,-1,2**64-1),(33,0,0),(34,0x7FF8000000000001,0x7FF8000000000001),(34,0xFFF0000000000001,0xFFF0000000000001),(34,2**64-1,2**64-1)]:
+    f=const(k,v); add(f,64,ok(f,w))
+for k,v in [(33,-2**63-1),(33,2**63),(33,'-0'),(33,'007'),(33,'+7'),(33,'- 7'),(33,'7 '),(33,''),(33,'-'),(34,2**64),(34,-1),(34,'99999999999999999999'),(33,'1a')]:
+    f=const(k,v); add(f,64,ref(1,4))
+add(ex[:-1],256,ref(1,8)); add(ex+'x',256,ref(1,9)); add('',256,ref(3,0)); add('\n',256,ref(1,1)); add(ex[:46*3]+'\n'+ex[46*3:],256,ref(1,4))
+f=D(1,1)+'' ; add(f,256,(0,0,1,1,1))
+add(D(2),256,ref(3,0)); add(D(2),0,ref(3,0))              # span past the end, also without room
+add(D(2)+line(99,1,0,0,0),256,ref(3,1)); add(D(2)+line(99,1,0,0,0),4,ref(3,1))
+f=D(3)+line(14,2,65536,0,5)+line(21,1,0,0,0); add(f,64,ref(1,2))
+f=D(3)+line(14,2,65535,65535,5)+line(21,1,0,0,0); add(f,64,ok(f,0))
+f=D(3)+line(14,2,0,99999,5)+line(21,1,0,0,0); add(f,64,ref(1,2))
+f=D(2)+line(14,1,0,0,1048575); add(f,64,ok(f,1048575))
+f=D(2)+line(14,1,0,0,1048576); add(f,64,ref(3,1))
+f=D(2)+'0014'+line(14,1,0,0,5)[4:]; add(f,64,ref(1,2))
+# levels: document, function, then 38s nested under 25: level 65 at its index
+def deep(n):
+    k=n-3 # prefixes and a leaf at levels 4..
+    recs=[(1,n,0,0,1),(14,n-1,0,0,5),(25,n-2,0,0,0)]
+    for i in range(k-1): recs.append((38,k-i,0,0,0))
+    recs.append((31,1,0,0,0))
+    return ''.join(line(*r) for r in recs)
+add(deep(64),512,ok(deep(64),0)); add(deep(65),512,ref(4,64)); add(deep(65),8,ref(4,64)); add(deep(64),8,ref(9,0))
+os.makedirs('crates/column_cases',exist_ok=True)
+with open('crates/column_cases/stdin','w',newline='') as o, open('crates/column_cases/stdout','w') as s:
+    for f,room,exp in cases:
+        o.write(str(len(f)).rjust(8)+str(room).rjust(8)+'\n'+f+'\n')
+        s.write(' '.join(map(str,exp))+'\n')
+print(len(cases),'cases')
+open('crates/records/stdin','w',newline='').write(ex)
+def words(f):
+    out=[]
+    for i in range(0,len(f),46):
+        l=f[i:i+46]; k,sp,li,c,v=[int(x) for x in (l[0:4],l[4:12],l[12:18],l[18:24],l[24:45])]
+        out+= [k,sp,li*65536+c,v%2**64]
+    return out
+open('crates/records/stdout','w').write('0 0 8\n'+''.join(str(w).rjust(21)+'\n' for w in words(ex)))
+f=const(33,-2**63)
+open('crates/columns/stdin','w').write(''.join(str(w).rjust(21)+'\n' for w in words(f)))
+open('crates/columns/stdout','w').write('0 0 4\n'+f)
