@@ -28,6 +28,7 @@ const AREA_FULL: u64 = 9;
 const RECORD_WORDS: usize = 4;
 
 // What a converter answers: the number of a refusal's row and its place, or 0 and 0, and how many records it converted.
+#[repr(C)]
 pub struct Converted {
     pub number: u64,
     pub place: usize,
