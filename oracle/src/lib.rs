@@ -6,6 +6,7 @@ pub mod areas;
 pub mod books;
 pub mod columns;
 pub mod compare;
+pub mod convert;
 pub mod damage;
 pub mod documents;
 pub mod generate;
@@ -15,6 +16,7 @@ pub mod model;
 #[cfg(feature = "link")]
 pub mod ours;
 pub mod pieces;
+pub mod plain;
 pub mod random;
 pub mod real;
 pub mod records;
