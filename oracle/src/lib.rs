@@ -3,6 +3,8 @@
 
 pub mod alive;
 pub mod areas;
+#[cfg(feature = "link")]
+pub mod bench;
 pub mod books;
 pub mod columns;
 pub mod compare;

@@ -21,6 +21,8 @@ oracle hostile [--ours]
 oracle convert [--seed S] [--count N] [--large] [--limits]
     the library's converters and shape check and the reading over N column files and N word lists,
     or over those at the limits
+oracle bench [--runs R]
+    the library's converters and shape check beside plain Rust on 1,000,000 records
 oracle sample
     writes the files of sample/ anew
 ";
@@ -149,6 +151,17 @@ fn run_convert(arguments: &[String]) -> ExitCode {
     ExitCode::FAILURE
 }
 
+#[cfg(feature = "link")]
+fn run_bench(arguments: &[String]) -> ExitCode {
+    oracle::bench::run(number(arguments, "--runs", 15) as usize);
+    ExitCode::SUCCESS
+}
+
+#[cfg(not(feature = "link"))]
+fn run_bench(_: &[String]) -> ExitCode {
+    panic!("the library is there with --features link");
+}
+
 fn run_sample() -> ExitCode {
     let folder = Path::new(env!("CARGO_MANIFEST_DIR")).join("sample");
     std::fs::create_dir_all(&folder).expect("the folder can be made");
@@ -168,6 +181,7 @@ fn main() -> ExitCode {
         Some("listing") => run_listing(),
         Some("hostile") => run_hostile(&arguments),
         Some("convert") => run_convert(&arguments),
+        Some("bench") => run_bench(&arguments),
         Some("sample") => run_sample(),
         _ => {
             print!("{USAGE}");
