@@ -66,13 +66,39 @@ impl Reply {
 /// The words of each area up to the last entry; what follows is zero.
 pub type Areas = [Vec<u64>; AREAS];
 
-/// The areas as a caller sees them: each of its full length.
-pub fn padded(areas: &Areas, lengths: &Lengths) -> Areas {
-    std::array::from_fn(|i| {
-        let mut out = areas[i].clone();
-        out.resize(lengths[i], 0);
-        out
-    })
+/// The twelve areas as a call is lent them.
+pub type Lent<'a> = [&'a mut [u64]; AREAS];
+
+/// Words before and after each area that no call may touch.
+const BESIDE: usize = 8;
+
+/// Memory to lend: each area stands between words of its own, and all of them hold anything before a call.
+pub struct Memory {
+    words: Areas,
+    stale: u64,
+}
+
+impl Memory {
+    pub fn new(lengths: &Lengths, stale: u64) -> Memory {
+        Memory { words: std::array::from_fn(|i| vec![stale; lengths[i] + 2 * BESIDE]), stale }
+    }
+
+    pub fn lend(&mut self) -> Lent<'_> {
+        self.words.each_mut().map(|words| {
+            let end = words.len() - BESIDE;
+            &mut words[BESIDE..end]
+        })
+    }
+
+    pub fn area(&self, i: usize) -> &[u64] {
+        &self.words[i][BESIDE..self.words[i].len() - BESIDE]
+    }
+
+    /// Whether the words beside the areas are as they were.
+    pub fn is_kept_beside(&self) -> bool {
+        let kept = |words: &[u64]| words.iter().all(|&word| word == self.stale);
+        self.words.iter().all(|words| kept(&words[..BESIDE]) && kept(&words[words.len() - BESIDE..]))
+    }
 }
 
 #[derive(Clone, Debug, PartialEq, Eq)]

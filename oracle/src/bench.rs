@@ -1,6 +1,7 @@
 //! The library's converters and shape check beside the plain ones of plain.rs: one process, the same
 //! buffers, turn by turn, processor time of the calls alone.
 
+use crate::clock::{median, now};
 use crate::columns::{lines, LINE_BYTES};
 use crate::convert::Converters;
 use crate::generate::{case, Sizes};
@@ -10,32 +11,6 @@ use crate::records::{kind, records, RECORD_WORDS};
 use crate::shape::check;
 
 const RECORDS: usize = 1_000_000;
-
-#[repr(C)]
-struct Time {
-    seconds: i64,
-    nanoseconds: i64,
-}
-
-extern "C" {
-    fn clock_gettime(clock: i32, time: *mut Time) -> i32;
-}
-
-const THREAD_TIME: i32 = 3;
-
-/// Processor time of this thread, in seconds.
-fn now() -> f64 {
-    let mut time = Time { seconds: 0, nanoseconds: 0 };
-    // The time outlives the call.
-    let failed = unsafe { clock_gettime(THREAD_TIME, &mut time) };
-    assert_eq!(failed, 0, "there is a clock");
-    time.seconds as f64 + time.nanoseconds as f64 * 1e-9
-}
-
-fn median(mut times: Vec<f64>) -> f64 {
-    times.sort_by(f64::total_cmp);
-    times[times.len() / 2]
-}
 
 /// Generated bundles one after the other, as many as have room, then empty documents.
 fn generated() -> Vec<u64> {

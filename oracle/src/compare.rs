@@ -2,7 +2,7 @@
 
 use crate::alive::alive;
 use crate::areas::{
-    answer, area, capacities, padded, Answer, Areas, Counts, Lengths, Reply, AREAS, ENTRY_WORDS, UNLIMITED,
+    answer, area, capacities, Answer, Areas, Counts, Lengths, Lent, Memory, Reply, AREAS, ENTRY_WORDS, UNLIMITED,
 };
 use crate::generate::{case, Case, Sizes};
 use crate::model::{compile, first_beyond, Run};
@@ -15,11 +15,11 @@ const MAX_CODE: usize = 4_000_000;
 
 const AREA_FULL: u64 = 9;
 
-/// A side that answers a bundle for areas of given lengths. The model is one; the static library of
-/// this repository is to be another (src/ours.rs).
+/// A side that answers a bundle in lent areas. The model is one; the static library of this
+/// repository is another (src/ours.rs).
 pub trait Side {
     fn name(&self) -> &str;
-    fn compile(&mut self, words: &[u64], lengths: &Lengths) -> (Reply, Areas);
+    fn compile(&mut self, words: &[u64], areas: Lent) -> Reply;
 }
 
 pub struct Model;
@@ -29,11 +29,18 @@ impl Side for Model {
         "model"
     }
 
-    fn compile(&mut self, words: &[u64], lengths: &Lengths) -> (Reply, Areas) {
-        let run = compile(words, lengths);
-        (run.reply, padded(&run.areas, lengths))
+    fn compile(&mut self, words: &[u64], areas: Lent) -> Reply {
+        let run = compile(words, &areas.each_ref().map(|area| area.len()));
+        for (area, made) in areas.into_iter().zip(&run.areas) {
+            area[..made.len()].copy_from_slice(made);
+            area[made.len()..].fill(0);
+        }
+        run.reply
     }
 }
+
+/// What lent memory holds before a call.
+const STALE: u64 = 0xA5A5_A5A5_A5A5_A5A5;
 
 #[derive(Clone, Debug, Default, PartialEq, Eq)]
 pub struct Tally {
@@ -51,6 +58,9 @@ pub struct Tally {
     /// Lengths tried on the model, and row 9 by area.
     pub lengths: u64,
     pub full: [u64; AREAS],
+    /// Calls of the third side, by row, and row 9 by area.
+    pub calls: [u64; 10],
+    pub calls_full: [u64; AREAS],
     pub differences: u64,
 }
 
@@ -176,38 +186,119 @@ fn judge_lengths(case: &Case, free: &Run, lengths: &Lengths) -> Result<u64, Stri
     Ok(if expected.row == AREA_FULL { expected.place } else { 0 })
 }
 
-/// Compares a third side with the model for these lengths.
-pub fn judge_side(side: &mut dyn Side, words: &[u64], lengths: &Lengths) -> Result<(), String> {
-    let (reply, areas) = side.compile(words, lengths);
-    let (expected, expected_areas) = Model.compile(words, lengths);
-    if reply != expected {
-        return Err(format!("lengths {lengths:?}: the model {expected:?}, {} {reply:?}", side.name()));
+/// One call of a third side in stale memory: the reply, every word of every area, the words beside
+/// them, and the input left alone. `areas` are the words expected up to the last entry.
+fn judge_call(
+    side: &mut dyn Side,
+    words: &[u64],
+    lengths: &Lengths,
+    reply: &Reply,
+    areas: &Areas,
+) -> Result<(), String> {
+    let kept = words.to_vec();
+    let mut memory = Memory::new(lengths, STALE);
+    let met = side.compile(words, memory.lend());
+    if met != *reply {
+        return Err(format!("lengths {lengths:?}: the model {reply:?}, {} {met:?}", side.name()));
     }
     for i in 0..AREAS {
-        if let Some(at) = (0..lengths[i]).find(|&at| areas[i][at] != expected_areas[i][at]) {
-            let (here, there) = (expected_areas[i][at], areas[i][at]);
-            return Err(format!("area {} word {at}: the model {here}, {} {there}", i + 1, side.name()));
+        let (area, used) = (memory.area(i), areas[i].len());
+        if area[..used] == areas[i] && area[used..].iter().all(|&word| word == 0) {
+            continue;
         }
+        let expected = |at: usize| areas[i].get(at).copied().unwrap_or(0);
+        let at = (0..area.len()).find(|&at| area[at] != expected(at)).expect("some word is another");
+        let (here, there) = (expected(at), area[at]);
+        return Err(format!(
+            "lengths {lengths:?}: area {} word {at}: the model {here}, {} {there}",
+            i + 1,
+            side.name()
+        ));
+    }
+    if !memory.is_kept_beside() {
+        return Err(format!("lengths {lengths:?}: {} writes beside the areas", side.name()));
+    }
+    if kept != words {
+        return Err(format!("lengths {lengths:?}: {} changes the input", side.name()));
     }
     Ok(())
 }
 
+/// Compares a third side with the model for these lengths; answers the model's reply.
+pub fn judge_side(side: &mut dyn Side, words: &[u64], lengths: &Lengths) -> Result<Reply, String> {
+    let run = compile(words, lengths);
+    judge_call(side, words, lengths, &run.reply, &run.areas)?;
+    Ok(run.reply)
+}
+
+/// Row and place of each call of a third side.
+type Calls = Vec<(u64, u64)>;
+
+/// Each area exactly full; each one entry short in turn; all empty. What must be answered is foretold
+/// from the run without limits.
+fn judge_edges(side: &mut dyn Side, case: &Case, free: &Run) -> Result<Calls, String> {
+    let peaks = free.peaks();
+    let exact: Lengths = std::array::from_fn(|i| peaks[i] as usize * ENTRY_WORDS[i]);
+    let mut tried = vec![exact, [0; AREAS]];
+    tried.extend((0..AREAS).filter(|&i| exact[i] > 0).map(|i| {
+        let mut short = exact;
+        short[i] -= 1;
+        short
+    }));
+    let mut calls = Vec::new();
+    for lengths in tried {
+        let full = first_beyond(free, &capacities(&lengths));
+        let refusal = full.map(|place| Reply::refusal(AREA_FULL, place));
+        match refusal {
+            Some(reply) => judge_call(side, &case.words, &lengths, &reply, &Areas::default())?,
+            None => judge_call(side, &case.words, &lengths, &free.reply, &free.areas)?,
+        }
+        let reply = refusal.unwrap_or(free.reply);
+        calls.push((reply.row, reply.place));
+    }
+    Ok(calls)
+}
+
+/// More code than the Rust is let to make: a third side must stop where the model does.
+fn judge_oversized(side: &mut dyn Side, case: &Case, stopped: &Run) -> Result<Calls, String> {
+    let peaks = stopped.peaks();
+    let mut lengths: Lengths = std::array::from_fn(|i| peaks[i] as usize * ENTRY_WORDS[i]);
+    lengths[0] = MAX_CODE;
+    judge_call(side, &case.words, &lengths, &stopped.reply, &stopped.areas)?;
+    Ok(vec![(stopped.reply.row, stopped.reply.place)])
+}
+
+/// What is counted of one case.
+struct Judged {
+    verdict: Verdict,
+    full: Vec<u64>,
+    calls: Calls,
+}
+
 /// Everything about one case; lengths come from the case's own stream, so that shrinking keeps them alike.
-fn judge_all(case: &Case, stream: u64, side: &mut Option<&mut dyn Side>) -> Result<(Verdict, Vec<u64>), String> {
+fn judge_all(case: &Case, stream: u64, side: &mut Option<&mut dyn Side>) -> Result<Judged, String> {
     let (verdict, free) = judge(case)?;
-    let mut full = Vec::new();
-    if !matches!(verdict.outcome, Seen::Oversized) {
-        let mut random = Random::new(stream);
-        let peaks = free.peaks();
-        for _ in 0..3 {
-            let lengths = lengths(&mut random, &peaks);
-            full.push(judge_lengths(case, &free, &lengths)?);
-            if let Some(side) = side {
-                judge_side(*side, &case.words, &lengths)?;
-            }
+    let mut judged = Judged { verdict, full: Vec::new(), calls: Vec::new() };
+    if matches!(judged.verdict.outcome, Seen::Oversized) {
+        if let Some(side) = side {
+            judged.calls = judge_oversized(*side, case, &free)?;
+        }
+        return Ok(judged);
+    }
+    let mut random = Random::new(stream);
+    let peaks = free.peaks();
+    for _ in 0..3 {
+        let lengths = lengths(&mut random, &peaks);
+        judged.full.push(judge_lengths(case, &free, &lengths)?);
+        if let Some(side) = side {
+            let reply = judge_side(*side, &case.words, &lengths)?;
+            judged.calls.push((reply.row, reply.place));
         }
     }
-    Ok((verdict, full))
+    if let Some(side) = side {
+        judged.calls.extend(judge_edges(*side, case, &free)?);
+    }
+    Ok(judged)
 }
 
 pub struct Difference {
@@ -237,7 +328,7 @@ pub fn compare(plan: Plan, mut side: Option<&mut dyn Side>) -> (Tally, Option<Di
         tally.cases += 1;
         tally.records += made.words.len() as u64 / 4;
         match judge_all(&made, stream, &mut side) {
-            Ok((verdict, full)) => tally.add(&verdict, &full),
+            Ok(judged) => tally.add(&judged),
             Err(message) => {
                 tally.differences += 1;
                 if stop {
@@ -257,7 +348,13 @@ pub fn compare(plan: Plan, mut side: Option<&mut dyn Side>) -> (Tally, Option<Di
 }
 
 impl Tally {
-    fn add(&mut self, verdict: &Verdict, full: &[u64]) {
+    fn add(&mut self, Judged { verdict, full, calls }: &Judged) {
+        for &(row, place) in calls {
+            self.calls[row as usize] += 1;
+            if row == AREA_FULL {
+                self.calls_full[place as usize - 1] += 1;
+            }
+        }
         match verdict.outcome {
             Seen::Compared => self.compared += 1,
             Seen::Panicked => self.panics += 1,
@@ -292,6 +389,11 @@ impl Tally {
         println!("more than {} code entries, not for the Rust {}", MAX_CODE / ENTRY_WORDS[0], self.oversized);
         let full: Vec<String> = self.full.iter().enumerate().map(|(i, n)| format!("{}: {n}", i + 1)).collect();
         println!("lengths tried {}, row 9 by area: {}", self.lengths, full.join(", "));
+        let calls: u64 = self.calls.iter().sum();
+        if calls > 0 {
+            println!("calls of the library {calls}, by row 0 to 9: {:?}", self.calls);
+            println!("  row 9 by area 1 to 12: {:?}", self.calls_full);
+        }
         println!("differences {}", self.differences);
     }
 }

@@ -1,13 +1,17 @@
 //! Bundles at the limits of 01, to see that a side answers them in bounded time: as many records as
-//! there may be, chains of books, doublings. Too much for a comparison over thousands of cases.
+//! there may be, chains of books, doublings. Too much for a comparison over thousands of cases; each
+//! call is made on a thread with a small stack.
 
-use crate::areas::{Lengths, ENTRY_WORDS, UNLIMITED};
+use crate::areas::{Lengths, Lent, Reply, AREAS, ENTRY_WORDS, UNLIMITED};
+use crate::clock::now;
+use crate::compare::Side;
 use crate::model::compile;
-use crate::pieces::{body, document, doubled, leaf, name_node, statement};
-use crate::records::{flatten, kind, Node, MAX_RECORDS, MAX_TEXT};
+use crate::pieces::{body, deep, document, doubled, leaf, name_node, statement};
+use crate::records::{flatten, kind, Node, MAX_LEVEL, MAX_RECORDS, MAX_TEXT};
+use std::thread;
 
 pub struct Hostile {
-    pub name: &'static str,
+    pub name: String,
     pub words: Vec<u64>,
     /// Exactly what is needed, or what stops the work.
     pub lengths: Lengths,
@@ -44,37 +48,101 @@ fn exact(words: &[u64]) -> Lengths {
     std::array::from_fn(|i| peaks[i] as usize * ENTRY_WORDS[i])
 }
 
-/// The bundles, largest first in no order of worth.
-pub fn bundles() -> Vec<Hostile> {
+/// A body of statements, of as many records as asked, an even number.
+fn statements(records: usize) -> Vec<u64> {
+    body(&[], vec![statement(leaf(kind::INTEGER, 7)); records / 2 - 1])
+}
+
+/// Documents and nothing in them, each of a file of its own but the last.
+fn bare(count: u64) -> Vec<u64> {
+    flatten(&(0..count).map(|i| document(1 + i % MAX_TEXT, Vec::new())).collect::<Vec<_>>())
+}
+
+/// Bundles whose cost grows with the square of their size, as 01's searches and choices of books do.
+fn squared(size: u64) -> Vec<(String, Vec<u64>)> {
     let absent = Node::leaf(kind::ABSENT, 0, 0);
-    let most = MAX_RECORDS - 4;
-    let local =
-        |count, name: fn(u64) -> u64| body(&[], vec![Node::new(kind::LOCAL, 0, 0, pairs(count, name, absent.clone()))]);
+    let local = |name: fn(u64) -> u64| {
+        body(&[], vec![Node::new(kind::LOCAL, 0, 0, pairs(size as usize, name, absent.clone()))])
+    };
     let array = |values: Vec<Node>| body(&[], vec![statement(Node::new(kind::ARRAY, 0, 0, values))]);
-    let integers = (0..most as u64).map(|i| leaf(kind::INTEGER, i)).collect();
-    let globals = (0..most as u64).map(|i| leaf(kind::IDENTIFIER, 1 + i % MAX_TEXT)).collect();
-    let properties = (0..most as u64).map(|i| name_node(1 + i % MAX_TEXT)).collect();
-    let functions = (0..most as u64).map(|i| Node::leaf(kind::FUNCTION, 0, 1 + i % MAX_TEXT)).collect();
-    let listed = [
-        ("chain of 500,000 books", chain(500_000)),
-        ("ring of 500,000 books", ring(500_000)),
-        ("500,000 books included by the root", star(500_000)),
-        ("500,000 locals", local(500_000, |i| i + 1)),
-        ("500,000 times the same local", local(500_000, |_| 5)),
-        ("as many integers as there may be", array(integers)),
-        ("as many globals as there may be", array(globals)),
-        ("as many properties as there may be", flatten(&[document(2, vec![Node::new(kind::MODEL, 0, 3, properties)])])),
-        ("as many functions as there may be", flatten(&[document(2, functions)])),
-        ("target doubled 16 times", doubled(16)),
+    let name = |i: u64| 1 + i % MAX_TEXT;
+    let integers = (0..size).map(|i| leaf(kind::INTEGER, i)).collect();
+    let globals = (0..size).map(|i| leaf(kind::IDENTIFIER, name(i))).collect();
+    let properties = (0..size).map(|i| name_node(name(i))).collect();
+    let named = |kind| flatten(&[document(2, (0..size).map(|i| Node::leaf(kind, 0, name(i))).collect())]);
+    vec![
+        (format!("{size} books in a reversed include chain"), chain(size)),
+        (format!("{size} books in a ring"), ring(size)),
+        (format!("{size} books included by the root"), star(size)),
+        (format!("{size} locals"), local(|i| i + 1)),
+        (format!("{size} times the same local"), local(|_| 5)),
+        (format!("{size} integers"), array(integers)),
+        (format!("{size} globals"), array(globals)),
+        (format!("{size} properties"), flatten(&[document(2, vec![Node::new(kind::MODEL, 0, 3, properties)])])),
+        (format!("{size} functions"), named(kind::FUNCTION)),
+        (format!("{size} public functions"), named(kind::PUBLIC_FUNCTION)),
+    ]
+}
+
+/// Code area of the doublings, in words.
+const LARGE_CODE: usize = 1 << 25;
+const PLENTY: usize = 1 << 20;
+
+/// Bundles with what they need exactly, with nothing at all, or with what stops them; `size` is that of
+/// those that cost its square.
+pub fn bundles(size: u64) -> Vec<Hostile> {
+    let same = Node::new(kind::ARRAY, 0, 0, vec![leaf(kind::INTEGER, 7); MAX_RECORDS - 4]);
+    let flat = body(&[], vec![statement(same)]);
+    let mut listed = vec![
+        ("1048576 records, one array".to_string(), flat.clone()),
+        ("1048576 records, a statement each two".to_string(), statements(MAX_RECORDS)),
+        ("1048576 records, a document each".to_string(), bare(MAX_RECORDS as u64)),
+        ("1048577 records".to_string(), bare(MAX_RECORDS as u64 + 1)),
+        ("level 64".to_string(), deep(MAX_LEVEL)),
+        ("level 65".to_string(), deep(MAX_LEVEL + 1)),
+        ("target doubled 16 times".to_string(), doubled(16)),
     ];
+    listed.extend(squared(size));
     let mut out: Vec<Hostile> =
         listed.into_iter().map(|(name, words)| Hostile { name, lengths: exact(&words), words }).collect();
-    let mut stopped = [1 << 20; 12];
-    stopped[0] = 1 << 21;
-    out.push(Hostile {
-        name: "target doubled 30 times, stopped by the code area",
-        words: doubled(30),
-        lengths: stopped,
-    });
+    for (name, words) in [
+        ("every area empty, level 64 with 30 doublings", doubled(30)),
+        ("every area empty, 1048576 records", flat),
+        ("every area empty, a chain of 100000 books", chain(100_000)),
+    ] {
+        out.push(Hostile { name: name.to_string(), words, lengths: [0; AREAS] });
+    }
+    let mut stopped = [PLENTY; AREAS];
+    stopped[0] = LARGE_CODE;
+    let name = format!("level 64 with 30 doublings, {LARGE_CODE} words of code");
+    out.push(Hostile { name, words: doubled(30), lengths: stopped });
     out
+}
+
+/// A side on a thread with a stack of this many bytes, and the processor seconds of its last call.
+pub struct Narrow<'a> {
+    pub side: &'a mut (dyn Side + Send),
+    pub stack: usize,
+    pub seconds: f64,
+}
+
+impl Side for Narrow<'_> {
+    fn name(&self) -> &str {
+        self.side.name()
+    }
+
+    fn compile(&mut self, words: &[u64], areas: Lent) -> Reply {
+        let Narrow { side, stack, .. } = self;
+        let work = || {
+            let start = now();
+            let reply = side.compile(words, areas);
+            (reply, now() - start)
+        };
+        let (reply, seconds) = thread::scope(|scope| {
+            let worker = thread::Builder::new().stack_size(*stack).spawn_scoped(scope, work);
+            worker.expect("a thread").join().expect("no panic")
+        });
+        self.seconds = seconds;
+        reply
+    }
 }

@@ -6,6 +6,8 @@ pub mod areas;
 #[cfg(feature = "link")]
 pub mod bench;
 pub mod books;
+pub mod call;
+pub mod clock;
 pub mod columns;
 pub mod compare;
 pub mod convert;

@@ -3,6 +3,7 @@
 use oracle::compare::{compare, judge_side, Difference, Model, Plan, Side};
 use oracle::convert::Converters;
 use oracle::generate::{case, Sizes};
+use oracle::hostile::Narrow;
 use oracle::{columns, convert, hostile, listing, sample};
 use std::io::{Read, Write};
 use std::path::Path;
@@ -16,8 +17,9 @@ oracle case --seed S --index I [--large] [--column]
     the words of one bundle, or its column file
 oracle listing
     a column file on standard input, its listing out
-oracle hostile [--ours]
-    bundles at the limits, with seconds; --ours compares the library with the model
+oracle hostile [--ours] [--stack BYTES] [--size N]
+    bundles at the limits on a small stack, with seconds; --ours compares the library with the model;
+    N is the size of those that cost its square
 oracle convert [--seed S] [--count N] [--large] [--limits]
     the library's converters and shape check and the reading over N column files and N word lists,
     or over those at the limits
@@ -48,12 +50,12 @@ fn sizes(arguments: &[String]) -> Sizes {
 }
 
 #[cfg(feature = "link-compile")]
-fn library() -> Box<dyn Side> {
-    Box::new(oracle::ours::Library)
+fn library() -> Box<dyn Side + Send> {
+    Box::new(oracle::ours::compiler())
 }
 
 #[cfg(not(feature = "link-compile"))]
-fn library() -> Box<dyn Side> {
+fn library() -> Box<dyn Side + Send> {
     panic!("--ours needs --features link-compile");
 }
 
@@ -85,6 +87,7 @@ fn run_compare(arguments: &[String]) -> ExitCode {
     let mut ours = has(arguments, "--ours").then(library);
     let start = Instant::now();
     let side = ours.as_mut().map(|side| &mut **side as &mut dyn Side);
+    println!("seed {}", plan.seed);
     let (tally, first) = compare(plan, side);
     tally.print();
     println!("seconds {:.1}", start.elapsed().as_secs_f64());
@@ -116,16 +119,20 @@ fn run_listing() -> ExitCode {
 }
 
 fn run_hostile(arguments: &[String]) -> ExitCode {
-    let mut side: Box<dyn Side> = if has(arguments, "--ours") { library() } else { Box::new(Model) };
+    let mut side: Box<dyn Side + Send> = if has(arguments, "--ours") { library() } else { Box::new(Model) };
+    let stack = number(arguments, "--stack", 1 << 20) as usize;
     let mut code = ExitCode::SUCCESS;
-    for bundle in hostile::bundles() {
-        let start = Instant::now();
-        let (reply, _) = side.compile(&bundle.words, &bundle.lengths);
-        let seconds = start.elapsed().as_secs_f64();
-        println!("{}: row {}, place {}, {seconds:.2} s", bundle.name, reply.row, reply.place);
-        if let Err(message) = judge_side(&mut *side, &bundle.words, &bundle.lengths) {
-            println!("  {message}");
-            code = ExitCode::FAILURE;
+    println!("threads with a stack of {stack} bytes, processor seconds of the call");
+    for bundle in hostile::bundles(number(arguments, "--size", 100_000)) {
+        print!("{}: {} records", bundle.name, bundle.words.len() / 4);
+        std::io::stdout().flush().expect("standard output is open");
+        let mut narrow = Narrow { side: &mut *side, stack, seconds: 0.0 };
+        match judge_side(&mut narrow, &bundle.words, &bundle.lengths) {
+            Ok(reply) => println!(", row {}, place {}, {:.3} s", reply.row, reply.place, narrow.seconds),
+            Err(message) => {
+                println!(", different: {message}");
+                code = ExitCode::FAILURE;
+            }
         }
     }
     code

@@ -46,43 +46,35 @@ impl Converters for Library {
     }
 }
 
-/// The compile call, once the library has it; a guess of its form.
+/// The compile call.
 #[cfg(feature = "link-compile")]
 mod compile {
-    use super::Library;
-    use crate::areas::{Areas, Lengths, Reply, AREAS};
-    use crate::compare::Side;
+    use crate::call::{CallReply, Called};
 
-    /// Row, place, twelve totals, entry point, global dependencies.
-    const REPLY_WORDS: usize = 16;
-    /// What lent memory holds before a call; every word of it must be written.
-    const STALE: u64 = 0xA5A5_A5A5_A5A5_A5A5;
-
-    /// A lent slice of words.
-    #[repr(C)]
-    struct Lent {
-        start: *mut u64,
-        length: usize,
-    }
-
+    #[rustfmt::skip]
     extern "C" {
-        fn clover_compile(words: *const u64, length: usize, areas: *const Lent, reply: *mut u64);
+        fn clover_compile(
+            tree: *const u64, tree_words: usize,
+            code: *mut u64, code_words: usize,
+            constants: *mut u64, constants_words: usize,
+            functions: *mut u64, functions_words: usize,
+            models: *mut u64, models_words: usize,
+            properties: *mut u64, properties_words: usize,
+            methods: *mut u64, methods_words: usize,
+            locals: *mut u64, locals_words: usize,
+            publics: *mut u64, publics_words: usize,
+            names: *mut u64, names_words: usize,
+            breaks: *mut u64, breaks_words: usize,
+            errors: *mut u64, errors_words: usize,
+            books: *mut u64, books_words: usize,
+        ) -> CallReply;
     }
 
-    impl Side for Library {
-        fn name(&self) -> &str {
-            "the library"
-        }
-
-        fn compile(&mut self, words: &[u64], lengths: &Lengths) -> (Reply, Areas) {
-            let mut areas: Areas = std::array::from_fn(|i| vec![STALE; lengths[i]]);
-            let lent: [Lent; AREAS] =
-                std::array::from_fn(|i| Lent { start: areas[i].as_mut_ptr(), length: areas[i].len() });
-            let mut reply = [STALE; REPLY_WORDS];
-            // The slices outlive the call, and no two of them overlap.
-            unsafe { clover_compile(words.as_ptr(), words.len(), lent.as_ptr(), reply.as_mut_ptr()) };
-            let totals = std::array::from_fn(|i| reply[2 + i]);
-            (Reply { row: reply[0], place: reply[1], totals, entry_point: reply[14], globals: reply[15] }, areas)
-        }
+    pub fn compiler() -> Called {
+        // It is the function of `&[u64]` and twelve `&mut [u64]` that docs/FORMAT.md says.
+        unsafe { Called::new("the library", clover_compile) }
     }
 }
+
+#[cfg(feature = "link-compile")]
+pub use compile::compiler;

@@ -77,12 +77,12 @@ fn the_sample_replays() {
             let words: Vec<u64> = (0..next()).map(|_| next()).collect();
             let lengths: areas::Lengths = std::array::from_fn(|_| next() as usize);
             let reply: Vec<u64> = (0..16).map(|_| next()).collect();
-            let (made, filled) = Model.compile(&words, &lengths);
-            assert_eq!(made.words().to_vec(), reply);
+            let mut memory = areas::Memory::new(&lengths, 1);
+            assert_eq!(Model.compile(&words, memory.lend()).words().to_vec(), reply);
             for i in 0..AREAS {
                 let mut expected: Vec<u64> = (0..next()).map(|_| next()).collect();
                 expected.resize(lengths[i], 0);
-                assert_eq!(filled[i], expected);
+                assert_eq!(memory.area(i), expected);
             }
             cases += 1;
         }
@@ -99,12 +99,12 @@ impl Side for Wrong {
         "a wrong side"
     }
 
-    fn compile(&mut self, words: &[u64], lengths: &areas::Lengths) -> (areas::Reply, areas::Areas) {
-        let (reply, mut filled) = Model.compile(words, lengths);
-        if let Some(last) = filled[0].last_mut() {
+    fn compile(&mut self, words: &[u64], mut lent: areas::Lent) -> areas::Reply {
+        let reply = Model.compile(words, lent.each_mut().map(|area| &mut **area));
+        if let Some(last) = lent[0].last_mut() {
             *last ^= 1;
         }
-        (reply, filled)
+        reply
     }
 }
 
@@ -114,7 +114,7 @@ fn a_wrong_side_is_caught_and_the_right_one_is_not() {
     for index in 0..200 {
         let words = case(7, index, Sizes::Mixed).words;
         let chosen = lengths(&mut random, &compile(&words, &UNLIMITED).peaks());
-        assert_eq!(judge_side(&mut Model, &words, &chosen), Ok(()));
+        assert!(judge_side(&mut Model, &words, &chosen).is_ok());
         assert_eq!(judge_side(&mut Wrong, &words, &chosen).is_err(), chosen[0] > 0);
     }
 }
