@@ -26,3 +26,4 @@ pub mod real;
 pub mod records;
 pub mod sample;
 pub mod shape;
+pub mod speed;

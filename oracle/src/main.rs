@@ -1,10 +1,13 @@
 //! Commands of the oracle; see README.md.
 
+use oracle::areas::Memory;
 use oracle::compare::{compare, judge_side, Difference, Model, Plan, Side};
 use oracle::convert::Converters;
 use oracle::generate::{case, Sizes};
 use oracle::hostile::Narrow;
-use oracle::{columns, convert, hostile, listing, sample};
+use oracle::real::Prepared;
+use oracle::records::records;
+use oracle::{columns, convert, hostile, listing, sample, speed};
 use std::io::{Read, Write};
 use std::path::Path;
 use std::process::ExitCode;
@@ -25,6 +28,10 @@ oracle convert [--seed S] [--count N] [--large] [--limits]
     or over those at the limits
 oracle bench [--runs R]
     the library's converters and shape check beside plain Rust on 1,000,000 records
+oracle speed [--runs R] [--longest SECONDS]
+    the library's compile call beside the original's compile_document and to_program, as a table
+oracle once --shape NAME --records N [--original]
+    one call of a shape of that table, for a profile
 oracle sample
     writes the files of sample/ anew
 ";
@@ -169,6 +176,26 @@ fn run_bench(_: &[String]) -> ExitCode {
     panic!("the library is there with --features link");
 }
 
+fn run_speed(arguments: &[String]) -> ExitCode {
+    let (runs, longest) = (number(arguments, "--runs", 15), number(arguments, "--longest", 60));
+    speed::run(&mut *library(), runs as usize, longest as f64);
+    ExitCode::SUCCESS
+}
+
+fn run_once(arguments: &[String]) -> ExitCode {
+    let name = arguments.iter().position(|argument| argument == "--shape").and_then(|at| arguments.get(at + 1));
+    let words = speed::Shape::named(name.expect("--shape NAME")).words(number(arguments, "--records", 10_000) as usize);
+    if has(arguments, "--original") {
+        let (_, program) = Prepared::new(&records(&words)).compile();
+        println!("{} records, {} functions", words.len() / 4, program.functions.len());
+    } else {
+        let mut memory = Memory::new(&speed::needs(&words), 1);
+        let reply = speed::call_side(&mut *library(), &words, &mut memory);
+        println!("{} records, {} functions", words.len() / 4, reply.totals[2]);
+    }
+    ExitCode::SUCCESS
+}
+
 fn run_sample() -> ExitCode {
     let folder = Path::new(env!("CARGO_MANIFEST_DIR")).join("sample");
     std::fs::create_dir_all(&folder).expect("the folder can be made");
@@ -189,6 +216,8 @@ fn main() -> ExitCode {
         Some("hostile") => run_hostile(&arguments),
         Some("convert") => run_convert(&arguments),
         Some("bench") => run_bench(&arguments),
+        Some("speed") => run_speed(&arguments),
+        Some("once") => run_once(&arguments),
         Some("sample") => run_sample(),
         _ => {
             print!("{USAGE}");

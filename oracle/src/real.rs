@@ -3,6 +3,7 @@
 //! are missing, which are ready and which are left in a ring.
 
 use crate::areas::{Answer, Delivery, ErrorAnswer, FunctionAnswer, ModelAnswer};
+use crate::books::{needed, order};
 use crate::documents::{pack, Builder, Positions, Texts};
 use crate::records::{kind, Record};
 use clover::backend::compiler::{compile_document, CompilerContext};
@@ -13,7 +14,7 @@ use clover::runtime::object::Object;
 use clover::runtime::opcode::OpCode;
 use clover::runtime::program::Program;
 use std::cell::{Cell, RefCell};
-use std::collections::{BTreeMap, BTreeSet, HashSet};
+use std::collections::{BTreeMap, BTreeSet, HashMap, HashSet};
 use std::panic::{self, AssertUnwindSafe};
 use std::sync::Once;
 
@@ -86,6 +87,56 @@ pub fn run(records: &[Record]) -> Outcome {
         Ok(answer) => Outcome::Answer(answer),
         Err(message) if is_the_known_panic(&message) => Outcome::Panicked,
         Err(message) => Outcome::Unforeseen(message),
+    }
+}
+
+/// The books of a bundle as the Rust holds them, in 01's order, made before anything is timed.
+pub struct Prepared {
+    books: Vec<Document>,
+    /// Which of them is the root.
+    root: usize,
+}
+
+impl Prepared {
+    /// For a bundle that is delivered.
+    pub fn new(records: &[Record]) -> Prepared {
+        let texts = Texts::new(records);
+        assert!(texts.consistent(records), "the Rust can hold it");
+        let books = needed(records).expect("every book is there");
+        let (files, left) = order(&books);
+        assert!(left.is_empty(), "no ring");
+        let builder = Builder { records, texts, positions: Positions::Given };
+        let root = files.iter().position(|&file| file == records[0].value).expect("the root is needed");
+        Prepared { books: files.iter().map(|file| builder.document(books[file].at)).collect(), root }
+    }
+
+    /// `compile_document` of each book, then `to_program`.
+    #[inline(never)]
+    pub fn compile(&self) -> (CompilerContext, Program) {
+        let mut context = CompilerContext::new();
+        for book in &self.books {
+            compile_document(book, &mut context).expect("no errors");
+        }
+        let program = context.to_program();
+        (context, program)
+    }
+
+    /// As `compile_to` does it, its solver choosing the books; nothing is read or parsed.
+    #[inline(never)]
+    pub fn compile_with_solver(&self) -> (CompilerContext, Program) {
+        let mut context = CompilerContext::new();
+        let documents: HashMap<&str, &Document> = self.books.iter().map(|book| (&*book.filename, book)).collect();
+        let mut solver = DependencySolver::new();
+        solver.solve(&self.books[self.root], &no_books());
+        while let Some(name) = solver.get_unsolved_filename() {
+            solver.solve(documents[&*name], &no_books());
+        }
+        while let Some(name) = solver.get_next_no_dependency_filename() {
+            compile_document(documents[&*name], &mut context).expect("no errors");
+            solver.set_loaded(&name);
+        }
+        let program = context.to_program();
+        (context, program)
     }
 }
 

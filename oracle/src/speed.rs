@@ -1,0 +1,319 @@
+//! The compile call beside the original `compile_document` and `to_program`: one process, turn by
+//! turn, processor time, trees built beforehand on both sides.
+
+use crate::areas::{Lengths, Memory, Reply, ENTRY_WORDS, UNLIMITED};
+use crate::clock::{median, now};
+use crate::compare::Side;
+use crate::model::compile;
+use crate::pieces::{document, for_node, function, get, identifier, if_node, infix, leaf, name_node, statement};
+use crate::real::Prepared;
+use crate::records::{flatten, kind, records, Node, RECORD_WORDS};
+
+/// A shape gives a bundle of about so many records.
+pub struct Shape {
+    pub name: &'static str,
+    make: fn(usize) -> Vec<Node>,
+    /// What 01's linear searches make of it: what grows with the square of the size.
+    pub squared: Option<&'static str>,
+}
+
+const FILE: u64 = 2;
+/// Texts below are names of parameters and locals; functions and files are numbered from here.
+const FIRST: u64 = 1000;
+const NAMES: [u64; 4] = [10, 11, 12, 13];
+const INFIX: [u64; 10] = [1, 2, 3, 4, 5, 11, 13, 14, 17, 18];
+const PLUS: u64 = 1;
+const LESS: u64 = 14;
+const PLUS_ASSIGN: u64 = 6;
+
+fn size(nodes: &[Node]) -> usize {
+    nodes.iter().map(Node::size).sum()
+}
+
+/// Parts until they are as many records as asked.
+fn filled(count: usize, mut part: impl FnMut(usize) -> Node) -> Vec<Node> {
+    let mut out = Vec::new();
+    let mut made = 0;
+    while made < count {
+        let node = part(out.len());
+        made += node.size();
+        out.push(node);
+    }
+    out
+}
+
+fn assign(name: u64, value: Node) -> Node {
+    statement(infix(0, identifier(name), value))
+}
+
+fn array(values: Vec<Node>) -> Node {
+    statement(Node::new(kind::ARRAY, 0, 0, values))
+}
+
+/// A sum of products over the parameters and a few integers.
+fn arithmetic(turn: usize, depth: usize) -> Node {
+    if depth == 0 {
+        return match turn % 3 {
+            0 => leaf(kind::INTEGER, turn as u64 % 20),
+            _ => identifier(NAMES[turn % 4]),
+        };
+    }
+    infix(INFIX[turn % INFIX.len()], arithmetic(3 * turn + 1, depth - 1), arithmetic(5 * turn + 2, depth - 1))
+}
+
+fn arithmetic_function(number: usize) -> Node {
+    let body = (0..12).map(|i| assign(NAMES[i % 4], arithmetic(number + 7 * i, 4))).collect();
+    function(FIRST + number as u64, &NAMES, body)
+}
+
+fn small_function(number: usize) -> Node {
+    let value = infix(PLUS, identifier(NAMES[0]), leaf(kind::INTEGER, number as u64 % 10));
+    function(FIRST + number as u64, &NAMES[..1], vec![statement(value)])
+}
+
+/// Ifs, prefixes, gets and sums inside each other down to level 62.
+fn nested(level: usize) -> Node {
+    if level >= 62 {
+        return identifier(NAMES[0]);
+    }
+    match level % 5 {
+        0 => Node::new(kind::PREFIX, 0, 1, vec![nested(level + 1)]),
+        1 => infix(PLUS, identifier(NAMES[1]), nested(level + 1)),
+        2 => get(kind::INDEX_GET, identifier(NAMES[2]), nested(level + 1)),
+        _ => if_node(identifier(NAMES[0]), vec![vec![statement(nested(level + 3))], vec![]]),
+    }
+}
+
+fn nested_function(number: usize) -> Node {
+    function(FIRST + number as u64, &NAMES, vec![statement(nested(4)); 8])
+}
+
+fn break_if(name: u64) -> Node {
+    let condition = infix(LESS, identifier(name), leaf(kind::INTEGER, 3));
+    statement(if_node(condition, vec![vec![leaf(kind::BREAK, 0)]]))
+}
+
+fn loops_function(number: usize) -> Node {
+    let add = |name| statement(infix(PLUS_ASSIGN, identifier(NAMES[1]), identifier(name)));
+    let inner = |name| for_node(name, identifier(NAMES[0]), vec![break_if(name), add(name)]);
+    let outer = for_node(20, identifier(NAMES[0]), vec![inner(21), break_if(20), inner(22)]);
+    function(FIRST + number as u64, &NAMES[..2], vec![outer.clone(), outer])
+}
+
+/// Leaves in arrays of 100, a function for each ten arrays.
+fn leaves(count: usize, value: impl Fn(u64) -> Node) -> Vec<Node> {
+    let mut next = 0;
+    let mut leaf = || {
+        next += 1;
+        value(next)
+    };
+    filled(count, |number| {
+        let arrays = (0..10).map(|_| array((0..100).map(|_| leaf()).collect())).collect();
+        function(FIRST + number as u64, &[], arrays)
+    })
+}
+
+fn text(i: u64) -> u64 {
+    30_000 + i % 1_000_000
+}
+
+/// Books of a function each, every one including two others: a tree from the root down.
+fn many_books(count: usize) -> Vec<Node> {
+    let book = |number: u64, books: u64| {
+        let include = |other: u64| {
+            let names = vec![name_node(FIRST), name_node(FIRST + 1 + other % 2)];
+            Node::new(kind::INCLUDE, 0, FIRST + other, names)
+        };
+        let others = [2 * number + 1, 2 * number + 2].into_iter().filter(|&other| other < books);
+        let mut parts: Vec<Node> = others.map(include).collect();
+        let call = Node::new(kind::CALL, 0, 0, vec![identifier(FIRST + 1), identifier(NAMES[0])]);
+        let body = vec![name_node(NAMES[0]), statement(infix(PLUS, call, identifier(NAMES[0])))];
+        parts.push(Node::new(kind::PUBLIC_FUNCTION, 0, FIRST, body));
+        document(FIRST + number, parts)
+    };
+    let books = count as u64 / 14;
+    (0..books).map(|number| book(number, books)).collect()
+}
+
+/// What a long book has, in turn; a name is read from the book now and then.
+fn mixed_function(number: usize) -> Node {
+    let made = match number % 4 {
+        0 => arithmetic_function(number),
+        1 => nested_function(number),
+        2 => loops_function(number),
+        _ => {
+            let floats = (0..40).map(|i| leaf(kind::FLOAT, (number as f64 + f64::from(i)).to_bits()));
+            function(FIRST + number as u64, &NAMES[..1], vec![array(floats.collect())])
+        }
+    };
+    assert!(made.size() > 40);
+    made
+}
+
+fn one_book(definitions: Vec<Node>) -> Vec<Node> {
+    vec![document(FILE, definitions)]
+}
+
+const SEARCH_FUNCTIONS: &str = "names of the book, searched at each function";
+
+pub const SHAPES: [Shape; 9] = [
+    Shape { name: "arithmetic bodies", make: |n| one_book(filled(n, arithmetic_function)), squared: None },
+    Shape {
+        name: "many small functions",
+        make: |n| one_book(filled(n, small_function)),
+        squared: Some(SEARCH_FUNCTIONS),
+    },
+    Shape { name: "deep nesting", make: |n| one_book(filled(n, nested_function)), squared: None },
+    Shape { name: "loops and breaks", make: |n| one_book(filled(n, loops_function)), squared: None },
+    Shape {
+        name: "distinct integers",
+        make: |n| one_book(leaves(n, |i| leaf(kind::INTEGER, i))),
+        squared: Some("constants, searched at each integer"),
+    },
+    Shape {
+        name: "distinct texts and globals",
+        make: |n| one_book(leaves(n, |i| leaf([kind::STRING, kind::IDENTIFIER][i as usize % 2], text(i)))),
+        squared: Some("constants, searched at each text"),
+    },
+    Shape {
+        name: "catalogue of floats",
+        make: |n| one_book(leaves(n, |i| leaf(kind::FLOAT, (i as f64 * 0.5).to_bits()))),
+        squared: None,
+    },
+    Shape { name: "many books", make: many_books, squared: Some("books, looked through for the next ready one") },
+    Shape { name: "one large book", make: |n| one_book(filled(n, mixed_function)), squared: None },
+];
+
+impl Shape {
+    pub fn named(name: &str) -> &'static Shape {
+        SHAPES.iter().find(|shape| shape.name == name).expect("a shape of that name")
+    }
+
+    pub fn words(&self, count: usize) -> Vec<u64> {
+        let nodes = (self.make)(count);
+        assert!(size(&nodes) <= crate::records::MAX_RECORDS, "{}", self.name);
+        flatten(&nodes)
+    }
+}
+
+/// What a bundle needs in each area, in words.
+pub fn needs(words: &[u64]) -> Lengths {
+    let free = compile(words, &UNLIMITED);
+    assert_eq!(free.reply.row, 0, "a delivery");
+    let peaks = free.peaks();
+    std::array::from_fn(|i| peaks[i] as usize * ENTRY_WORDS[i])
+}
+
+/// One call, in a function of its own so that a profile finds it.
+#[inline(never)]
+pub fn call_side(side: &mut dyn Side, words: &[u64], memory: &mut Memory) -> Reply {
+    side.compile(words, memory.lend())
+}
+
+/// Medians in seconds.
+pub struct Measured {
+    pub records: usize,
+    /// Areas exactly as long as needed.
+    pub ours: f64,
+    /// Areas four times as long.
+    pub ours_roomy: f64,
+    pub original: f64,
+    pub original_with_solver: f64,
+}
+
+fn timed<T>(times: &mut Vec<f64>, work: impl FnOnce() -> T) -> T {
+    let start = now();
+    let made = work();
+    times.push(now() - start);
+    made
+}
+
+pub fn measure(side: &mut dyn Side, words: &[u64], runs: usize) -> Measured {
+    let prepared = Prepared::new(&records(words));
+    let exact = needs(words);
+    let mut tight = Memory::new(&exact, 1);
+    let mut roomy = Memory::new(&exact.map(|length| 4 * length), 1);
+    let [mut ours, mut ours_roomy, mut original, mut with_solver] = [(); 4].map(|()| Vec::new());
+    for _ in 0..runs {
+        let reply = timed(&mut ours, || call_side(side, words, &mut tight));
+        timed(&mut ours_roomy, || call_side(side, words, &mut roomy));
+        let (_, program) = timed(&mut original, || prepared.compile());
+        let code: usize = program.functions.iter().map(|function| function.instructions.len()).sum();
+        assert_eq!((reply.row, reply.totals[0]), (0, code as u64), "both deliver the same");
+        drop(program);
+        timed(&mut with_solver, || prepared.compile_with_solver());
+    }
+    Measured {
+        records: words.len() / RECORD_WORDS,
+        ours: median(ours),
+        ours_roomy: median(ours_roomy),
+        original: median(original),
+        original_with_solver: median(with_solver),
+    }
+}
+
+const SIZES: [usize; 3] = [10_000, 100_000, 1_000_000];
+
+/// A table of every shape at each size; a size that would take longer than `longest` seconds a call
+/// is left out.
+pub fn run(side: &mut dyn Side, runs: usize, longest: f64) {
+    println!("Processor time, medians of {runs} runs ({} at 1,000,000 records). Ratios: the library's time by the original's.", least(runs));
+    println!();
+    println!("| Shape | Records | Library, ns a record | Growth | Ratio | Ratio, areas 4 times as long | Ratio, the original with its solver |");
+    println!("|---|---|---|---|---|---|---|");
+    let mut ratios = Vec::new();
+    for shape in &SHAPES {
+        let mut before: Option<(usize, f64)> = None;
+        for count in SIZES {
+            if let Some((size, seconds)) = before {
+                let times = (count / size) as f64;
+                let factor = if shape.squared.is_some() { times * times } else { times };
+                if seconds * factor > longest {
+                    println!("| {} | {count} | not run | | | | |", shape.name);
+                    continue;
+                }
+            }
+            let words = shape.words(count);
+            let many =
+                if count == 1_000_000 || before.is_some_and(|(_, s)| s > longest / 100.0) { least(runs) } else { runs };
+            let made = measure(side, &words, many);
+            let each = made.ours / made.records as f64 * 1e9;
+            let growth =
+                before.map_or("".to_string(), |(size, seconds)| format!("{:.2}", each / (seconds / size as f64 * 1e9)));
+            println!(
+                "| {} | {} | {each:.1} | {growth} | {:.2} | {:.2} | {:.2} |",
+                shape.name,
+                made.records,
+                made.ours / made.original,
+                made.ours_roomy / made.original,
+                made.ours / made.original_with_solver
+            );
+            ratios.push(made.ours / made.original);
+            before = Some((made.records, made.ours));
+        }
+    }
+    println!();
+    println!("Median of the ratios: {:.2}", median(ratios));
+    for (name, why) in SHAPES.iter().filter_map(|shape| Some((shape.name, shape.squared?))) {
+        println!("Grows with the square: {name} ({why}).");
+    }
+}
+
+fn least(runs: usize) -> usize {
+    runs.div_ceil(5)
+}
+
+#[cfg(test)]
+mod tests {
+    use super::*;
+    use crate::compare::Model;
+
+    #[test]
+    fn every_shape_is_delivered_by_both() {
+        for shape in &SHAPES {
+            let words = shape.words(3000);
+            let made = measure(&mut Model, &words, 1);
+            assert!((2500..5000).contains(&made.records), "{}: {}", shape.name, made.records);
+        }
+    }
+}
