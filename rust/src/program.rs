@@ -1,0 +1,424 @@
+//! A delivered program, read in the areas where it lies.
+
+use crate::areas::{Area, Areas, AREAS};
+use crate::instruction::{Instruction, Position};
+use std::fmt;
+
+/// How many entries each area holds, and two numbers beside them.
+#[repr(C)]
+#[derive(Clone, Copy, Debug, Default, PartialEq, Eq)]
+pub struct Totals {
+    pub code: u64,
+    pub constants: u64,
+    pub functions: u64,
+    pub models: u64,
+    pub properties: u64,
+    pub methods: u64,
+    pub context_locals: u64,
+    pub public_names: u64,
+    pub scope_names: u64,
+    pub breaks: u64,
+    pub errors: u64,
+    pub books: u64,
+    /// A function; 0 where there are none.
+    pub entry_point: u64,
+    pub global_dependencies: u64,
+}
+
+impl Totals {
+    pub fn of(&self, area: Area) -> u64 {
+        match area {
+            Area::Code => self.code,
+            Area::Constants => self.constants,
+            Area::Functions => self.functions,
+            Area::Models => self.models,
+            Area::Properties => self.properties,
+            Area::Methods => self.methods,
+            Area::ContextLocals => self.context_locals,
+            Area::PublicNames => self.public_names,
+            Area::ScopeNames => self.scope_names,
+            Area::Breaks => self.breaks,
+            Area::Errors => self.errors,
+            Area::Books => self.books,
+        }
+    }
+}
+
+/// A program in the areas that were lent for it. Files are indices of [`books`](Program::books),
+/// names are texts; models, functions and constants are named by their indices.
+#[derive(Clone, Copy)]
+pub struct Program<'a> {
+    /// Each area up to its last entry.
+    areas: [&'a [u64]; AREAS],
+    totals: Totals,
+}
+
+impl<'a> Program<'a> {
+    /// The areas must hold a delivery with these totals.
+    #[cfg_attr(not(feature = "compile"), allow(dead_code))]
+    pub(crate) fn new(areas: &'a Areas, totals: Totals) -> Program<'a> {
+        let used = |area: Area| &areas.words(area)[..totals.of(area) as usize * area.entry_words()];
+        Program { areas: Area::ALL.map(used), totals }
+    }
+
+    pub fn totals(&self) -> Totals {
+        self.totals
+    }
+
+    /// The words of an area up to its last entry.
+    pub fn words(&self, area: Area) -> &'a [u64] {
+        self.areas[area.index()]
+    }
+
+    fn entries<const WORDS: usize>(&self, area: Area) -> impl ExactSizeIterator<Item = &'a [u64; WORDS]> + Clone {
+        debug_assert_eq!(WORDS, area.entry_words());
+        self.words(area).chunks_exact(WORDS).map(|entry| entry.try_into().expect("chunks of this length"))
+    }
+
+    fn entry<const WORDS: usize>(&self, area: Area, index: u64) -> Option<&'a [u64; WORDS]> {
+        self.entries(area).nth(usize::try_from(index).ok()?)
+    }
+
+    pub fn functions(&self) -> impl ExactSizeIterator<Item = Function<'a>> + Clone {
+        let code = self.words(Area::Code);
+        self.entries(Area::Functions).map(move |entry| Function { entry, code })
+    }
+
+    pub fn function(&self, index: u64) -> Option<Function<'a>> {
+        let entry = self.entry(Area::Functions, index)?;
+        Some(Function { entry, code: self.words(Area::Code) })
+    }
+
+    /// The function to start with; none where there are no functions.
+    pub fn entry_point(&self) -> Option<Function<'a>> {
+        self.function(self.totals.entry_point)
+    }
+
+    pub fn constants(&self) -> impl ExactSizeIterator<Item = Constant> + Clone + 'a {
+        self.entries(Area::Constants).map(|&[kind, value, _]| Constant::of(kind, value))
+    }
+
+    pub fn constant(&self, index: u64) -> Option<Constant> {
+        self.entry(Area::Constants, index).map(|&[kind, value, _]| Constant::of(kind, value))
+    }
+
+    /// The constants that name globals, ascending.
+    pub fn global_dependencies(&self) -> impl Iterator<Item = u64> + Clone + 'a {
+        (0..).zip(self.entries(Area::Constants)).filter(|(_, &[_, _, mark])| mark == 1).map(|(index, _)| index)
+    }
+
+    pub fn models(&self) -> impl ExactSizeIterator<Item = Model<'a>> + Clone {
+        let program = *self;
+        let made = move |(index, &[file, name]): (usize, &[u64; 2])| Model { program, index: index as u64, file, name };
+        self.entries(Area::Models).enumerate().map(made)
+    }
+
+    pub fn model(&self, index: u64) -> Option<Model<'a>> {
+        self.models().nth(usize::try_from(index).ok()?)
+    }
+
+    pub fn context_locals(&self) -> impl ExactSizeIterator<Item = ContextLocal> + Clone + 'a {
+        self.entries(Area::ContextLocals).map(|&[file, name, mark, constant]| ContextLocal {
+            file,
+            name,
+            constant: (mark == 1).then_some(constant),
+        })
+    }
+
+    pub fn public_names(&self) -> impl ExactSizeIterator<Item = PublicName> + Clone + 'a {
+        self.entries(Area::PublicNames).map(|&[file, name, constant]| PublicName { file, name, constant })
+    }
+
+    /// File numbers in the order of compiling.
+    pub fn books(&self) -> &'a [u64] {
+        self.words(Area::Books)
+    }
+}
+
+impl fmt::Debug for Program<'_> {
+    fn fmt(&self, out: &mut fmt::Formatter<'_>) -> fmt::Result {
+        out.debug_struct("Program")
+            .field("functions", &self.functions().collect::<Vec<_>>())
+            .field("constants", &self.constants().collect::<Vec<_>>())
+            .field("models", &self.models().collect::<Vec<_>>())
+            .field("context_locals", &self.context_locals().collect::<Vec<_>>())
+            .field("public_names", &self.public_names().collect::<Vec<_>>())
+            .field("books", &self.books())
+            .field("entry_point", &self.totals.entry_point)
+            .finish()
+    }
+}
+
+#[derive(Clone, Copy)]
+pub struct Function<'a> {
+    entry: &'a [u64; 8],
+    code: &'a [u64],
+}
+
+impl<'a> Function<'a> {
+    pub fn parameters(&self) -> u64 {
+        self.entry[0]
+    }
+
+    pub fn locals(&self) -> u64 {
+        self.entry[1]
+    }
+
+    /// 0 where there is none.
+    pub fn rescue_position(&self) -> u64 {
+        self.entry[2]
+    }
+
+    pub fn is_instance(&self) -> bool {
+        self.entry[3] == 1
+    }
+
+    pub fn file(&self) -> u64 {
+        self.entry[6]
+    }
+
+    pub fn name(&self) -> u64 {
+        self.entry[7]
+    }
+
+    /// The part of code memory that the function occupies: an instruction and its position in turn.
+    pub fn code(&self) -> &'a [u64] {
+        let words = Area::Code.entry_words();
+        let (first, count) = (self.entry[4] as usize, self.entry[5] as usize);
+        &self.code[first * words..(first + count) * words]
+    }
+
+    /// Numbered from 0, as jumps and the rescue position count them.
+    pub fn instructions(&self) -> impl ExactSizeIterator<Item = (Instruction, Position)> + Clone + 'a {
+        let pairs = self.code().chunks_exact(Area::Code.entry_words());
+        pairs.map(|pair| (Instruction::from_word(pair[0]), Position::from_word(pair[1])))
+    }
+}
+
+impl fmt::Debug for Function<'_> {
+    fn fmt(&self, out: &mut fmt::Formatter<'_>) -> fmt::Result {
+        out.debug_struct("Function")
+            .field("name", &self.name())
+            .field("file", &self.file())
+            .field("parameters", &self.parameters())
+            .field("locals", &self.locals())
+            .field("rescue_position", &self.rescue_position())
+            .field("is_instance", &self.is_instance())
+            .field("instructions", &self.instructions().map(|(instruction, _)| instruction).collect::<Vec<_>>())
+            .finish()
+    }
+}
+
+/// A constant of the pool. Texts are numbers, models and functions indices.
+#[derive(Clone, Copy, Debug, PartialEq)]
+pub enum Constant {
+    Null,
+    Boolean(bool),
+    Integer(i64),
+    Float(f64),
+    Text(u64),
+    Model(u64),
+    Function(u64),
+}
+
+impl Constant {
+    fn of(kind: u64, value: u64) -> Constant {
+        match kind {
+            0 => Constant::Null,
+            1 => Constant::Boolean(value == 1),
+            2 => Constant::Integer(value as i64),
+            3 => Constant::Float(f64::from_bits(value)),
+            4 => Constant::Text(value),
+            5 => Constant::Model(value),
+            6 => Constant::Function(value),
+            other => unreachable!("no delivered program has a constant of kind {other}"),
+        }
+    }
+}
+
+#[derive(Clone, Copy)]
+pub struct Model<'a> {
+    program: Program<'a>,
+    index: u64,
+    file: u64,
+    name: u64,
+}
+
+/// A name of a model, and its function.
+#[derive(Clone, Copy, Debug, PartialEq, Eq)]
+pub struct Method {
+    pub name: u64,
+    pub function: u64,
+}
+
+impl<'a> Model<'a> {
+    pub fn file(&self) -> u64 {
+        self.file
+    }
+
+    pub fn name(&self) -> u64 {
+        self.name
+    }
+
+    /// Names in their order.
+    pub fn properties(&self) -> impl Iterator<Item = u64> + Clone + 'a {
+        let index = self.index;
+        let entries = self.program.entries(Area::Properties);
+        entries.filter(move |&&[model, _]| model == index).map(|&[_, name]| name)
+    }
+
+    /// In the order in which each name first came.
+    pub fn methods(&self) -> impl Iterator<Item = Method> + Clone + 'a {
+        let index = self.index;
+        let entries = self.program.entries(Area::Methods);
+        entries.filter(move |&&[model, _, _]| model == index).map(|&[_, name, function]| Method { name, function })
+    }
+}
+
+impl fmt::Debug for Model<'_> {
+    fn fmt(&self, out: &mut fmt::Formatter<'_>) -> fmt::Result {
+        out.debug_struct("Model")
+            .field("name", &self.name)
+            .field("file", &self.file)
+            .field("properties", &self.properties().collect::<Vec<_>>())
+            .field("methods", &self.methods().collect::<Vec<_>>())
+            .finish()
+    }
+}
+
+/// A top-level name of a book, with its first value if it has one.
+#[derive(Clone, Copy, Debug, PartialEq, Eq)]
+pub struct ContextLocal {
+    pub file: u64,
+    pub name: u64,
+    pub constant: Option<u64>,
+}
+
+/// What a book lets others include.
+#[derive(Clone, Copy, Debug, PartialEq, Eq)]
+pub struct PublicName {
+    pub file: u64,
+    pub name: u64,
+    pub constant: u64,
+}
+
+#[cfg(test)]
+mod tests {
+    use super::*;
+    use crate::instruction::OpCode;
+
+    fn word(opcode: OpCode, operand: u64) -> u64 {
+        (opcode as u64) << 56 | operand
+    }
+
+    fn areas(filled: &[(Area, &[u64])]) -> Areas {
+        let mut areas = Areas::with_entries([4; AREAS]);
+        for &(area, words) in filled {
+            let lent = &mut areas.words_mut()[area.index()];
+            lent.clear();
+            lent.extend(words);
+            // Entries behind the total are none of the program's.
+            lent.resize(words.len() + 2 * area.entry_words(), 0);
+        }
+        areas
+    }
+
+    /// 01's example: file 2 holds f, text 3, with a parameter: `if x return end`.
+    #[test]
+    fn a_function_and_its_code() {
+        let position = Position::new(2, 6).word();
+        let code = [
+            word(OpCode::LocalGet, 0),
+            position,
+            word(OpCode::JumpIf, 4),
+            position,
+            word(OpCode::PushConstant, 0),
+            position,
+            word(OpCode::Jump, 6),
+            position,
+            word(OpCode::PushConstant, 0),
+            position,
+            word(OpCode::Return, 0),
+            Position::new(3, 5).word(),
+        ];
+        let areas = areas(&[
+            (Area::Code, &code),
+            (Area::Constants, &[0, 0, 0, 1, 1, 0, 1, 0, 0, 6, 0, 0]),
+            (Area::Functions, &[1, 1, 0, 0, 0, 6, 0, 3]),
+            (Area::ContextLocals, &[0, 3, 1, 3]),
+            (Area::Books, &[2]),
+        ]);
+        let totals = Totals { code: 6, constants: 4, functions: 1, context_locals: 1, books: 1, ..Totals::default() };
+        let program = Program::new(&areas, totals);
+        let f = program.entry_point().expect("one function");
+        assert_eq!((f.parameters(), f.locals(), f.rescue_position()), (1, 1, 0));
+        assert_eq!((f.is_instance(), f.file(), f.name()), (false, 0, 3));
+        assert_eq!(f.code(), code);
+        let (last, place) = f.instructions().last().expect("six instructions");
+        assert_eq!((last.opcode(), place), (OpCode::Return, Position::new(3, 5)));
+        assert_eq!(f.instructions().len(), 6);
+        let constants: Vec<Constant> = program.constants().collect();
+        let first = [Constant::Null, Constant::Boolean(true), Constant::Boolean(false), Constant::Function(0)];
+        assert_eq!(constants, first);
+        assert_eq!((program.constant(3), program.constant(4)), (Some(Constant::Function(0)), None));
+        let local = ContextLocal { file: 0, name: 3, constant: Some(3) };
+        assert_eq!(program.context_locals().collect::<Vec<_>>(), [local]);
+        assert_eq!(program.books(), [2]);
+        assert_eq!((program.models().len(), program.public_names().len()), (0, 0));
+        assert!(format!("{program:?}").contains("(JumpIf, 4)"));
+    }
+
+    #[test]
+    fn functions_share_the_code_area() {
+        let code: Vec<u64> = (0..5).flat_map(|i| [word(OpCode::LocalGet, i), i]).collect();
+        let functions = [0, 1, 2, 1, 0, 2, 0, 3, 4, 5, 0, 0, 2, 3, 1, 9];
+        let areas = areas(&[(Area::Code, &code), (Area::Functions, &functions)]);
+        let totals = Totals { code: 5, functions: 2, entry_point: 1, ..Totals::default() };
+        let program = Program::new(&areas, totals);
+        let second = program.entry_point().expect("the second function");
+        assert_eq!(second.instructions().map(|(i, _)| i.operand()).collect::<Vec<_>>(), [2, 3, 4]);
+        assert_eq!((second.parameters(), second.locals(), second.file(), second.name()), (4, 5, 1, 9));
+        let first = program.function(0).expect("the first");
+        assert_eq!((first.rescue_position(), first.is_instance(), first.instructions().len()), (2, true, 2));
+        assert!(program.function(2).is_none());
+    }
+
+    #[test]
+    fn constants_of_every_kind() {
+        let smallest = 1 << 63;
+        let half = 0.5f64.to_bits();
+        let words = [2, smallest, 0, 3, half, 0, 4, 7, 1, 5, 2, 0, 4, 8, 0, 4, 9, 1];
+        let areas = areas(&[(Area::Constants, &words)]);
+        let program = Program::new(&areas, Totals { constants: 6, ..Totals::default() });
+        assert_eq!(program.constant(0), Some(Constant::Integer(i64::MIN)));
+        assert_eq!(program.constant(1), Some(Constant::Float(0.5)));
+        assert_eq!(program.constant(2), Some(Constant::Text(7)));
+        assert_eq!(program.constant(3), Some(Constant::Model(2)));
+        assert_eq!(program.global_dependencies().collect::<Vec<_>>(), [2, 5]);
+        assert!(program.entry_point().is_none());
+    }
+
+    #[test]
+    fn models_have_their_own_properties_and_methods() {
+        let areas = areas(&[
+            (Area::Models, &[0, 20, 1, 21]),
+            (Area::Properties, &[0, 30, 0, 31, 1, 30]),
+            (Area::Methods, &[1, 40, 3, 0, 40, 2, 1, 41, 0]),
+            (Area::PublicNames, &[1, 21, 6]),
+            (Area::ContextLocals, &[0, 50, 0, 0, 1, 51, 1, 0]),
+        ]);
+        let totals =
+            Totals { models: 2, properties: 3, methods: 3, public_names: 1, context_locals: 2, ..Totals::default() };
+        let program = Program::new(&areas, totals);
+        let second = program.model(1).expect("two models");
+        assert_eq!((second.file(), second.name()), (1, 21));
+        assert_eq!(second.properties().collect::<Vec<_>>(), [30]);
+        let methods = [Method { name: 40, function: 3 }, Method { name: 41, function: 0 }];
+        assert_eq!(second.methods().collect::<Vec<_>>(), methods);
+        assert_eq!(program.models().next().expect("one").properties().collect::<Vec<_>>(), [30, 31]);
+        assert_eq!(program.public_names().collect::<Vec<_>>(), [PublicName { file: 1, name: 21, constant: 6 }]);
+        let values: Vec<Option<u64>> = program.context_locals().map(|local| local.constant).collect();
+        assert_eq!(values, [None, Some(0)]);
+        assert!(program.model(2).is_none());
+    }
+}
