@@ -13,6 +13,8 @@ pub mod compare;
 pub mod convert;
 pub mod damage;
 pub mod documents;
+pub mod examples;
+pub mod flattening;
 pub mod generate;
 pub mod hostile;
 pub mod listing;

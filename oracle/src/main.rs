@@ -7,7 +7,8 @@ use oracle::generate::{case, Sizes};
 use oracle::hostile::Narrow;
 use oracle::real::Prepared;
 use oracle::records::records;
-use oracle::{columns, convert, hostile, listing, sample, speed};
+use oracle::{columns, convert, examples, hostile, listing, sample, speed};
+use std::collections::BTreeMap;
 use std::io::{Read, Write};
 use std::path::Path;
 use std::process::ExitCode;
@@ -34,6 +35,8 @@ oracle once --shape NAME --records N [--original]
     one call of a shape of that table, for a profile
 oracle sample
     writes the files of sample/ anew
+oracle examples
+    writes the column files, listings and tables of texts of ../examples anew, from the sources there
 ";
 
 /// Areas of the `listing` command, in entries; more than any column file on a screen needs.
@@ -196,11 +199,9 @@ fn run_once(arguments: &[String]) -> ExitCode {
     ExitCode::SUCCESS
 }
 
-fn run_sample() -> ExitCode {
-    let folder = Path::new(env!("CARGO_MANIFEST_DIR")).join("sample");
-    std::fs::create_dir_all(&folder).expect("the folder can be made");
-    let files = sample::files();
-    for (name, content) in &files {
+fn write_files(folder: &Path, files: &BTreeMap<String, Vec<u8>>) -> ExitCode {
+    std::fs::create_dir_all(folder).expect("the folder can be made");
+    for (name, content) in files {
         std::fs::write(folder.join(name), content).expect("the folder is writable");
     }
     println!("{} files, {} bytes", files.len(), files.values().map(Vec::len).sum::<usize>());
@@ -218,7 +219,8 @@ fn main() -> ExitCode {
         Some("bench") => run_bench(&arguments),
         Some("speed") => run_speed(&arguments),
         Some("once") => run_once(&arguments),
-        Some("sample") => run_sample(),
+        Some("sample") => write_files(&Path::new(env!("CARGO_MANIFEST_DIR")).join("sample"), &sample::files()),
+        Some("examples") => write_files(&examples::folder(), &examples::files()),
         _ => {
             print!("{USAGE}");
             ExitCode::FAILURE
