@@ -31,8 +31,10 @@ oracle bench [--runs R]
     the library's converters and shape check beside plain Rust on 1,000,000 records
 oracle speed [--runs R] [--longest SECONDS]
     the library's compile call beside the original's compile_document and to_program, as a table
+oracle shapes
+    the names of that table's shapes
 oracle once --shape NAME --records N [--original]
-    one call of a shape of that table, for a profile
+    one call of a shape, for a profile (see `counts`)
 oracle sample
     writes the files of sample/ anew
 oracle examples
@@ -185,6 +187,11 @@ fn run_speed(arguments: &[String]) -> ExitCode {
     ExitCode::SUCCESS
 }
 
+fn run_shapes() -> ExitCode {
+    speed::SHAPES.iter().for_each(|shape| println!("{}", shape.name));
+    ExitCode::SUCCESS
+}
+
 fn run_once(arguments: &[String]) -> ExitCode {
     let name = arguments.iter().position(|argument| argument == "--shape").and_then(|at| arguments.get(at + 1));
     let words = speed::Shape::named(name.expect("--shape NAME")).words(number(arguments, "--records", 10_000) as usize);
@@ -218,6 +225,7 @@ fn main() -> ExitCode {
         Some("convert") => run_convert(&arguments),
         Some("bench") => run_bench(&arguments),
         Some("speed") => run_speed(&arguments),
+        Some("shapes") => run_shapes(),
         Some("once") => run_once(&arguments),
         Some("sample") => write_files(&Path::new(env!("CARGO_MANIFEST_DIR")).join("sample"), &sample::files()),
         Some("examples") => write_files(&examples::folder(), &examples::files()),

@@ -113,6 +113,9 @@ fn leaves(count: usize, value: impl Fn(u64) -> Node) -> Vec<Node> {
     })
 }
 
+/// Records of a book of the tree below.
+const BOOK_RECORDS: u64 = 12;
+
 fn text(i: u64) -> u64 {
     30_000 + i % 1_000_000
 }
@@ -131,7 +134,7 @@ fn many_books(count: usize) -> Vec<Node> {
         parts.push(Node::new(kind::PUBLIC_FUNCTION, 0, FIRST, body));
         document(FIRST + number, parts)
     };
-    let books = count as u64 / 14;
+    let books = count as u64 / BOOK_RECORDS;
     (0..books).map(|number| book(number, books)).collect()
 }
 
@@ -288,14 +291,31 @@ pub fn run(side: &mut dyn Side, runs: usize, longest: f64) {
                 made.ours_roomy / made.original,
                 made.ours / made.original_with_solver
             );
-            ratios.push(made.ours / made.original);
+            ratios.push((shape.name, made.records, made.ours / made.original));
             before = Some((made.records, made.ours));
         }
     }
     println!();
-    println!("Median of the ratios: {:.2}", median(ratios));
+    println!("Median of the ratios: {:.2}", median(ratios.iter().map(|&(_, _, ratio)| ratio).collect()));
+    println!();
+    plot(&ratios);
+    println!();
     for (name, why) in SHAPES.iter().filter_map(|shape| Some((shape.name, shape.squared?))) {
         println!("Grows with the square: {name} ({why}).");
+    }
+}
+
+/// A bar for each ratio, four signs for each doubling.
+fn plot(ratios: &[(&str, usize, f64)]) {
+    const LEAST: f64 = 1.0 / 32.0;
+    println!("Four signs are a factor of 2; the mark is the original's time.");
+    println!();
+    for (name, records, ratio) in ratios {
+        let signs = |ratio: f64| (4.0 * (ratio / LEAST).log2()).round().max(1.0) as usize;
+        let mut bar: Vec<char> = vec!['#'; signs(*ratio)];
+        bar.resize(bar.len().max(signs(1.0) + 1), ' ');
+        bar[signs(1.0)] = '|';
+        println!("    {name:<27}{records:>9} {ratio:>8.2} {}", bar.into_iter().collect::<String>().trim_end());
     }
 }
 
