@@ -5,3 +5,5 @@ pub mod Tokens
 pub mod Runs
 pub mod ExpressionWays
 pub mod StatementWays
+pub mod Calm
+pub mod Shelving

@@ -1,2 +1,3 @@
-// `backend/compiler.rs` over lent areas: function bodies.
+// `backend/compiler.rs` over lent areas: function bodies, definitions and documents.
 pub mod body;
+pub mod documents;
