@@ -2,10 +2,10 @@
 --     opened, closed   the borrow is opened, which gives the state's cell, and closed at another state
 --     lends, back      a local that holds a state is lent for a lifetime; once that is over it is back, at the last state
 -- Assumes `Given`.
-use Rattle.walks.proofs.Names.{ℕ, List, [], _∷_, refl, ap, URA, fullShare, Val, vptr, SProp, ent, sep, Lft, Share, GName, fat, flft, fdead, fobs, fauth, fobor}
-use Rattle.walks.proofs.Names.{flent, fres, Heap, Atoms, sem, Given, Item, Goal, Soaks, Seq, Step, step, ‵, _$_, _⊛_, ⋆, some, later, given, move, drop, use1}
-use Rattle.walks.proofs.Names.{fsplit, fsplit3, fjoin, fjoin3, fpick, feqI, await, use3, _∵_, !, qed, done, RattleType, mem, cellAt, Is, shows, MutRef, RefT, Body}
-use Rattle.walks.proofs.Names.{_≡_, only, fsep, updating, by, opens, closes, owned, peeks, spelt, fpack, split, pick}
+use Rattle.walks.proofs.Names.{ℕ, List, [], _∷_, refl, ap, URA, fullShare, Val, vptr, ent, sep, Lft, Share, GName, fat, flft, fdead, fobs, fauth, fobor}
+use Rattle.walks.proofs.Names.{flent, fres, Heap, Atoms, sem, Given, Item, Goal, Soaks, Seq, Step, step, ‵, _$_, _⊛_, some, later, given, move, drop, use1}
+use Rattle.walks.proofs.Names.{fsplit, fsplit3, fjoin, fjoin3, fpick, feqI, await, use3, _∵_, !, qed, done, RattleType, mem, cellAt, Is, shows, MutRef, RefT}
+use Rattle.walks.proofs.Names.{Body, _≡_, only, fsep, updating, by, opens, closes, owned, peeks, spelt, fpack}
 use mir.Syntax.{Lifetime}
 use mir.Val.{hasTy, WT}
 use lib.Dec.{T as Holds}

@@ -42,6 +42,7 @@ pub use denote.Triple.Statement.{Contract, Triple}
 pub use denote.Triple.Call.{calls-at}
 pub use denote.Triple.Clauses.{ensured, lasts}
 pub use denote.Triple.Table.{entered, cited}
-pub use denote.Triple.Walked.{says, needs, Stays, stay-ref, stay-none, gave-slice, walkOf, goes-ref, goes-none, goes-gave-slice, Walks, ends-at, walked, walk-meets}
+pub use denote.Triple.Walked.{says, needs, Stays, stay-ref, stay-none, gave-slice, walkOf, goes-ref}
+pub use denote.Triple.Walked.{goes-none, goes-gave-slice, Walks, ends-at, walked, walk-meets}
 pub use denote.Exit.{yes, no}
 pub use denote.Signature.{plain, namedLft}

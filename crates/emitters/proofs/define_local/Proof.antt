@@ -1,15 +1,15 @@
 -- `emitters::define_local` meets its contract: a walk of its MIR, by hand, as of `emit`: the state's borrow is opened, the by-value form is called, the
 -- borrow is closed at the state of its result, and what was found is returned.
 -- All that the proof knows of the by-value form is that it meets its contract. Assumes nothing.
-use Rattle.walks.proofs.Names.{_≡_, refl, ap, List, [], _∷_, ℕ, _<_, _^_, length, URA, fullShare, named, w64, Val, vint, vptr, SProp, ent, sep, emp}
-use Rattle.walks.proofs.Names.{via, fst∗, id⊢, Lft, Share, GName, ftrue, fat, flft, Memory, Routine, Heap, Calls, Loops, WpFn, Tables, Atoms, sem, Fun}
-use Rattle.walks.proofs.Names.{fact, givenOf, tables, tablesOf, Given, Item, ‵, raw, some, later, _⊛_, ⋆, _$_, _∵_, !, qed, by, move, keep, drop, use1, use2}
-use Rattle.walks.proofs.Names.{split, join, pick, rewrite, fsplit, fjoin, feqL, suffices, frame, await, done, look, init, forget, stop, hop, fld}
-use Rattle.walks.proofs.Names.{from, load, addr, of-opd, and-then, no-more, assigns, land, returns, enter, alloc1, alloc0, params1, pass1, pass0}
-use Rattle.walks.proofs.Names.{free1, free0, agg, whole, sub, look-in, store-in, FmC, fmOf, WpFn-mono, RattleType, owns, Is, shows, uint-makes, uint-vals}
-use Rattle.walks.proofs.Names.{uint-tells, u64, RefT, MutRef, ptr-vals, mut-tells, sliceVal, MutSlice, Room, finally, slice-vals, mut-slice-tells, owned}
-use Rattle.walks.proofs.Names.{only, peeks, heard, nothing, onEntry, Meets, tripleOf, Contract, Triple, calls-at, ensured, lasts, entered, cited, says, Stays}
-use Rattle.walks.proofs.Names.{stay-ref, stay-none, gave-slice, walkOf, goes-ref, goes-none, goes-gave-slice, Walks, ends-at, walked, walk-meets, yes, plain}
+use Rattle.walks.proofs.Names.{_≡_, refl, ap, List, [], _∷_, ℕ, _<_, _^_, length, URA, fullShare, named, w64, Val, vint, vptr, SProp, ent, sep, emp, via}
+use Rattle.walks.proofs.Names.{fst∗, id⊢, Lft, Share, GName, ftrue, fat, flft, Memory, Routine, Heap, Calls, Loops, WpFn, Tables, Atoms, sem, Fun, fact}
+use Rattle.walks.proofs.Names.{givenOf, tables, tablesOf, Given, Item, ‵, raw, some, later, _⊛_, ⋆, _$_, _∵_, !, qed, by, move, keep, drop, use1, use2, split}
+use Rattle.walks.proofs.Names.{join, pick, rewrite, fsplit, fjoin, feqL, suffices, frame, await, done, look, init, forget, stop, hop, fld, from, load, addr}
+use Rattle.walks.proofs.Names.{of-opd, and-then, no-more, assigns, land, returns, enter, alloc1, alloc0, params1, pass1, pass0, free1, free0, agg, whole, sub}
+use Rattle.walks.proofs.Names.{look-in, store-in, FmC, fmOf, WpFn-mono, owns, Is, shows, uint-makes, uint-vals, uint-tells, u64, RefT, MutRef, ptr-vals}
+use Rattle.walks.proofs.Names.{mut-tells, sliceVal, MutSlice, Room, finally, slice-vals, mut-slice-tells, owned, only, peeks, heard, nothing, onEntry, Meets}
+use Rattle.walks.proofs.Names.{tripleOf, Contract, Triple, calls-at, ensured, lasts, entered, cited, says, Stays, stay-ref, stay-none, gave-slice, walkOf}
+use Rattle.walks.proofs.Names.{goes-ref, goes-none, goes-gave-slice, Walks, ends-at, walked, walk-meets, yes, plain}
 use denote.Struct.Laws as LL
 use denote.Enum.Laws as EL
 use Rattle.building.specs.Scopes.{naming, Defines}
@@ -99,7 +99,8 @@ module _ {M : Type 1} (𝓤 : URA M) (H : Heap 𝓤) (A : Atoms 𝓤) (W : Given
       → ent 𝓤 (⋆ 𝓤 H A (after (r .state) zs)) (Post (fval (r .found)))
   exits r zs e l f-is =
       qed W (after (r .state) zs) ∵
-      suffices ! _ (ends-at 𝓤 H A define-local.ended stayed (define-local.clauses 𝓤 H A mem run) W bound (fval (r .found)) (r .found) (zs, (r .state, (tt, tt))) (l, (tt, (tt, tt)))) $
+      suffices ! _ (ends-at 𝓤 H A define-local.ended stayed (define-local.clauses 𝓤 H A mem run) W bound (fval (r .found)) (r .found)
+      (zs, (r .state, (tt, tt))) (l, (tt, (tt, tt)))) $
       says ! e $ move ! (2 ∷ []) $ split ! $ move ! (4 ∷ 1 ∷ []) $ join ! $ move ! (1 ∷ 0 ∷ []) $ join ! $ frame ! $
       nothing ! $ owned ! u64 (Is u64) (uint-makes 𝓤 H A W w64) p _ (refl, p-fits) $ fjoin ! $
       move ! (2 ∷ 0 ∷ []) $ fjoin ! $ move ! (1 ∷ 0 ∷ []) $ fjoin ! $

@@ -1,15 +1,15 @@
 -- `emitters::emit_return` meets its contract: a walk of its MIR, by hand, as of `emit`: the state's borrow is opened, the by-value form is called, and the
 -- borrow is closed at its result.
 -- All that the proof knows of the by-value form is that it meets its contract. Assumes nothing.
-use Rattle.walks.proofs.Names.{_≡_, refl, List, [], _∷_, ℕ, _<_, _^_, length, URA, fullShare, named, w64, Val, vunit, vint, vptr, SProp, ent, sep, emp}
-use Rattle.walks.proofs.Names.{via, fst∗, id⊢, Lft, Share, GName, ftrue, fat, flft, Memory, Routine, Heap, Calls, Loops, WpFn, Tables, Atoms, sem, Fun}
-use Rattle.walks.proofs.Names.{fact, givenOf, tables, tablesOf, Given, Item, ‵, raw, some, later, _⊛_, ⋆, _$_, _∵_, !, qed, by, move, keep, drop, use1, use2}
-use Rattle.walks.proofs.Names.{split, join, pick, rewrite, fsplit, fjoin, feqL, feqI, suffices, frame, await, done, look, init, forget, stop, hop, fld}
-use Rattle.walks.proofs.Names.{from, load, addr, unit-lit, of-opd, and-then, no-more, assigns, land, returns, enter, alloc1, alloc0, params1, pass1, pass0}
-use Rattle.walks.proofs.Names.{free1, free0, agg, whole, sub, look-in, store-in, FmC, fmOf, WpFn-mono, RattleType, owns, Is, shows, uint-makes, uint-vals}
-use Rattle.walks.proofs.Names.{uint-tells, u64, RefT, MutRef, ptr-vals, mut-tells, sliceVal, MutSlice, Room, finally, slice-vals, mut-slice-tells, owned}
-use Rattle.walks.proofs.Names.{peeks, heard, nothing, onEntry, Meets, tripleOf, Contract, Triple, calls-at, ensured, lasts, entered, cited, says, Stays}
-use Rattle.walks.proofs.Names.{stay-ref, stay-none, gave-slice, walkOf, goes-ref, goes-none, goes-gave-slice, Walks, ends-at, walked, walk-meets, yes, plain}
+use Rattle.walks.proofs.Names.{_≡_, refl, List, [], _∷_, ℕ, _<_, _^_, length, URA, fullShare, named, w64, Val, vunit, vint, vptr, SProp, ent, sep, emp, via}
+use Rattle.walks.proofs.Names.{fst∗, id⊢, Lft, Share, GName, ftrue, fat, flft, Memory, Routine, Heap, Calls, Loops, WpFn, Tables, Atoms, sem, Fun, fact}
+use Rattle.walks.proofs.Names.{givenOf, tables, tablesOf, Given, Item, ‵, raw, some, later, _⊛_, ⋆, _$_, _∵_, !, qed, by, move, keep, drop, use1, use2, split}
+use Rattle.walks.proofs.Names.{join, pick, rewrite, fsplit, fjoin, feqL, feqI, suffices, frame, await, done, look, init, forget, stop, hop, fld, from, load}
+use Rattle.walks.proofs.Names.{addr, unit-lit, of-opd, and-then, no-more, assigns, land, returns, enter, alloc1, alloc0, params1, pass1, pass0, free1, free0}
+use Rattle.walks.proofs.Names.{agg, whole, sub, look-in, store-in, FmC, fmOf, WpFn-mono, owns, Is, shows, uint-makes, uint-vals, uint-tells, u64, RefT}
+use Rattle.walks.proofs.Names.{MutRef, ptr-vals, mut-tells, sliceVal, MutSlice, Room, finally, slice-vals, mut-slice-tells, owned, peeks, heard, nothing}
+use Rattle.walks.proofs.Names.{onEntry, Meets, tripleOf, Contract, Triple, calls-at, ensured, lasts, entered, cited, says, Stays, stay-ref, stay-none}
+use Rattle.walks.proofs.Names.{gave-slice, walkOf, goes-ref, goes-none, goes-gave-slice, Walks, ends-at, walked, walk-meets, yes, plain}
 use denote.Struct.Laws as LL
 use Rattle.building.specs.Emission.{coded, emitReturnC}
 use Rattle.building.specs.declared.function_state.FunctionState.{FunctionState}

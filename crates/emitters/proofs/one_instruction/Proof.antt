@@ -3,14 +3,15 @@
 -- code area is lent again for the first of its two calls (`walks`, `Again`), and given up for the second, as the names are for theirs.
 -- Assumes nothing.
 use Rattle.walks.proofs.Names.{_≡_, refl, ap, sym, subst, _∙_, List, [], _∷_, ℕ, _<_, _^_, length, URA, fullShare, named, w64, Val, vunit, vint, vptr, SProp}
-use Rattle.walks.proofs.Names.{only, ent, sep, emp, via, fst∗, id⊢, Lft, Share, GName, Fml, ftrue, flft, fres, Memory, Routine, Heap, Calls, Loops, WpFn, Tables}
-use Rattle.walks.proofs.Names.{Atoms, sem, Fun, fact, givenOf, tables, tablesOf, Given, Item, ‵, raw, given, some, later, _⊛_, ⋆, _$_, _∵_, !, qed, by}
-use Rattle.walks.proofs.Names.{move, keep, drop, use1, use2, use3, split, join, pick, learn, fsplit, fjoin, feqL, suffices, frame, await, updating, show, done}
-use Rattle.walks.proofs.Names.{look, init, forget, stop, hop, fld, from, load, addr, of-opd, and-then, no-more, assigns, land, returns, enter, alloc1, alloc0}
-use Rattle.walks.proofs.Names.{params1, pass1, pass0, free1, free0, agg, whole, sub, look-in, store-in, lft-new, lft-end, FmC, fmOf, WpFn-mono, RattleType}
-use Rattle.walks.proofs.Names.{owns, Is, shows, uint-makes, uint-vals, uint-tells, u64, RefT, MutRef, sliceVal, MutSlice, Room, finally, slice-vals}
-use Rattle.walks.proofs.Names.{mut-slice-tells, owned, peeks, heard, nothing, onEntry, Meets, tripleOf, Contract, Triple, calls-at, ensured, lasts, entered}
-use Rattle.walks.proofs.Names.{cited, says, Stays, stay-none, gave-slice, walkOf, goes-none, goes-gave-slice, Walks, ends-at, walked, walk-meets, yes, plain}
+use Rattle.walks.proofs.Names.{only, ent, sep, emp, via, fst∗, id⊢, Lft, Share, GName, Fml, ftrue, flft, fres, Memory, Routine, Heap, Calls, Loops, WpFn}
+use Rattle.walks.proofs.Names.{Tables, Atoms, sem, Fun, fact, givenOf, tables, tablesOf, Given, Item, ‵, raw, given, some, later, _⊛_, ⋆, _$_, _∵_, !, qed}
+use Rattle.walks.proofs.Names.{by, move, keep, drop, use1, use2, use3, split, join, pick, learn, fsplit, fjoin, feqL, suffices, frame, await, updating, show}
+use Rattle.walks.proofs.Names.{done, look, init, forget, stop, hop, fld, from, load, addr, of-opd, and-then, no-more, assigns, land, returns, enter, alloc1}
+use Rattle.walks.proofs.Names.{alloc0, params1, pass1, pass0, free1, free0, agg, whole, sub, look-in, store-in, lft-new, lft-end, FmC, fmOf, WpFn-mono}
+use Rattle.walks.proofs.Names.{RattleType, owns, Is, shows, uint-makes, uint-vals, uint-tells, u64, RefT, MutRef, sliceVal, MutSlice, Room, finally}
+use Rattle.walks.proofs.Names.{slice-vals, mut-slice-tells, owned, peeks, heard, nothing, onEntry, Meets, tripleOf, Contract, Triple, calls-at, ensured}
+use Rattle.walks.proofs.Names.{lasts, entered, cited, says, Stays, stay-none, gave-slice, walkOf, goes-none, goes-gave-slice, Walks, ends-at, walked}
+use Rattle.walks.proofs.Names.{walk-meets, yes, plain}
 use Rattle.walks.proofs.Again.{LentAgain, lends-again, comes-back}
 use types.Kit.{mean, check, now as at-once}
 use mir.Syntax.{tyUnit}
@@ -24,7 +25,7 @@ use Rattle.words.specs.declared.opcode.Instruction.{Instruction}
 use Rattle.words.proofs.opcode.Instruction as I
 use Rattle.words.proofs.opcode.Instruction.Laws as I′
 use Rattle.building.specs.Emission.{coded, emitC, emitReturnC}
-use Rattle.building.specs.Scopes.{Naming, naming, Defines, defineC}
+use Rattle.building.specs.Scopes.{naming, Defines}
 use Rattle.building.specs.declared.scopes.Found.{Found}
 use Rattle.building.specs.declared.function_state.FunctionState.{FunctionState}
 use Rattle.building.proofs.scopes.Found as F
@@ -32,6 +33,7 @@ use Rattle.building.proofs.scopes.Found.Laws as F′
 use Rattle.building.proofs.function_state.FunctionState as T
 use Rattle.building.proofs.function_state.FunctionState.Laws as T′
 use Rattle.emitters.specs.Function.{defined, function, functionC}
+use Rattle.emitters.proofs.InARow.{whole-is}
 use Rattle.emitters.proofs.LentState.{R, val, Fits, typed, own-state, at, Lent, lends, Back, back}
 use Rattle.emitters.proofs.define_local as define
 use Rattle.emitters.proofs.define_local.Symbol as define-def
@@ -79,14 +81,6 @@ slice γ b o ys = record { ptr = (b, o); name = γ; now = ys }
 unit-typed : (w : Val) → w ≡ vunit → Holds (hasTy tyUnit w) × WT w
 unit-typed w e = subst (λ (y : Val). Holds (hasTy tyUnit y) × WT y) (sym e) (tt, tt)
 
--- the three steps in a row
-whole-is : (n w p : ℕ) (h h₁ h₂ h₃ : FunctionState) (f : Found) (ys zs zs′ ns ns′ : List ℕ) → Defines n (naming h ns) (defined f h₁) ns′
-    → coded h₂ zs ≡ emitC w p (coded h₁ ys) → coded h₃ zs′ ≡ emitReturnC p (coded h₂ zs) → function h₃ zs′ ns′ ≡ functionC n w p h ys ns
-whole-is n w p h h₁ h₂ h₃ f ys zs zs′ ns ns′ d e e′ =
-    let known : coded h₃ zs′ ≡ emitReturnC p (emitC w p (coded (defineC n (naming h ns) .memory .state) ys)) =
-    e′ ∙ ap (emitReturnC p) (e ∙ ap (λ (m : Naming). emitC w p (coded (m .state) ys)) (d .memory)) in
-    λ j. function (known j .state) (known j .code) (d .memory j .names)
-
 -- the contracts that the proof cites
 module _ {M : Type 1} (𝓤 : URA M) (H : Heap 𝓤) (A : Atoms 𝓤) (mem : Memory → SProp 𝓤) (run : Routine → Fun 𝓤) where
   abbrev Define : Contract 𝓤
@@ -133,7 +127,8 @@ module _ {M : Type 1} (𝓤 : URA M) (H : Heap 𝓤) (A : Atoms 𝓤) (W : Given
     -- what was found, the last state and the area's last words
     abbrev Told-define : Val → Found × (FunctionState × List ℕ) → Item 𝓤
     Told-define w z =
-        given (Defines n (naming h ys) (defined (z .0) (z .1 .0)) (z .1 .1) × (Is F.the-row (z .0) (w ∷ []) × (length (z .1 .1) ≡ length ys))) (had (z .1 .1) (z .1 .0))
+        given (Defines n (naming h ys) (defined (z .0) (z .1 .0)) (z .1 .1) × (Is F.the-row (z .0) (w ∷ []) × (length (z .1 .1) ≡ length ys)))
+        (had (z .1 .1) (z .1 .0))
 
     told-define : (w : Val) → ent 𝓤 (Define 𝓤 H A mem run .post to-define w) (mean 𝓤 H A (later (some (Told-define w))))
     told-define w =
@@ -265,17 +260,21 @@ module _ {M : Type 1} (𝓤 : URA M) (H : Heap 𝓤) (A : Atoms 𝓤) (W : Given
         qed W ((‵ (flft κ q) ⊛ ‵ (flft κ′ q′) ⊛ ‵ ftrue) ∷
         ‵ (owns (MutSlice (named 0) κ u64 ∷ MutSlice (named 1) κ′ u64 ∷ R ∷ u64 ∷ J ∷ u64 ∷ []) a vals) ∷ []) ∵
         enter ! C Λ code.function (s ∷ t ∷ val h ∷ vint w64 n ∷ ival i ∷ vint w64 p ∷ []) _ $
-        alloc1 ! (λ l₀. alloc1 ! (λ l₁. alloc1 ! (λ l₂. alloc1 ! (λ l₃. alloc1 ! (λ l₄. alloc1 ! (λ l₅. alloc1 ! (λ l₆. alloc1 ! (λ l₇. alloc1 ! (λ l₈. alloc1 ! (λ l₉.
-        alloc1 ! (λ l₁₀. alloc1 ! (λ l₁₁. alloc1 ! (λ l₁₂. alloc1 ! (λ l₁₃. alloc1 ! (λ l₁₄. alloc1 ! (λ l₁₅. alloc1 ! (λ l₁₆. alloc1 ! (λ l₁₇. alloc1 ! (λ l₁₈.
-        alloc0 ! $ params1 ! $ pass1 ! (init ! 34 refl (tt, (tt, (record { fits = room .0 }, tt)))) $ pass1 ! (init ! 32 refl (tt, (tt, (record { fits = room′ .0 }, tt)))) $
+        alloc1 ! (λ l₀. alloc1 ! (λ l₁. alloc1 ! (λ l₂. alloc1 ! (λ l₃. alloc1 ! (λ l₄. alloc1 ! (λ l₅. alloc1 ! (λ l₆. alloc1 ! (λ l₇. alloc1 ! (λ l₈.
+        alloc1 ! (λ l₉. alloc1 ! (λ l₁₀. alloc1 ! (λ l₁₁. alloc1 ! (λ l₁₂. alloc1 ! (λ l₁₃. alloc1 ! (λ l₁₄. alloc1 ! (λ l₁₅. alloc1 ! (λ l₁₆. alloc1 ! (λ l₁₇.
+        alloc1 ! (λ l₁₈. alloc0 ! $ params1 ! $ pass1 ! (init ! 34 refl (tt, (tt, (record { fits = room .0 }, tt)))) $
+        pass1 ! (init ! 32 refl (tt, (tt, (record { fits = room′ .0 }, tt)))) $
         pass1 ! (init ! 30 refl (typed 𝓤 H A W h fits)) $ pass1 ! (init ! 28 refl (tt, record { fits = n-fits })) $
-        pass1 ! (init ! 26 refl (LL.lawful I.the-type I′.the-laws 𝓤 H A W .typed i _ i-is .0)) $ pass1 ! (init ! 24 refl (tt, record { fits = p-fits })) $ pass0 ! $
-        move ! (39 ∷ []) $ fsplit ! $ move ! (1 ∷ []) $ fsplit ! $ move ! (1 ∷ []) $ drop ! $ move ! (40 ∷ []) $ split ! $ move ! (1 ∷ []) $ split ! $ move ! (1 ∷ []) $ drop ! $
+        pass1 ! (init ! 26 refl (LL.lawful I.the-type I′.the-laws 𝓤 H A W .typed i _ i-is .0)) $
+        pass1 ! (init ! 24 refl (tt, record { fits = p-fits })) $ pass0 ! $
+        move ! (39 ∷ []) $ fsplit ! $ move ! (1 ∷ []) $ fsplit ! $ move ! (1 ∷ []) $ drop ! $
+        move ! (40 ∷ []) $ split ! $ move ! (1 ∷ []) $ split ! $ move ! (1 ∷ []) $ drop ! $
         -- [the names' token; the code's; what names owns; what code owns; _18; …]
         assigns ! (of-opd ! (load ! (from ! (stop !)) (look ! 34 refl))) (from ! (stop !)) (init ! 26 refl (typed 𝓤 H A W h fits)) $
         assigns ! (addr ! (from ! (fld ! refl (hop ! (look-in ! 36 (sub ! 0 refl (whole !))) (stop !))))) (from ! (stop !)) (init ! 22 refl (tt, tt)) $
-        assigns ! (agg ! (and-then ! (load ! (from ! (stop !)) (look ! 22 refl)) (and-then ! (load ! (from ! (fld ! refl (stop !))) (look-in ! 36 (sub ! 1 refl (whole !)))) (no-more !))))
-        (from ! (stop !)) (init ! 20 refl (tt, (tt, (record { fits = room′ .0 }, tt)))) $
+        assigns ! (agg ! (and-then ! (load ! (from ! (stop !)) (look ! 22 refl)) (and-then !
+        (load ! (from ! (fld ! refl (stop !))) (look-in ! 36 (sub ! 1 refl (whole !)))) (no-more !)))) (from ! (stop !))
+        (init ! 20 refl (tt, (tt, (record { fits = room′ .0 }, tt)))) $
         assigns ! (addr ! (from ! (stop !))) (from ! (stop !)) (init ! 18 refl (tt, tt)) $
         -- `define_local`: the state is lent for ν
         lft-new ! tt (λ ν. move ! (27 ∷ []) $ use1 W (later (some (Lent 𝓤 H A W (named 1) (ν ∷ []) l₇ h))) (lends 𝓤 H A W (named 1) (ν ∷ []) l₇ h fits) $
