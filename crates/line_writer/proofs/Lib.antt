@@ -1,0 +1,2 @@
+mod Carried
+pub mod Placing
