@@ -1,2 +1,3 @@
 mod Carried
+mod InARow
 pub mod Placing
