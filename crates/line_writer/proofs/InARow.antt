@@ -45,3 +45,13 @@ module _ (x : RefT (List ℕ)) (n : ℕ) (l : Fields) (r₀ r₁ r₂ r₃ r₄ 
   line-name =
       then-name (then-name (then-name (then-name (then-name (then-name (then-name (then-name (then-name (ap (λ (w : Writer). w .buffer .name) e₀) e₁) e₂) e₃)
       e₄) e₅) e₆) e₇) e₈) e₉
+
+-- the same of the column writer on slice and offset
+module _ (l : Fields) (m₀ m₁ m₂ m₃ m₄ m₅ m₆ m₇ m₈ m₉ : Placed) (e₁ : m₁ ≡ numberAt sectionWidth false (l .section) m₀) (e₂ : m₂ ≡ fieldAt (l .first) m₁)
+    (e₃ : m₃ ≡ fieldAt (l .second) m₂) (e₄ : m₄ ≡ fieldAt (l .third) m₃) (e₅ : m₅ ≡ fieldAt (l .fourth) m₄) (e₆ : m₆ ≡ fieldAt (l .fifth) m₅)
+    (e₇ : m₇ ≡ fieldAt (l .sixth) m₆) (e₈ : m₈ ≡ numberAt lastWidth (l .signed) (l .last) m₇) (e₉ : m₉ ≡ byteAt newline m₈) where
+  pub line-placed : m₉ ≡ lineAt l m₀
+  unfolding lineAt
+  line-placed =
+      e₉ ∙ ap (byteAt newline) (e₈ ∙ ap (numberAt lastWidth (l .signed) (l .last)) (e₇ ∙ ap (fieldAt (l .sixth)) (e₆ ∙ ap (fieldAt (l .fifth))
+      (e₅ ∙ ap (fieldAt (l .fourth)) (e₄ ∙ ap (fieldAt (l .third)) (e₃ ∙ ap (fieldAt (l .second)) (e₂ ∙ ap (fieldAt (l .first)) e₁)))))))

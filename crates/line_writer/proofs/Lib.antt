@@ -1,3 +1,3 @@
 mod Carried
-mod InARow
+pub mod InARow
 pub mod Placing

@@ -226,8 +226,8 @@ module _ {M : Type 1} (𝓤 : URA M) (H : Heap 𝓤) (A : Atoms 𝓤) (W : Given
         move ! (51 ∷ []) $ fsplit ! $ move ! (1 ∷ []) $ drop ! $ move ! (51 ∷ 0 ∷ []) $
         -- [the token; what the buffer's borrow owns; _24; …], and from here on [the token; what the last writer owns; _24; …]
         use2 W (raw (New 𝓤 H A mem run .pre (to-new 𝓤 H A W mem run κ q x s n n-fits))) (goes-new 𝓤 H A W mem run κ q x s n n-fits) $
-        calls-at ! fm (New 𝓤 H A mem run) known-new (to-new 𝓤 H A W mem run κ q x s n n-fits) (and-then ! (load ! (from ! (stop !)) (look ! 21 refl)) (and-then !
-        (load ! (from ! (stop !)) (look ! 45 refl)) (no-more !))) (λ w₀.
+        calls-at ! fm (New 𝓤 H A mem run) known-new (to-new 𝓤 H A W mem run κ q x s n n-fits) (and-then !
+        (load ! (from ! (stop !)) (look ! 21 refl)) (and-then ! (load ! (from ! (stop !)) (look ! 45 refl)) (no-more !))) (λ w₀.
         use1 W (later (some (Told 𝓤 H A W mem run κ q (λ r. r ≡ begun x n) w₀))) (told-new 𝓤 H A W mem run κ q x s n n-fits w₀) $
         await ! tt $ pick ! (λ r₀. learn ! (λ e₀. split ! $ land ! (from ! (stop !)) (init ! 42 refl (typed κ r₀ w₀ (e₀ .1))) $
         assigns ! (of-opd ! (load ! (from ! (stop !)) (look ! 42 refl))) (from ! (stop !)) (init ! 20 refl (typed κ r₀ w₀ (e₀ .1))) $
@@ -304,10 +304,13 @@ module _ {M : Type 1} (𝓤 : URA M) (H : Heap 𝓤) (A : Atoms 𝓤) (W : Given
         -- last
         use2 W (raw (Number 𝓤 H A mem run .pre (to-number 𝓤 H A W mem run κ q r₇ w₇ 21 (f .last) (f .signed) (lit< tt) (parts .1 .1 .1 .1 .1 .1 .1 .0 .1))))
         (goes-number 𝓤 H A W mem run κ q r₇ w₇ 21 (f .last) (f .signed) (lit< tt) (parts .1 .1 .1 .1 .1 .1 .1 .0 .1)) $
-        calls-at ! fm (Number 𝓤 H A mem run) known-number (to-number 𝓤 H A W mem run κ q r₇ w₇ 21 (f .last) (f .signed) (lit< tt) (parts .1 .1 .1 .1 .1 .1 .1 .0 .1))
+        calls-at ! fm (Number 𝓤 H A mem run) known-number
+        (to-number 𝓤 H A W mem run κ q r₇ w₇ 21 (f .last) (f .signed) (lit< tt) (parts .1 .1 .1 .1 .1 .1 .1 .0 .1))
         (and-then ! (load ! (from ! (stop !)) (look ! 5 refl)) (and-then ! (lit ! tt) (and-then !
-        (load ! (from ! (fld ! refl (stop !))) (look-in ! 43 (sub ! 7 refl (whole !)))) (and-then ! (load ! (from ! (fld ! refl (stop !))) (look-in ! 43 (sub ! 8 refl (whole !)))) (no-more !))))) (λ w₈.
-        use1 W (later (some (Told 𝓤 H A W mem run κ q (Numbered 𝓤 H A W mem run κ q r₇ w₇ 21 (f .last) (f .signed) (lit< tt) (parts .1 .1 .1 .1 .1 .1 .1 .0 .1)) w₈)))
+        (load ! (from ! (fld ! refl (stop !))) (look-in ! 43 (sub ! 7 refl (whole !)))) (and-then !
+        (load ! (from ! (fld ! refl (stop !))) (look-in ! 43 (sub ! 8 refl (whole !)))) (no-more !))))) (λ w₈.
+        use1 W (later (some (Told 𝓤 H A W mem run κ q
+        (Numbered 𝓤 H A W mem run κ q r₇ w₇ 21 (f .last) (f .signed) (lit< tt) (parts .1 .1 .1 .1 .1 .1 .1 .0 .1)) w₈)))
         (told-number 𝓤 H A W mem run κ q r₇ w₇ 21 (f .last) (f .signed) (lit< tt) (parts .1 .1 .1 .1 .1 .1 .1 .0 .1) w₈) $
         await ! tt $ pick ! (λ r₈. learn ! (λ e₈. split ! $ land ! (from ! (stop !)) (init ! 26 refl (typed κ r₈ w₈ (e₈ .1))) $
         assigns ! (of-opd ! (load ! (from ! (stop !)) (look ! 26 refl))) (from ! (stop !)) (init ! 2 refl (typed κ r₈ w₈ (e₈ .1))) $
@@ -315,7 +318,8 @@ module _ {M : Type 1} (𝓤 : URA M) (H : Heap 𝓤) (A : Atoms 𝓤) (W : Given
         use2 W (raw (Byte 𝓤 H A mem run .pre (to-byte 𝓤 H A W mem run κ q r₈ w₈ 10 (lit< tt)))) (goes-byte 𝓤 H A W mem run κ q r₈ w₈ 10 (lit< tt)) $
         calls-at ! fm (Byte 𝓤 H A mem run) known-byte (to-byte 𝓤 H A W mem run κ q r₈ w₈ 10 (lit< tt)) (and-then ! (load ! (from ! (stop !)) (look ! 1 refl))
         (and-then ! (lit ! tt) (no-more !))) (λ w₉.
-        use1 W (later (some (Told 𝓤 H A W mem run κ q (Byted 𝓤 H A W mem run κ q r₈ w₈ 10 (lit< tt)) w₉))) (told-byte 𝓤 H A W mem run κ q r₈ w₈ 10 (lit< tt) w₉) $
+        use1 W (later (some (Told 𝓤 H A W mem run κ q (Byted 𝓤 H A W mem run κ q r₈ w₈ 10 (lit< tt)) w₉)))
+        (told-byte 𝓤 H A W mem run κ q r₈ w₈ 10 (lit< tt) w₉) $
         await ! tt $ pick ! (λ r₉. learn ! (λ e₉. split ! $ land ! (from ! (stop !)) (init ! 4 refl (typed κ r₉ w₉ (e₉ .1))) $
         -- the borrow ends
         use2 W (raw (End 𝓤 H A mem run .pre (to-end 𝓤 H A W mem run κ q r₉ w₉))) (goes-end 𝓤 H A W mem run κ q r₉ w₉) $
@@ -335,8 +339,8 @@ module _ {M : Type 1} (𝓤 : URA M) (H : Heap 𝓤) (A : Atoms 𝓤) (W : Given
         move ! (24 ∷ 25 ∷ []) $ free1 ! $ move ! (22 ∷ 23 ∷ []) $ free1 ! $ move ! (20 ∷ 21 ∷ []) $ free1 ! $ move ! (18 ∷ 19 ∷ []) $ free1 ! $
         move ! (16 ∷ 17 ∷ []) $ free1 ! $ move ! (14 ∷ 15 ∷ []) $ free1 ! $ move ! (12 ∷ 13 ∷ []) $ free1 ! $ move ! (10 ∷ 11 ∷ []) $ free1 ! $
         move ! (8 ∷ 9 ∷ []) $ free1 ! $ move ! (6 ∷ 7 ∷ []) $ free1 ! $ move ! (4 ∷ 5 ∷ []) $ free1 ! $ move ! (2 ∷ 3 ∷ []) $ free1 ! $ free0 ! $
-        keep ! (0 ∷ 1 ∷ []) $ by ! (exits (z .0) w (z .1) (e .0 ∙ whole-line)
-        (e .1 .1 ∙ (ap (λ (m : Placed). length (m .bytes)) whole-line ∙ line-length f (startAt n ys))) (e .1 .0))))))))))))))))))))))))))))))))))))))))))))))))))))))))))))
+        keep ! (0 ∷ 1 ∷ []) $ by ! (exits (z .0) w (z .1) (e .0 ∙ whole-line) (e .1 .1 ∙
+        (ap (λ (m : Placed). length (m .bytes)) whole-line ∙ line-length f (startAt n ys))) (e .1 .0))))))))))))))))))))))))))))))))))))))))))))))))))))))))))))
 
 module _ {M : Type 1} (𝓤 : URA M) (H : Heap 𝓤) (A : Atoms 𝓤) (W : Given 𝓤 H A) (mem : Memory → SProp 𝓤) (run : Routine → Fun 𝓤) where
   line-walks : (C : Calls 𝓤 H) (Λ : Loops 𝓤 H) → FmC 𝓤 H (W .laws) C → Triple 𝓤 (C #new) (New 𝓤 H A mem run) → Triple 𝓤 (C #number) (Number 𝓤 H A mem run)
