@@ -7,3 +7,4 @@ pub mod ExpressionWays
 pub mod StatementWays
 pub mod Calm
 pub mod Shelving
+pub mod FunctionWays

@@ -10,7 +10,7 @@ use Rattle.building.proofs.Notes.{held-longer}
 use Rattle.books.specs.Meets.{Acts, Inside, Does}
 use Rattle.books.proofs.Balanced.{Balanced, Balancing}
 
-same-locals : {start count : ℕ} {l : List ℕ} {s s′ : CompilerState} → s′ .locals ≡ s .locals → LocalsHeld start count l s → LocalsHeld start count l s′
+pub same-locals : {start count : ℕ} {l : List ℕ} {s s′ : CompilerState} → s′ .locals ≡ s .locals → LocalsHeld start count l s → LocalsHeld start count l s′
 same-locals q L = record { up-to = rw q (L .up-to); each = rw q (L .each) }
 
 -- every piece stays inside
