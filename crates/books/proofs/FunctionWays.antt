@@ -3,12 +3,12 @@
 use Prim.Native.Nat.{ℕ, zero, suc, _+_, _≤_, _<_}
 use native.Mathlib.Omega.{arith}
 use mathlib.Core.Path.{_≡_, refl, sym, ap, subst, _∙_}
-use mathlib.Core.Bool.{Bool, true, false, cond}
+use mathlib.Core.Bool.{Bool, true, false, cond, _||_}
 use mathlib.Core.Option.{Option, none, some}
 use mathlib.Core.List.{List, [], _∷_}
 use lib.ListN.{length}
 use lib.Dec.{eqb}
-use borrow.Author.Tests.{ne-eqb}
+use borrow.Author.Tests.{eqb-true}
 use Rattle.words.specs.Ast.{Token, Statement, Statements, ∅ₛ, _∷ₛ_, Local, Return, For, Break, Rescue, Expr}
 use Rattle.words.specs.Record.{tokenAt, kindAt, valueAt}
 use Rattle.definition.specs.FunctionState.{defineLocal, newFunctionState, emitReturn, getLastPosition}
@@ -136,8 +136,13 @@ module _ {tree : List ℕ} {at end : ℕ} {s : FunctionState} {n e : List ℕ} w
           B .meets ts (h .2) (omega arith) c k b κ E (compileParameter t w) (stays-open t w o) (A .meets t (h .0) c k b κ E w o H)
 
 -- `parameters_end`
-not-parameter : (k : ℕ) → (k ≡ 40 → ⊥) → (k ≡ 41 → ⊥) → isParameter k ≡ false
-not-parameter k p q = simp (ne-eqb k 40 p, ne-eqb k 41 q)
+parameter-kind : (k : ℕ) → isParameter k ≡ true → 30 ≤ k
+parameter-kind k h = go (eqb k 40) refl (eqb k 41) refl h
+  where
+    go : (a : Bool) → eqb k 40 ≡ a → (b : Bool) → eqb k 41 ≡ b → (a || b) ≡ true → 30 ≤ k
+    go true p b q z = omega (arith, eqb-true k 40 p)
+    go false p true q z = omega (arith, eqb-true k 41 q)
+    go false p false q z = absurd (let y : _≡_ {A = ℕ} 0 1 = cc in omega arith)
 
 statement-kind : (s : Statement) → kindS s < 30
 statement-kind (Local vs) = omega arith
@@ -151,20 +156,21 @@ module _ {tree : List ℕ} {at end : ℕ} where
   pub ends-past : end ≤ at → ParametersEnd tree at end at
   ends-past past = record { from = omega arith; ends = λ ts ss h g q. omega arith }
 
-  pub ends-here : {kind : ℕ} → kind ≡ kindAt tree at → (kind ≡ 40 → ⊥) → (kind ≡ 41 → ⊥) → ParametersEnd tree at end at
+  pub ends-here : {kind : ℕ} → kind ≡ kindAt tree at → isParameter kind ≡ false → ParametersEnd tree at end at
   unfolding ParametersAt
-  ends-here {kind} kind-is n40 n41 = record { from = omega arith; ends = go }
+  ends-here {kind} kind-is other = record { from = omega arith; ends = go }
     where
       go : (ts : List Token) (ss : Statements) → ParametersAt ts tree at → StatementsAt ss tree (at + length ts) → at + length ts + sizeSs ss ≡ end
           → at ≡ at + length ts
       go [] ss h g q = omega arith
       go (t ∷ ts) ss h g q =
           let k : kind ≡ t .kind = kind-is ∙ h .0 .head .kind-is in
-          absurd (let z : false ≡ true = sym (not-parameter kind n40 n41) ∙ ap isParameter k ∙ h .1 in let y : _≡_ {A = ℕ} 0 1 = cc in omega arith)
+          absurd (let z : false ≡ true = sym other ∙ ap isParameter k ∙ h .1 in let y : _≡_ {A = ℕ} 0 1 = cc in omega arith)
 
-  pub ends-later : {kind r : ℕ} → at < end → kind ≡ kindAt tree at → 30 ≤ kind → ParametersEnd tree (at + 1) end r → ParametersEnd tree at end r
+  pub ends-later : {kind r : ℕ} → at < end → kind ≡ kindAt tree at → isParameter kind ≡ true → ParametersEnd tree (at + 1) end r
+      → ParametersEnd tree at end r
   unfolding ParametersAt StatementsAt sizeSs
-  ends-later {kind} {r} inside kind-is big P = record { from = omega (arith, P .from); ends = go }
+  ends-later {kind} {r} inside kind-is is P = record { from = omega (arith, P .from); ends = go }
     where
       go : (ts : List Token) (ss : Statements) → ParametersAt ts tree at → StatementsAt ss tree (at + length ts) → at + length ts + sizeSs ss ≡ end
           → r ≡ at + length ts
@@ -172,7 +178,7 @@ module _ {tree : List ℕ} {at end : ℕ} where
       go [] (s ∷ₛ ss) h g q =
           let p : at + 0 ≡ at = omega arith in
           let k : kindAt tree at ≡ kindS s = headS s (rw p at (g .0)) .kind-is in
-          absurd (omega (arith, statement-kind s))
+          absurd (omega (arith, statement-kind s, parameter-kind kind is))
       go (t ∷ ts) ss h g q =
           let p : at + suc (length ts) ≡ at + 1 + length ts = omega arith in
           let e : r ≡ at + 1 + length ts = P .ends ts ss (h .2) (rw p at g) (omega arith) in

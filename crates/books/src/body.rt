@@ -28,7 +28,7 @@ const FLOAT_KIND: u64 = 3;
 const TEXT_KIND: u64 = 4;
 
 // An error at the token that a record is.
-fn fault(
+pub(crate) fn fault(
     tree: &[u64],
     at: usize,
     errors: &mut [u64],
@@ -260,7 +260,7 @@ fn rescue(
 }
 
 // The end of the subtree at a place, held to the end.
-fn skip(tree: &[u64], at: usize, end: usize) -> usize
+pub(crate) fn skip(tree: &[u64], at: usize, end: usize) -> usize
     ensures { λ r. ⌜ r ≡ skipC (now (tree .entry)) at end ⌝ }
 {
     if at < end {
