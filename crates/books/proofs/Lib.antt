@@ -8,3 +8,4 @@ pub mod StatementWays
 pub mod Calm
 pub mod Shelving
 pub mod FunctionWays
+pub mod Delivering
