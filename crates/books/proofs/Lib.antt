@@ -9,3 +9,4 @@ pub mod Calm
 pub mod Shelving
 pub mod FunctionWays
 pub mod Delivering
+pub mod BookWays

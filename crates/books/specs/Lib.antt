@@ -3,3 +3,4 @@ pub mod Members
 pub mod Shelf
 pub mod Making
 pub mod Promise
+pub mod Driving
