@@ -7,21 +7,25 @@ use mathlib.Core.Path.{_≡_, refl, sym, ap, subst, _∙_}
 use mathlib.Core.List.{List, [], _∷_, _++_, append-nil}
 use lib.ListN.{length, getD, length-append, List·getD-append}
 use lib.Seq.{getD-at}
-use Rattle.words.specs.Ast.{Document}
-use Rattle.tree.specs.At.{DocumentAt, sizeDoc}
+use Rattle.words.specs.Ast.{Definition, Document}
+use Rattle.tree.specs.At.{DocumentAt, sizeDoc, RunAt, runSize, DefinitionAt, sizeD}
+use Rattle.tree.proofs.View.{headD, sizeD-pos}
 use Rattle.definition.specs.FunctionState.{Entry}
 use Rattle.definition.specs.Uses.{Use, Limits, sumOf}
 use Rattle.definition.specs.Compiler.{Error}
-use Rattle.definition.specs.Book.{Assembly, Context, Book, opened, withContext, withAssemblies, publicsOf, compileDefinitions, compileDocument}
+use Rattle.definition.specs.Book.{Assembly, Context, Book, opened, withContext, withAssemblies, publicsOf, compileDefinition, compileDefinitions}
 use Rattle.definition.specs.Program.{Entries, entriesFrom, assemblyPublics, publicEntries, errorEntry}
-use Rattle.definition.specs.Within.{All}
-use Rattle.definition.proofs.Limits.{LimitedDocument}
+use Rattle.definition.specs.Within.{All, _&_}
+use Rattle.definition.proofs.Limits.{LimitedDocument, LimitedFunction, functionsIn}
 use Rattle.definition.proofs.Cells.{entries-length, all-any}
 use Rattle.building.specs.Held.{Filled}
 use Rattle.building.proofs.PoolLaws.{entries-more}
 use Rattle.books.specs.declared.documents.Book as struct
+use Rattle.books.specs.Meets.{skipC}
 use Rattle.books.specs.Shelf.{Shelf, shelf, Stock, Keeping, Shelved}
-use Rattle.books.specs.Driving.{MeetsDefinitions, nobody, openedBook, Resting, MeetsDocument}
+use Rattle.books.specs.Driving.{MeetsDefinition, MeetsDefinitions, nobody, openedBook, Resting, MeetsDocument}
+use Rattle.books.proofs.Calm.{Calms}
+use Rattle.books.proofs.Tokens.{skip-law}
 
 -- a book's own name stands nowhere in the areas yet
 named : {κ : Limits} {m : Shelf} {c : Context} {uses : List Use} (d : Document) → Keeping κ [] m (opened nobody c uses) → Keeping κ [] m (opened d c uses)
@@ -145,3 +149,32 @@ put-away {x = x} clean H = record {
         };
   };
 }
+
+-- the loop over definitions: no deed changes the books put away
+module _ (calm : (d : Definition) → Calms (compileDefinition d)) {tree : List ℕ} {at end : ℕ} {books : List ℕ} where
+  pub definitions-end : {m : Shelf} → end ≤ at → MeetsDefinitions tree at end books m m
+  unfolding compileDefinitions runSize
+  definitions-end {m} past = record { meets = go }
+    where
+      go : (ds : List Definition) → RunAt DefinitionAt sizeD ds tree at → at + runSize sizeD ds ≡ end
+          → All (λ (d : Definition). All LimitedFunction (functionsIn d)) ds → (κ : Limits) (b : Book) → Shelved books (b .context .assemblies)
+          → Keeping κ [] m b → Keeping κ [] m (compileDefinitions ds b)
+      go [] h q l κ b s H = H
+      go (d ∷ ds) h q l κ b s H = absurd (omega (arith, sizeD-pos d))
+
+  pub definitions-more : {next : ℕ} {m m₁ m′ : Shelf} → at < end → next ≡ skipC tree at end → MeetsDefinition tree at next books m m₁
+      → MeetsDefinitions tree next end books m₁ m′ → MeetsDefinitions tree at end books m m′
+  unfolding compileDefinitions runSize RunAt
+  definitions-more {next} {m} {m₁} {m′} inside skipped A B = record { meets = go }
+    where
+      go : (ds : List Definition) → RunAt DefinitionAt sizeD ds tree at → at + runSize sizeD ds ≡ end
+          → All (λ (d : Definition). All LimitedFunction (functionsIn d)) ds → (κ : Limits) (b : Book) → Shelved books (b .context .assemblies)
+          → Keeping κ [] m b → Keeping κ [] m′ (compileDefinitions ds b)
+      go [] h q l κ b s H = absurd (omega arith)
+      go (d ∷ ds) h q (l & ls) κ b s H =
+          let mid : next ≡ at + sizeD d = skipped ∙ skip-law tree at end (headD d (h .0)) (sizeD-pos d) (omega arith) in
+          B .meets ds (rw mid (h .1)) (omega arith) ls κ (compileDefinition d b)
+          (subst (λ (as′ : List Assembly). Shelved books as′) (sym (calm d b .assemblies)) s) (A .meets d (h .0) (sym mid) l κ b s H)
+
+  pub definition-past : {m m′ : Shelf} → end ≤ at → MeetsDefinition tree at end books m m′
+  definition-past past = record { meets = λ d h q l κ b s H. absurd (omega (arith, sizeD-pos d)) }

@@ -10,3 +10,4 @@ pub mod Shelving
 pub mod FunctionWays
 pub mod Delivering
 pub mod BookWays
+pub mod Whole
