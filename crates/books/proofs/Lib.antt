@@ -11,3 +11,4 @@ pub mod FunctionWays
 pub mod Delivering
 pub mod BookWays
 pub mod Whole
+pub mod DriveWays

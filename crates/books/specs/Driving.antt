@@ -1,14 +1,20 @@
 -- What the routines above a book's definitions promise: a definition, a document, and the areas between two books
-use Prim.Native.Nat.{ℕ, _+_}
+use Prim.Native.Nat.{ℕ, _+_, _/_, _≤_, _<_}
 use mathlib.Core.Path.{_≡_}
 use mathlib.Core.List.{List, [], _∷_, _++_}
 use lib.ListN.{length}
 use Rattle.words.specs.Ast.{Definition, Document}
+use Rattle.words.specs.Areas.{entriesIn, entryWord, errorsArea}
 use Rattle.tree.specs.At.{DefinitionAt, sizeD, DocumentAt, sizeDoc, RunAt, runSize}
 use Rattle.definition.specs.Uses.{Use, Limits}
+use Rattle.definition.specs.Compiler.{Error}
+use Rattle.definition.specs.Program.{entriesFrom, errorEntry}
+use Rattle.definition.specs.Answer.{ringErrors}
 use Rattle.definition.specs.Book.{Context, Book, opened, compileDefinition, compileDefinitions}
 use Rattle.definition.specs.Within.{All}
 use Rattle.definition.proofs.Limits.{LimitedFunction, LimitedDocument, functionsIn}
+use Rattle.building.specs.declared.taking.Taken.{Taken}
+use Rattle.building.specs.Held.{Filled}
 use Rattle.books.specs.declared.documents.Book as struct
 use Rattle.books.specs.Shelf.{Shelf, shelf, Keeping, Shelved}
 
@@ -54,3 +60,24 @@ pub record MeetsDocument (tree : List ℕ) (at end index : ℕ) (books : List �
   pub meets : (d : Document) → DocumentAt d tree at → at + sizeDoc d ≡ end → LimitedDocument d → (κ : Limits) (context : Context) (uses : List Use)
       → index ≡ length (context .assemblies) → Shelved books (context .assemblies) → Resting κ s c k f m p t l u n b e context uses
       → Keeping κ [] m′ (compileDefinitions (d .definitions) (opened d context uses))
+
+-- the books that are left stand behind those compiled, each in an entry of area 12 that begins with its file number
+abbrev pub placeUnit : ℕ
+placeUnit = 1048576
+
+abbrev pub Leaves : List ℕ → ℕ → List ℕ → Type 0
+Leaves o i [] = Unit {0}
+Leaves o i (n ∷ ns) = (entryWord 1 i 0 o / placeUnit ≡ n) × Leaves o (i + 1) ns
+
+-- an error for each book left, behind those that stand: all of them, or the mark
+pub record Rung (es : List Error) (left e : List ℕ) (r : Taken) (e′ : List ℕ) : Type 0 where
+  pub long : length e′ ≡ length e
+  pub fits : length es + length left ≤ entriesIn 4 (length e)
+      → (r .full ≡ 0) × Filled 4 e′ (entriesFrom errorEntry 0 (es ++ ringErrors left)) (r .count)
+  pub over : entriesIn 4 (length e) < length es + length left → r .full ≡ errorsArea
+
+-- `ring`
+pub record Rings (i count : ℕ) (o : List ℕ) (t : Taken) (e : List ℕ) (r : Taken) (e′ : List ℕ) : Type 0 where
+  pub rings : (es : List Error) (left : List ℕ) → Leaves o i left → i + length left ≡ count → t .full ≡ 0
+      → Filled 4 e (entriesFrom errorEntry 0 es) (t .count) → Rung es left e r e′
+  pub stays : (t .full ≡ 0 → ⊥) → (r .full ≡ t .full) × (length e′ ≡ length e)
