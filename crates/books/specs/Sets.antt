@@ -1,5 +1,5 @@
 -- Sets of file numbers in words: one bit for each number below 2^20, 64 to a word
-use Prim.Native.Nat.{ℕ, _/_, _%_, _^_, _≤_, _<_}
+use Prim.Native.Nat.{ℕ, _+_, _/_, _%_, _^_, _≤_, _<_}
 use mathlib.Core.Path.{_≡_}
 use mathlib.Core.Bool.{Bool, true, false, cond, not}
 use mathlib.Core.List.{List, [], _∷_}
@@ -48,3 +48,18 @@ pub record NextIn (bits : List ℕ) (from r : ℕ) : Type 0 where
 abbrev pub Below : List ℕ → Type 0
 Below [] = Unit {0}
 Below (n ∷ ns) = (n < setSize) × Below ns
+
+-- numbers that ascend from one on, without repeats
+abbrev pub Ascends : ℕ → List ℕ → Type 0
+Ascends k [] = Unit {0}
+Ascends k (x ∷ xs) = (k ≤ x) × Ascends (x + 1) xs
+
+-- numbers into a set, one after the other
+abbrev pub addBits : List ℕ → List ℕ → List ℕ
+addBits bits [] = bits
+addBits bits (n ∷ ns) = addBits (addBit bits n) ns
+
+-- whether numbers are all in a set
+abbrev pub allBits : List ℕ → List ℕ → Bool
+allBits bits [] = true
+allBits bits (n ∷ ns) = cond (bitOf bits n) (allBits bits ns) false
