@@ -33,7 +33,7 @@ order a b = go (decLt a b) (ℕ-discrete a b)
     go (no l) (yes q) = same q
     go (no l) (no q) = more (omega arith)
 
-never : {A : Type 0} → true ≡ false → A
+pub never : {A : Type 0} → true ≡ false → A
 never h = let z : _≡_ {A = ℕ} 0 1 = cc in absurd (omega arith)
 
 -- members
@@ -67,7 +67,7 @@ has-insert m n (x ∷ xs) = go (order n x) (has-insert m n xs)
     go (more l) ih = rw (le-ltb n x (omega arith), ne-eqb n x (λ q. omega arith), ih) (swap (eqb x m) (eqb n m) (hasText m xs))
 
 -- a choice of two that is made twice
-join : (a b c : Bool) → cond b true (cond a true c) ≡ cond (cond a true b) true c
+pub join : (a b c : Bool) → cond b true (cond a true c) ≡ cond (cond a true b) true c
 join true true c = refl
 join true false c = refl
 join false b c = refl
@@ -295,3 +295,43 @@ missing-by n (d ∷ ds) o = go (eqb (d .filename) n) refl (missing-by n ds o)
         → missingBy (findDocument n (d ∷ ds)) n o ≡ cond (hasText n (files (d ∷ ds))) o (some n)
     go true q ih = rw q
     go false q ih = rw q ih
+
+-- the numbers of a set from one on
+pub record SetFrom (bits : List ℕ) (k : ℕ) (l : List ℕ) : Type 0 where
+  pub ascends : Ascends k l
+  pub below : Below l
+  pub has : (m : ℕ) → k ≤ m → m < setSize → bitOf bits m ≡ hasText m l
+
+pub set-from : {bits l : List ℕ} → Ascends 0 l → Below l → SetIs bits l → SetFrom bits 0 l
+set-from a b i = record { ascends = a; below = b; has = λ m h g. i .has m g }
+
+pub next-none : {bits : List ℕ} {k r : ℕ} (l : List ℕ) → SetFrom bits k l → NextIn bits k r → setSize ≤ r → l ≡ []
+next-none [] s n h = refl
+next-none (x ∷ xs) s n h =
+    let b = s .below .0 in
+    never (sym (has-head x xs) ∙ sym (s .has x (s .ascends .0) b) ∙ n .between x (s .ascends .0) (omega arith))
+
+pub record Split (bits : List ℕ) (r : ℕ) (l : List ℕ) : Type 0 where
+  pub rest : List ℕ
+  pub is : l ≡ r ∷ rest
+  pub after : SetFrom bits (r + 1) rest
+
+pub next-some : {bits : List ℕ} {k r : ℕ} (l : List ℕ) → SetFrom bits k l → NextIn bits k r → r < setSize → Split bits r l
+next-some {bits} {k} {r} [] s n h = never (sym (n .here h) ∙ s .has r (n .on) h)
+next-some {bits} {k} {r} (x ∷ xs) s n h = go (order x r)
+  where
+    there : hasText r (x ∷ xs) ≡ true
+    there = sym (s .has r (n .on) h) ∙ n .here h
+
+    go : Order x r → Split bits r (x ∷ xs)
+    go (less l) = never (sym (has-head x xs) ∙ sym (s .has x (s .ascends .0) (s .below .0)) ∙ n .between x (s .ascends .0) l)
+    go (same q) = record {
+      rest = xs;
+      is = rw q;
+      after = record {
+        ascends = rw q at (s .ascends .1);
+        below = s .below .1;
+        has = λ m a b. s .has m (omega (arith, n .on)) b ∙ has-tail m x xs (λ z. omega arith);
+      };
+    }
+    go (more l) = never (sym there ∙ has-not x (x ∷ xs) (omega arith, s .ascends .1) r l)

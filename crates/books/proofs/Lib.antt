@@ -7,3 +7,4 @@ pub mod ExpressionWays
 pub mod StatementWays
 pub mod SetBits
 pub mod FileLists
+pub mod BundleWays

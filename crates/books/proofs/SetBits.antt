@@ -7,7 +7,7 @@ use mathlib.Core.Path.{_≡_, refl, sym, ap, _∙_}
 use mathlib.Core.Bool.{Bool, true, false, cond, not}
 use mathlib.Core.List.{List, [], _∷_}
 use lib.ListN.{length, getD, set, replicate, length-set, length-replicate, getD-replicate, List·getD-eq-default}
-use lib.Seq.{getD-set-same, getD-set-other, set-out}
+use lib.Seq.{getD-set-same, getD-set-other, set-out, ext-getD}
 use lib.Dec.{eqb}
 use lib.Pow.{pow-pos, pow-lt, pow-add, shl-shr, shl-exact}
 use lib.Bits.{bitOr, or-shr, or-mod, or-zero-r}
@@ -140,3 +140,17 @@ next-more bits n {m} {r} here p q = record {
 
 pub next-here : (bits : List ℕ) (n : ℕ) → n ≤ setSize → (n < setSize → bitOf bits n ≡ true) → NextIn bits n n
 next-here bits n l h = record { on = omega arith; last = l; between = λ k a b. absurd (omega arith); here = h }
+
+-- `copy`
+abbrev pub Copied : List ℕ → List ℕ → ℕ → Type 0
+Copied from to i = (k : ℕ) → k < i → getD to k 0 ≡ getD from k 0
+
+pub copy-more : (from to : List ℕ) (i : ℕ) → i < length to → Copied from to i → Copied from (set to i (getD from i 0)) (i + 1)
+copy-more from to i l h k g = go (ℕ-discrete k i)
+  where
+    go : Dec (k ≡ i) → getD (set to i (getD from i 0)) k 0 ≡ getD from k 0
+    go (yes q) = rw q (getD-set-same to i (getD from i 0) 0 l)
+    go (no q) = getD-set-other to i k (getD from i 0) 0 q ∙ h k (omega arith)
+
+pub copy-all : (from to : List ℕ) (i : ℕ) → length to ≡ length from → length from ≤ i → Copied from to i → to ≡ from
+copy-all from to i e l h = ext-getD 0 to from e (λ k g. h k (omega arith))

@@ -17,7 +17,7 @@ use Rattle.building.specs.declared.scopes.Found.the-variants.{At, Nothing}
 use Rattle.building.specs.declared.taking.Taken.{Taken}
 use Rattle.building.specs.Taking.{taken}
 use Rattle.building.specs.Found.{foundOf}
-use Rattle.books.specs.Sets.{setSize, bitOf, addBits, allBits, SetIs, Below}
+use Rattle.books.specs.Sets.{setSize, bitOf, addBits, allBits, SetIs, Below, Ascends}
 
 -- every file number, and every number that is included, has a bit
 abbrev pub InSets : List Document → Type 0
@@ -62,7 +62,12 @@ pub record Reaches (tree : List ℕ) (at end : ℕ) (set : List ℕ) (any : Bool
   pub adds : (ds : List Document) → Bundle ds tree at end → after ≡ reachBits set ds next
   pub still : r ≡ false → (any ≡ false) × (after ≡ next)
 
--- `needed`: from two sets with nothing in them, the first becomes the set of the books needed
-pub record Needs (tree : List ℕ) (end : ℕ) (set next after : List ℕ) : Type 0 where
-  pub needs : (root : Document) (others : List Document) → Bundle (root ∷ others) tree 0 end → Distinct (root ∷ others) → SetIs set [] → next ≡ set
+-- `needed`: an empty set becomes that of the books needed
+pub record Needs (tree : List ℕ) (end : ℕ) (set after : List ℕ) : Type 0 where
+  pub needs : (root : Document) (others : List Document) → Bundle (root ∷ others) tree 0 end → Distinct (root ∷ others) → SetIs set []
       → SetIs after (needed [] root others)
+
+-- `missing`: row 6, by the sets of the books needed and of those there
+pub record Misses (set present : List ℕ) (r : Found) : Type 0 where
+  pub misses : (ds : List Document) (numbers : List ℕ) → Ascends 0 numbers → Below numbers → SetIs set numbers → SetIs present (files ds)
+      → r ≡ foundOf (missing ds numbers)

@@ -260,7 +260,7 @@ fn rescue(
 }
 
 // The end of the subtree at a place, held to the end.
-fn skip(tree: &[u64], at: usize, end: usize) -> usize
+pub(crate) fn skip(tree: &[u64], at: usize, end: usize) -> usize
     ensures { λ r. ⌜ r ≡ skipC (now (tree .entry)) at end ⌝ }
 {
     if at < end {
