@@ -12,3 +12,6 @@ pub mod Delivering
 pub mod BookWays
 pub mod Whole
 pub mod DriveWays
+pub mod SetBits
+pub mod FileLists
+pub mod BundleWays

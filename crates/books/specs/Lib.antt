@@ -4,3 +4,5 @@ pub mod Shelf
 pub mod Making
 pub mod Promise
 pub mod Driving
+pub mod Sets
+pub mod Solving

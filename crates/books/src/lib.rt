@@ -3,3 +3,4 @@ pub mod body;
 pub mod documents;
 pub mod functions;
 pub mod driver;
+mod solver;
