@@ -15,3 +15,4 @@ pub mod DriveWays
 pub mod SetBits
 pub mod FileLists
 pub mod BundleWays
+pub mod FrontWays

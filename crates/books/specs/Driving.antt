@@ -1,6 +1,7 @@
 -- What the routines above a book's definitions promise: a definition, a document, and the areas between two books
 use Prim.Native.Nat.{ℕ, _+_, _/_, _≤_, _<_}
 use mathlib.Core.Path.{_≡_}
+use mathlib.Core.Option.{none}
 use mathlib.Core.List.{List, [], _∷_, _++_}
 use lib.ListN.{length}
 use Rattle.words.specs.Ast.{Definition, Document}
@@ -9,13 +10,19 @@ use Rattle.tree.specs.At.{DefinitionAt, sizeD, DocumentAt, sizeDoc, RunAt, runS
 use Rattle.definition.specs.Uses.{Use, Limits}
 use Rattle.definition.specs.Compiler.{Error}
 use Rattle.definition.specs.Program.{entriesFrom, errorEntry}
-use Rattle.definition.specs.Answer.{ringErrors}
-use Rattle.definition.specs.Book.{Context, Book, opened, compileDefinition, compileDefinitions}
+use Rattle.definition.specs.DependencySolver.{needed, missing, compileNeeded}
+use Rattle.definition.specs.Answer.{Refusal, ringErrors, answerWorked, limitsOf, answer}
+use Rattle.tree.specs.Check.{shapeOf}
+use Rattle.tree.specs.Reading.{documentsOf}
+use Rattle.tree.specs.declared.Shape.the-variants.{Fine}
+use Rattle.definition.specs.Book.{newContext, Context, Book, opened, compileDefinition, compileDefinitions}
 use Rattle.definition.specs.Within.{All}
 use Rattle.definition.proofs.Limits.{LimitedFunction, LimitedDocument, functionsIn}
 use Rattle.building.specs.declared.taking.Taken.{Taken}
 use Rattle.building.specs.Held.{Filled}
 use Rattle.books.specs.declared.documents.Book as struct
+use Rattle.books.specs.Sets.{SetIs}
+use Rattle.books.specs.Solving.{Bundle, Distinct}
 use Rattle.books.specs.Shelf.{Shelf, shelf, Keeping, Shelved}
 
 -- `definition`: of the one that stands at a place and ends at the end
@@ -81,3 +88,19 @@ pub record Rings (i count : ℕ) (o : List ℕ) (t : Taken) (e : List ℕ) (r : 
   pub rings : (es : List Error) (left : List ℕ) → Leaves o i left → i + length left ≡ count → t .full ≡ 0
       → Filled 4 e (entriesFrom errorEntry 0 es) (t .count) → Rung es left e r e′
   pub stays : (t .full ≡ 0 → ⊥) → (r .full ≡ t .full) × (length e′ ≡ length e)
+
+-- the work that is left after rows 2 to 6: the documents, their order's numbers, and the answer by them
+pub record Accepted (tree set : List ℕ) (root : Document) (others : List Document) : Type 0 where
+  pub fine : shapeOf tree ≡ Fine
+  pub documents : documentsOf tree ≡ root ∷ others
+  pub bundle : Bundle (root ∷ others) tree 0 (length tree / 4)
+  pub distinct : Distinct (root ∷ others)
+  pub chosen : SetIs set (needed [] root others)
+  pub there : missing (root ∷ others) (needed [] root others) ≡ none
+  pub answers : (lengths : List ℕ)
+      → answer tree lengths ≡ answerWorked (limitsOf lengths) (compileNeeded (needed [] root others) (root ∷ others) newContext)
+
+-- `front`: a row of 2 to 6 and its place, or row 0 and the work that is left
+pub record Fronts (tree : List ℕ) (row place : ℕ) (set : List ℕ) : Type 0 where
+  pub refused : (row ≡ 0 → ⊥) → (lengths : List ℕ) → answer tree lengths ≡ Refusal row place []
+  pub accepted : row ≡ 0 → (root : Document) × ((others : List Document) × Accepted tree set root others)
