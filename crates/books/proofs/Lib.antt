@@ -9,10 +9,11 @@ pub mod Calm
 pub mod Shelving
 pub mod FunctionWays
 pub mod Delivering
-pub mod BookWays
+pub mod PuttingAway
 pub mod Whole
 pub mod DriveWays
 pub mod SetBits
 pub mod FileLists
 pub mod BundleWays
 pub mod FrontWays
+pub mod Steadfast
