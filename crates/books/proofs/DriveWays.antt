@@ -19,7 +19,8 @@ use Rattle.building.specs.Taking.{Took, taken}
 use Rattle.building.specs.Held.{Filled}
 use Rattle.building.proofs.ContextLaws.{Grown, grown, over, took-law, took-full}
 use Rattle.building.proofs.PoolLaws.{entries-more}
-use Rattle.books.specs.Driving.{Leaves, placeUnit, Rung, Rings}
+use Rattle.books.specs.Solving.{bookUnit}
+use Rattle.books.specs.Driving.{Leaves, Rung, Rings}
 
 errors-length : (es : List Error) → length (entriesFrom errorEntry 0 es) ≡ length es
 errors-length es = single-length _ 0 es
@@ -45,7 +46,7 @@ module _ {i count : ℕ} {o : List ℕ} {t : Taken} {e : List ℕ} where
       go es (n ∷ left) h q z f = absurd (omega arith)
 
   pub ring-more : {file : ℕ} {t₁ r : Taken} {e₁ e′ : List ℕ} → i < count → file ≡ entryField 1 i 0 o
-      → Took errorsArea (t .full) (t .count) (11 ∷ 0 ∷ 0 ∷ file / placeUnit ∷ []) e t₁ e₁ → Rings (i + 1) count o t₁ e₁ r e′ → Rings i count o t e r e′
+      → Took errorsArea (t .full) (t .count) (11 ∷ 0 ∷ 0 ∷ file / bookUnit ∷ []) e t₁ e₁ → Rings (i + 1) count o t₁ e₁ r e′ → Rings i count o t e r e′
   ring-more {file} {t₁} {r} {e₁} {e′} inside file-is T R = record { rings = go; stays = kept }
     where
       kept : (t .full ≡ 0 → ⊥) → (r .full ≡ t .full) × (length e′ ≡ length e)
@@ -60,13 +61,13 @@ module _ {i count : ℕ} {o : List ℕ} {t : Taken} {e : List ℕ} where
       go es [] h q z f = absurd (omega arith)
       go es (n ∷ left) h q z f = by (took-law T z f) R
         where
-          number : file / placeUnit ≡ n
-          number = ap (λ (x : ℕ). x / placeUnit) (file-is ∙ sym (field-in o 1 i 0 (omega arith) (omega arith))) ∙ h .0
+          number : file / bookUnit ≡ n
+          number = ap (λ (x : ℕ). x / bookUnit) (file-is ∙ sym (field-in o 1 i 0 (omega arith) (omega arith))) ∙ h .0
 
-          more : entriesFrom errorEntry 0 es ++ ((11 ∷ 0 ∷ 0 ∷ file / placeUnit ∷ []) ∷ []) ≡ entriesFrom errorEntry 0 (es ++ (ringError n ∷ []))
+          more : entriesFrom errorEntry 0 es ++ ((11 ∷ 0 ∷ 0 ∷ file / bookUnit ∷ []) ∷ []) ≡ entriesFrom errorEntry 0 (es ++ (ringError n ∷ []))
           more = rw number (sym (entries-more errorEntry 0 es (ringError n)))
 
-          by : {t₂ : Taken} {e₂ : List ℕ} → Grown errorsArea (t .count) (11 ∷ 0 ∷ 0 ∷ file / placeUnit ∷ []) e (entriesFrom errorEntry 0 es) t₂ e₂
+          by : {t₂ : Taken} {e₂ : List ℕ} → Grown errorsArea (t .count) (11 ∷ 0 ∷ 0 ∷ file / bookUnit ∷ []) e (entriesFrom errorEntry 0 es) t₂ e₂
               → Rings (i + 1) count o t₂ e₂ r e′ → Rung es (n ∷ left) e r e′
           by (grown room f′ long) R₂ =
               let one : length (es ++ (ringError n ∷ [])) ≡ length es + 1 = length-append es (ringError n ∷ []) in

@@ -17,3 +17,5 @@ pub mod FileLists
 pub mod BundleWays
 pub mod FrontWays
 pub mod Steadfast
+pub mod Lefts
+pub mod Rounds

@@ -21,7 +21,7 @@ module _ (calm : (d : Definition) → Calms (compileDefinition d)) where
   unfolding compileDocument
   document-longer d c uses = calm-definitions (d .definitions) (opened d c uses) .uses
 
-  after-longer : (es : List Error) (file : ℕ) (c : Context) (uses : List Use) (go : Context → List Use → Worked)
+  pub after-longer : (es : List Error) (file : ℕ) (c : Context) (uses : List Use) (go : Context → List Use → Worked)
       → ((x : Context) (us : List Use) → Longer us (go x us .uses)) → Longer uses (afterBook es file c uses go .uses)
   after-longer [] file c uses go h = h c uses
   after-longer (e ∷ es) file c uses go h = same
@@ -39,14 +39,6 @@ module _ (calm : (d : Definition) → Calms (compileDefinition d)) where
   drive-longer (suc k) ds done left c uses =
       by-longer (ready ds done left) left c uses (λ d c′ uses′. drive k ds (d .filename ∷ done) (without (d .filename) left) c′ uses′)
       (λ d c′ uses′. drive-longer k ds (d .filename ∷ done) (without (d .filename) left) c′ uses′)
-
-  -- the rest of the drive after a book with no error, and after a faulty one
-  pub after-book-longer : (d : Document) (left : List ℕ) (c : Context) (uses : List Use) (k : ℕ) (ds : List Document) (done : List ℕ)
-      → Longer (compileDocument d c uses .uses) (driveBy (some d) left c uses
-      (λ d c′ uses′. drive k ds (d .filename ∷ done) (without (d .filename) left) c′ uses′) .uses)
-  after-book-longer d left c uses k ds done =
-      let b = compileDocument d c uses in
-      after-longer (b .compiler .errors) (d .filename) (b .context) (b .uses) _ (λ x us. drive-longer k ds (d .filename ∷ done) (without (d .filename) left) x us)
 
 -- the file numbers of the books put away
 pub files-more : (as′ : List Assembly) (a : Assembly) → filesOf (as′ ++ (a ∷ [])) ≡ filesOf as′ ++ (a .filename ∷ [])

@@ -7,10 +7,10 @@ use lib.ListN.{length}
 use Rattle.words.specs.Ast.{Definition, Document}
 use Rattle.words.specs.Areas.{entriesIn, entryWord, errorsArea}
 use Rattle.tree.specs.At.{DefinitionAt, sizeD, DocumentAt, sizeDoc, RunAt, runSize}
-use Rattle.definition.specs.Uses.{Use, Limits}
+use Rattle.definition.specs.Uses.{Use, Limits, firstOver}
 use Rattle.definition.specs.Compiler.{Error}
 use Rattle.definition.specs.Program.{entriesFrom, errorEntry}
-use Rattle.definition.specs.DependencySolver.{needed, missing, compileNeeded}
+use Rattle.definition.specs.DependencySolver.{needed, missing, compileNeeded, filesOf, drive, Ending, Delivered, Faulty, Ring, Worked}
 use Rattle.definition.specs.Answer.{Refusal, ringErrors, answerWorked, limitsOf, answer}
 use Rattle.tree.specs.Check.{shapeOf}
 use Rattle.tree.specs.Reading.{documentsOf}
@@ -19,10 +19,10 @@ use Rattle.definition.specs.Book.{newContext, Context, Book, opened, compileDef
 use Rattle.definition.specs.Within.{All}
 use Rattle.definition.proofs.Limits.{LimitedFunction, LimitedDocument, functionsIn}
 use Rattle.building.specs.declared.taking.Taken.{Taken}
-use Rattle.building.specs.Held.{Filled}
+use Rattle.building.specs.Held.{Filled, Marks}
 use Rattle.books.specs.declared.documents.Book as struct
-use Rattle.books.specs.Sets.{SetIs}
-use Rattle.books.specs.Solving.{Bundle, Distinct}
+use Rattle.books.specs.Sets.{SetIs, Ascends}
+use Rattle.books.specs.Solving.{bookUnit, Bundle, Distinct, Stands}
 use Rattle.books.specs.Shelf.{Shelf, shelf, Keeping, Shelved}
 
 -- `definition`: of the one that stands at a place and ends at the end
@@ -69,12 +69,9 @@ pub record MeetsDocument (tree : List ℕ) (at end index : ℕ) (books : List �
       → Keeping κ [] m′ (compileDefinitions (d .definitions) (opened d context uses))
 
 -- the books that are left stand behind those compiled, each in an entry of area 12 that begins with its file number
-abbrev pub placeUnit : ℕ
-placeUnit = 1048576
-
 abbrev pub Leaves : List ℕ → ℕ → List ℕ → Type 0
 Leaves o i [] = Unit {0}
-Leaves o i (n ∷ ns) = (entryWord 1 i 0 o / placeUnit ≡ n) × Leaves o (i + 1) ns
+Leaves o i (n ∷ ns) = (entryWord 1 i 0 o / bookUnit ≡ n) × Leaves o (i + 1) ns
 
 -- an error for each book left, behind those that stand: all of them, or the mark
 pub record Rung (es : List Error) (left e : List ℕ) (r : Taken) (e′ : List ℕ) : Type 0 where
@@ -104,3 +101,34 @@ pub record Accepted (tree set : List ℕ) (root : Document) (others : List Docum
 pub record Fronts (tree : List ℕ) (row place : ℕ) (set : List ℕ) : Type 0 where
   pub refused : (row ≡ 0 → ⊥) → (lengths : List ℕ) → answer tree lengths ≡ Refusal row place []
   pub accepted : row ≡ 0 → (root : Document) × ((others : List Document) × Accepted tree set root others)
+
+-- how the books end, where nothing is full: `rest` is what stands in area 12 behind the books
+pub data Came (κ : Limits) (s : struct.Book) (c k f m p t l u n b e books rest : List ℕ) (row place : ℕ) (uses : List Use) : Ending → Type 0 where
+  came-delivered : {context : Context} → row ≡ 0 → Resting κ s c k f m p t l u n b e context uses → books ≡ filesOf (context .assemblies) ++ rest
+      → Came κ s c k f m p t l u n b e books rest row place uses (Delivered context)
+  came-faulty : {file : ℕ} {es : List Error} → row ≡ 7 → place ≡ file → Filled 4 e (entriesFrom errorEntry 0 es) (s .errors)
+      → Came κ s c k f m p t l u n b e books rest row place uses (Faulty file es)
+  came-ring : {left : List ℕ} → row ≡ 8 → place ≡ length left → Filled 4 e (entriesFrom errorEntry 0 (ringErrors left)) (s .errors)
+      → Came κ s c k f m p t l u n b e books rest row place uses (Ring left)
+
+pub record Outcome (κ : Limits) (s : struct.Book) (c k f m p t l u n b e books rest : List ℕ) (row place : ℕ) (w : Worked) : Type 0 where
+  pub full : Marks (firstOver κ (w .uses)) (s .full)
+  pub came : s .full ≡ 0 → Came κ s c k f m p t l u n b e books rest row place (w .uses) (w .ending)
+
+-- where the work stands: the books that are left, those compiled, and the areas between two books
+pub record Driving (ds : List Document) (tree : List ℕ) (end done count : ℕ) (left rest compiled set books : List ℕ) (κ : Limits) (s : struct.Book)
+    (c k f m p t l u n b e : List ℕ) (context : Context) (uses : List Use) : Type 0 where
+  pub distinct : Distinct ds
+  pub limited : All LimitedDocument ds
+  pub ascends : Ascends 0 left
+  pub stands : Stands ds tree end (filesOf (context .assemblies)) left rest books set compiled
+  pub so-many : done ≡ length (context .assemblies)
+  pub in-all : count ≡ done + length left
+  pub resting : Resting κ s c k f m p t l u n b e context uses
+
+-- `drive`
+pub record Drives (tree : List ℕ) (end done count : ℕ) (set books : List ℕ) (s : struct.Book) (c k f m p t l u n b e : List ℕ)
+    (s′ : struct.Book) (c′ k′ f′ m′ p′ t′ l′ u′ n′ b′ e′ books′ : List ℕ) (row place : ℕ) : Type 0 where
+  pub drives : (ds : List Document) (left rest compiled : List ℕ) (κ : Limits) (context : Context) (uses : List Use)
+      → Driving ds tree end done count left rest compiled set books κ s c k f m p t l u n b e context uses
+      → Outcome κ s′ c′ k′ f′ m′ p′ t′ l′ u′ n′ b′ e′ books′ rest row place (drive (length left) ds compiled left context uses)
