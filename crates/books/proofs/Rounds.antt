@@ -4,13 +4,13 @@ use Prim.Native.Nat.{ℕ, zero, suc, _+_, _-_, _*_, _/_, _%_, _≤_, _<_}
 use native.Mathlib.Omega.{arith}
 use native.Mathlib.Decide.{decLe}
 use mathlib.Core.Path.{_≡_, refl, sym, ap, subst, _∙_}
-use mathlib.Core.Option.{Option, some}
+use mathlib.Core.Option.{Option, none, some}
 use mathlib.Core.List.{List, [], _∷_, _++_, append-assoc}
 use lib.ListN.{length, getD, length-append}
 use Rattle.words.specs.Ast.{Definition, Document}
 use Rattle.words.specs.Areas.{entriesIn, entryWord, entryField, errorsArea}
 use Rattle.tree.specs.At.{DocumentAt, sizeDoc}
-use Rattle.definition.specs.Uses.{Use, using′, Limits, firstOver}
+use Rattle.definition.specs.Uses.{Use, using′, Limits, limitOf, firstOver}
 use Rattle.definition.specs.Compiler.{Error}
 use Rattle.definition.specs.Program.{entriesFrom, errorEntry}
 use Rattle.definition.specs.Within.{All, none, _&_}
@@ -28,11 +28,11 @@ use Rattle.books.specs.Meets.{skipC}
 use Rattle.books.specs.Sets.{addBit, SetIs, Ascends, setSize}
 use Rattle.books.specs.Solving.{InSets, bookUnit, booksOf, Stands, Ready, FindsReady, Brings}
 use Rattle.books.specs.Shelf.{shelf, Keeping, Shelved}
-use Rattle.books.specs.Driving.{Leaves, Rings, Resting, MeetsDocument, Came, came-delivered, came-faulty, came-ring, Outcome, Driving, Drives}
+use Rattle.books.specs.Driving.{Leaves, Rung, Rings, Resting, MeetsDocument, Came, came-delivered, came-faulty, came-ring, Outcome, Driving, Drives}
 use Rattle.books.proofs.Calm.{Calms}
 use Rattle.books.proofs.Steadfast.{calm-definitions, drive-longer, after-longer, files-more}
 use Rattle.books.proofs.PuttingAway.{putAway, put-away}
-use Rattle.books.proofs.Lefts.{without-length, ascends-without, missing-without, all-ready, files-length, files-at}
+use Rattle.books.proofs.Lefts.{without-length, ascends-without, missing-without, all-ready, files-length, files-at, leaves-are}
 use Rattle.books.proofs.FileLists.{set-add}
 use Rattle.books.proofs.Tokens.{skip-law}
 
@@ -60,6 +60,9 @@ module _ (calm : (d : Definition) → Calms (compileDefinition d)) {tree : List 
       came = λ z. absurd (ne z);
     };
   }
+
+same-files : {as′ bs : List Assembly} {x y : ℕ} → as′ ≡ bs → x ≡ y → filesOf as′ ++ (x ∷ []) ≡ filesOf bs ++ (y ∷ [])
+same-files p q = rw (p, q)
 
 in-sets : (ds : List Document) → InSets ds → All (λ (d : Document). d .filename < setSize) ds
 in-sets [] h = none
@@ -155,14 +158,14 @@ module _ {tree : List ℕ} {end done count : ℕ} {set books : List ℕ} {s : st
           → set₁ ≡ addBit set file
           → Drives tree end (done + 1) count set₁ books₁ s₁ c₁ k₁ f₁ m₁ p₁ t₁ l₁ u₁ n₁ b₁ e₁ s′ c′ k′ f′ m′ p′ t′ l′ u′ n′ b′ e′ books′ row place
           → Drives tree end done count set books s c k f m p t l u n b e s′ c′ k′ f′ m′ p′ t′ l′ u′ n′ b′ e′ books′ row place
-      round-more {set₁} {s′} {c′} {k′} {f′} {m′} {p′} {t′} {l′} {u′} {n′} {b′} {e′} {books′} {row} {place} no-error set-is V = record {
+      round-more {set₁} {s′} {c′} {k′} {f′} {m′} {p′} {t′} {l′} {u′} {n′} {b′} {e′} {books′} {row} {place} no-error set-is onward = record {
         drives = λ ds left rest compiled κ context uses D.
             let R = round ds left rest compiled κ context uses D in
             let x = compileDefinitions (R .book .definitions) (opened (R .book) context uses) in
             let C = calm-definitions calm (R .book .definitions) (opened (R .book) context uses) in
             let clean : x .compiler .errors ≡ [] = no-errors (x .compiler .errors) (R .kept .rest z₁ .errors) in
             let files : filesOf (putAway x .assemblies) ≡ filesOf (context .assemblies) ++ (file ∷ []) =
-            files-more (x .context .assemblies) (x .assembly) ∙ rw (C .assemblies, C .filename, R .same) in
+            files-more (x .context .assemblies) (x .assembly) ∙ same-files (C .assemblies) (C .filename ∙ sym (R .same)) in
             let next : Driving ds tree end (done + 1) count (without file left) rest (file ∷ compiled) set₁ books₁ κ s₁ c₁ k₁ f₁ m₁ p₁ t₁ l₁ u₁ n₁ b₁ e₁
             (putAway x) (x .uses) = record {
               distinct = D .distinct;
@@ -182,9 +185,51 @@ module _ {tree : List ℕ} {end done count : ℕ} {set books : List ℕ} {s : st
             subst (λ (w : Worked). Outcome κ s′ c′ k′ f′ m′ p′ t′ l′ u′ n′ b′ e′ books′ rest row place w)
             (sym (follows R ∙ ap (λ (es : List Error). afterBook es file (putAway x) (x .uses)
             (λ y us. drive (length (without file left)) ds (file ∷ compiled) (without file left) y us)) clean))
-            (V .drives ds (without file left) rest (file ∷ compiled) κ (putAway x) (x .uses) next);
+            (onward .drives ds (without file left) rest (file ∷ compiled) κ (putAway x) (x .uses) next);
       }
         where
           no-errors : (es : List Error) → Filled 4 e₁ (entriesFrom errorEntry 0 es) (s₁ .errors) → es ≡ []
           no-errors [] F = refl
           no-errors (y ∷ es) F = absurd (omega (arith, F .count, no-error))
+
+-- no book is ready: a ring
+module _ {tree : List ℕ} {end done count : ℕ} {set books : List ℕ} {s : struct.Book} {c k f m p t l u n b e : List ℕ} {r place : ℕ} {x : Taken} {e₁ : List ℕ}
+    {s₁ : struct.Book} (z : s .full ≡ 0) (N : FindsReady tree end done count set books r) (inside : done < count) (past : count ≤ r)
+    (G : Rings done count books (taken 0 0) e x e₁) (full-is : s₁ .full ≡ x .full) (errors-are : s₁ .errors ≡ x .count) (place-is : done + place ≡ count) where
+  pub drive-ring : Drives tree end done count set books s c k f m p t l u n b e s₁ c k f m p t l u n b e₁ books 8 place
+  unfolding drive
+  drive-ring = record {
+    drives = λ ds left rest compiled κ context uses D.
+        let many : done ≡ length (filesOf (context .assemblies)) = D .so-many ∙ sym (files-length (context .assemblies)) in
+        go ds left rest compiled κ context uses D (N .nothing ds (filesOf (context .assemblies)) left rest compiled (D .stands) many (D .in-all) past)
+        (rw (← many) at (leaves-are (D .stands)));
+  }
+    where
+      go : (ds : List Document) (left rest compiled : List ℕ) (κ : Limits) (context : Context) (uses : List Use)
+          → Driving ds tree end done count left rest compiled set books κ s c k f m p t l u n b e context uses → ready ds compiled left ≡ none
+          → Leaves books done left → Outcome κ s₁ c k f m p t l u n b e₁ books rest 8 place (drive (length left) ds compiled left context uses)
+      go ds [] rest compiled κ context uses D q h = absurd (omega (arith, D .in-all))
+      go ds (y ∷ left) rest compiled κ context uses D q h =
+          let K = D .resting .ready in
+          let S = K .rest z in
+          let R = G .rings [] (y ∷ left) h (sym (D .in-all)) refl (rw (S .errors .count) at (S .errors)) in
+          let all : place ≡ length (y ∷ left) = omega (arith, D .in-all) in
+          let caps : entriesIn 4 (length e) ≡ limitOf κ errorsArea = K .fitted .errors in
+          rw q (by all caps (K .full) R (decLe (length (y ∷ left)) (entriesIn 4 (length e))))
+        where
+          by : place ≡ length (y ∷ left) → entriesIn 4 (length e) ≡ limitOf κ errorsArea → Marks (firstOver κ uses) (s .full) → Rung [] (y ∷ left) e x e₁
+              → Dec (length (y ∷ left) ≤ entriesIn 4 (length e)) → Outcome κ s₁ c k f m p t l u n b e₁ books rest 8 place
+              (record { ending = Ring (y ∷ left); uses = using′ errorsArea (length (y ∷ left)) ∷ uses })
+          by all caps marks R (yes fits) =
+              let F = R .fits (omega arith) in
+              let same : s₁ .full ≡ s .full = full-is ∙ F .0 ∙ sym z in
+              record {
+                full = rw same (over-fits κ (using′ errorsArea (length (y ∷ left))) uses marks z (omega arith));
+                came = λ z₁. came-ring {left = y ∷ left} refl all (rw errors-are (F .1));
+              }
+          by all caps marks R (no over) =
+              let F : s₁ .full ≡ errorsArea = full-is ∙ R .over (omega arith) in
+              record {
+                full = rw F (over-here κ (using′ errorsArea (length (y ∷ left))) uses marks z (omega arith) (omega arith));
+                came = λ z₁. absurd (omega (arith, F, z₁));
+              }
