@@ -19,3 +19,4 @@ pub mod FrontWays
 pub mod Steadfast
 pub mod Lefts
 pub mod Rounds
+pub mod Beginning

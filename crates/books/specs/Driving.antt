@@ -3,13 +3,14 @@ use Prim.Native.Nat.{ℕ, _+_, _/_, _≤_, _<_}
 use mathlib.Core.Path.{_≡_}
 use mathlib.Core.Option.{none}
 use mathlib.Core.List.{List, [], _∷_, _++_}
-use lib.ListN.{length}
+use lib.ListN.{length, replicate}
 use Rattle.words.specs.Ast.{Definition, Document}
-use Rattle.words.specs.Areas.{entriesIn, entryWord, errorsArea}
+use Rattle.words.specs.Areas.{entriesIn, entryWord, constantsArea, errorsArea, booksArea}
+use Rattle.words.specs.Object.{defaultConstants}
 use Rattle.tree.specs.At.{DefinitionAt, sizeD, DocumentAt, sizeDoc, RunAt, runSize}
 use Rattle.definition.specs.Uses.{Use, Limits, firstOver}
 use Rattle.definition.specs.Compiler.{Error}
-use Rattle.definition.specs.Program.{entriesFrom, errorEntry}
+use Rattle.definition.specs.Program.{entriesFrom, constantEntry, errorEntry}
 use Rattle.definition.specs.DependencySolver.{needed, missing, compileNeeded, filesOf, drive, Ending, Delivered, Faulty, Ring, Worked}
 use Rattle.definition.specs.Answer.{Refusal, ringErrors, answerWorked, limitsOf, answer}
 use Rattle.tree.specs.Check.{shapeOf}
@@ -19,11 +20,11 @@ use Rattle.definition.specs.Book.{newContext, Context, Book, opened, compileDef
 use Rattle.definition.specs.Within.{All}
 use Rattle.definition.proofs.Limits.{LimitedFunction, LimitedDocument, functionsIn}
 use Rattle.building.specs.declared.taking.Taken.{Taken}
-use Rattle.building.specs.Held.{Filled, Marks}
+use Rattle.building.specs.Held.{Filled, Marks, Sized}
 use Rattle.books.specs.declared.documents.Book as struct
 use Rattle.books.specs.Sets.{SetIs, Ascends}
 use Rattle.books.specs.Solving.{bookUnit, Bundle, Distinct, Stands}
-use Rattle.books.specs.Shelf.{Shelf, shelf, Keeping, Shelved}
+use Rattle.books.specs.Shelf.{Shelf, shelf, Fitted, Keeping, Shelved}
 
 -- `definition`: of the one that stands at a place and ends at the end
 pub record MeetsDefinition (tree : List ℕ) (at end : ℕ) (books : List ℕ) (m m′ : Shelf) : Type 0 where
@@ -132,3 +133,40 @@ pub record Drives (tree : List ℕ) (end done count : ℕ) (set books : List ℕ
   pub drives : (ds : List Document) (left rest compiled : List ℕ) (κ : Limits) (context : Context) (uses : List Use)
       → Driving ds tree end done count left rest compiled set books κ s c k f m p t l u n b e context uses
       → Outcome κ s′ c′ k′ f′ m′ p′ t′ l′ u′ n′ b′ e′ books′ rest row place (drive (length left) ds compiled left context uses)
+
+-- nothing but zeros
+abbrev pub Zero : List ℕ → Type 0
+Zero l = l ≡ replicate (length l) 0
+
+-- `first_constants`: null, true and false
+pub record FirstConstants (k : List ℕ) (r : Taken) (k′ : List ℕ) : Type 0 where
+  pub fits : Zero k → 3 ≤ entriesIn 3 (length k) → (r .full ≡ 0) × Filled 3 k′ (entriesFrom (constantEntry []) 0 defaultConstants) (r .count)
+  pub over : Zero k → entriesIn 3 (length k) < 3 → r .full ≡ constantsArea
+
+-- the areas are as long as the limits say, area 12 too
+pub record Lent (κ : Limits) (s : struct.Book) (c k f m p t l u n b e o : List ℕ) : Type 0 where
+  pub fitted : Fitted κ (shelf s c k f m p t l u n b e)
+  pub books : Sized κ booksArea o
+
+-- and hold zeros
+pub record Cleared (c k f m p t l u n b e o : List ℕ) : Type 0 where
+  pub code : Zero c
+  pub constants : Zero k
+  pub functions : Zero f
+  pub models : Zero m
+  pub properties : Zero p
+  pub methods : Zero t
+  pub locals : Zero l
+  pub publics : Zero u
+  pub names : Zero n
+  pub breaks : Zero b
+  pub errors : Zero e
+  pub books : Zero o
+
+-- `work`: all the books of a bundle, into areas of zeros
+pub record Works (tree set : List ℕ) (c k f m p t l u n b e o : List ℕ) (s′ : struct.Book) (c′ k′ f′ m′ p′ t′ l′ u′ n′ b′ e′ o′ : List ℕ)
+    (row place : ℕ) : Type 0 where
+  pub works : (root : Document) (others : List Document) → Accepted tree set root others → Cleared c k f m p t l u n b e o → (κ : Limits)
+      → ((s : struct.Book) → Lent κ s c k f m p t l u n b e o)
+      → (rest : List ℕ) × (Zero rest × Outcome κ s′ c′ k′ f′ m′ p′ t′ l′ u′ n′ b′ e′ o′ rest row place
+      (compileNeeded (needed [] root others) (root ∷ others) newContext))
