@@ -8,3 +8,5 @@ pub mod StatementWays
 pub mod SetBits
 pub mod FileLists
 pub mod BundleWays
+pub mod BundleRange
+pub mod BookWays
