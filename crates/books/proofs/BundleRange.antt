@@ -1,21 +1,22 @@
 -- Words that `shapeOf` finds fine hold a bundle: their documents stand there and fill them, and file numbers and includes are in the range of texts.
 -- Assumes nothing.
-use Prim.Native.Nat.{ℕ, _+_, _≤_, _<_}
+use Prim.Native.Nat.{ℕ, _+_, _%_, _≤_, _<_}
 use native.Mathlib.Omega.{arith}
 use mathlib.Core.Path.{_≡_, refl, sym, ap, subst, _∙_}
 use mathlib.Core.Bool.{Bool, true, _&&_}
 use mathlib.Core.List.{List, [], _∷_}
+use lib.ListN.{length}
 use lib.Dec.{leb}
-use borrow.Author.Tests.{leb-true}
+use borrow.Author.Tests.{leb-true, eq-eqb, le-ltb}
 use Rattle.words.specs.Ast.{Token, Document, Definition, LocalDefinition, IncludeDefinition, ModelDefinition, PublicModelDefinition, PlainFunction}
 use Rattle.words.specs.Ast.{PublicFunction, ImplementDefinition, ApplyDefinition}
 use Rattle.words.specs.Record.{kindAt, positionAt, valueAt, mostRecords, mostText}
 use Rattle.tree.specs.Rules.{inRange, ruleOf}
 use Rattle.tree.specs.Check.{shapeOf, recordsOf}
-use Rattle.tree.specs.declared.Shape.the-variants.{Fine}
+use Rattle.tree.specs.declared.Shape.the-variants.{Fine, Refused}
 use Rattle.tree.specs.At.{RunAt, runSize, DefinitionAt, sizeD, DocumentsAt, sizeDoc}
 use Rattle.tree.specs.Reading.{documentsOf}
-use Rattle.tree.proofs.Bundle.{fine-spells}
+use Rattle.tree.proofs.Bundle.{fine-spells, fine-passed}
 use Rattle.tree.proofs.Spans.{and-right}
 use Rattle.tree.proofs.View.{sizeD-pos}
 use Rattle.definition.specs.DependencySolver.{dependencies}
@@ -72,3 +73,21 @@ fine-bundle w h =
 
 pub fine-limit : (w : List ℕ) → shapeOf w ≡ Fine → recordsOf w ≤ mostRecords
 fine-limit w h = fine-spells w h .limit
+
+some-records : (w : List ℕ) → shapeOf w ≡ Fine → recordsOf w ≡ 0 → ⊥
+unfolding shapeOf
+some-records w h z =
+    let p = fine-passed w h in
+    let r : Refused 3 0 ≡ Fine
+    = simp (eq-eqb (length w % 4) 0 (p .whole), le-ltb mostRecords (recordsOf w) (p .limit), eq-eqb (recordsOf w) 0 z) at h in
+    let zz : _≡_ {A = ℕ} 0 1 = cc in
+    omega arith
+
+-- there is a root
+pub fine-root : (w : List ℕ) → shapeOf w ≡ Fine → (root : Document) × (others : List Document) × (documentsOf w ≡ root ∷ others)
+unfolding runSize
+fine-root w h = go (documentsOf w) refl
+  where
+    go : (ds : List Document) → documentsOf w ≡ ds → (root : Document) × (others : List Document) × (documentsOf w ≡ root ∷ others)
+    go (d ∷ ds) q = (d, ds, q)
+    go [] q = absurd (some-records w h (sym (fine-spells w h .fills) ∙ ap (λ (ds : List Document). runSize sizeDoc ds) q))

@@ -10,3 +10,4 @@ pub mod FileLists
 pub mod BundleWays
 pub mod BundleRange
 pub mod BookWays
+pub mod StandsLaws
