@@ -35,19 +35,27 @@ pub bundle-first : {d : Document} {ds : List Document} {tree : List ℕ} {i end 
 unfolding RunAt
 bundle-first b = b .documents .0
 
+pub bundle-rest : {d : Document} {ds : List Document} {tree : List ℕ} {i end : ℕ} → Bundle (d ∷ ds) tree i end → Bundle ds tree (i + sizeDoc d) end
+unfolding RunAt runSize
+bundle-rest {d} {ds} {tree} {i} {end} b =
+    let f : i + (sizeDoc d + runSize sizeDoc ds) ≡ end = b .fills in
+    record { documents = b .documents .1; fills = omega arith; numbers = b .numbers .2 }
+
+pub bundle-fits : {d : Document} {ds : List Document} {tree : List ℕ} {i end : ℕ} → Bundle (d ∷ ds) tree i end → i + sizeDoc d ≤ end
+unfolding runSize
+bundle-fits {d} {ds} {tree} {i} {end} b = let f : i + (sizeDoc d + runSize sizeDoc ds) ≡ end = b .fills in omega arith
+
 pub bundle-next : {d : Document} {ds : List Document} {tree : List ℕ} {i end next : ℕ} → Bundle (d ∷ ds) tree i end → next ≡ skipC tree i end
     → (next ≡ i + sizeDoc d) × Bundle ds tree next end
-unfolding RunAt runSize
 bundle-next {d} {ds} {tree} {i} {end} {next} b q =
-    let f : i + (sizeDoc d + runSize sizeDoc ds) ≡ end = b .fills in
-    let e : next ≡ i + sizeDoc d = q ∙ skip-law tree i end (b .documents .0 .head) (omega arith) (omega arith) in
-    (e, record { documents = rw e (b .documents .1); fills = omega arith; numbers = b .numbers .2 })
+    let e : next ≡ i + sizeDoc d = q ∙ skip-law tree i end (bundle-first b .head) (omega arith) (bundle-fits b) in
+    (e, rw e (bundle-rest b))
 
-bundle-past : {d : Document} {ds : List Document} {tree : List ℕ} {i end : ℕ} → Bundle (d ∷ ds) tree i end → i < end
+pub bundle-past : {d : Document} {ds : List Document} {tree : List ℕ} {i end : ℕ} → Bundle (d ∷ ds) tree i end → i < end
 unfolding runSize
 bundle-past {d} {ds} {tree} {i} {end} b = let f : i + (sizeDoc d + runSize sizeDoc ds) ≡ end = b .fills in omega arith
 
-bundle-none : {tree : List ℕ} {i end : ℕ} → Bundle [] tree i end → i ≡ end
+pub bundle-none : {tree : List ℕ} {i end : ℕ} → Bundle [] tree i end → i ≡ end
 unfolding runSize
 bundle-none {tree} {i} {end} b = let f : i + 0 ≡ end = b .fills in omega arith
 
@@ -153,6 +161,44 @@ twice-whole tree end before {r} {after} T = record {
       };
 }
 
+-- what holds of the includes ahead of the first other definition, from a place up to the end: at the end, at another definition, and at an include
+module _ (tree : List ℕ) (j end : ℕ) (P : List ℕ → Type 0) where
+  pub defs-end : end ≤ j → P [] → (defs : List Definition) → RunAt DefinitionAt sizeD defs tree j → j + runSize sizeD defs ≡ end → P (dependencies defs)
+  unfolding runSize
+  defs-end past p [] a f = p
+  defs-end past p (d ∷ ds) a f = absurd (omega (arith, sizeD-pos d))
+
+  pub defs-other : {kind : ℕ} → kind ≡ kindAt tree j → (kind ≡ 11 → ⊥) → P []
+      → (defs : List Definition) → RunAt DefinitionAt sizeD defs tree j → j + runSize sizeD defs ≡ end → P (dependencies defs)
+  unfolding RunAt
+  defs-other k ne p [] a f = p
+  defs-other k ne p (d ∷ ds) a f = go d (λ q. ne (k ∙ headD d (a .0) .kind-is ∙ q))
+    where
+      go : (x : Definition) → (kindD x ≡ 11 → ⊥) → P (dependencies (x ∷ ds))
+      go (LocalDefinition x) h = p
+      go (IncludeDefinition x y) h = absurd (h refl)
+      go (ModelDefinition x y) h = p
+      go (PublicModelDefinition x y) h = p
+      go (PlainFunction x) h = p
+      go (PublicFunction x) h = p
+      go (ImplementDefinition x y) h = p
+      go (ApplyDefinition x y) h = p
+
+  pub defs-more : {kind file next : ℕ} → j < end → kind ≡ kindAt tree j → kind ≡ 11 → file ≡ valueAt tree j → next ≡ skipC tree j end
+      → ((ds : List Definition) → RunAt DefinitionAt sizeD ds tree next → next + runSize sizeD ds ≡ end → P (file ∷ dependencies ds))
+      → (defs : List Definition) → RunAt DefinitionAt sizeD defs tree j → j + runSize sizeD defs ≡ end → P (dependencies defs)
+  unfolding RunAt runSize DefinitionAt
+  defs-more inside k eleven v q p [] a f = absurd (omega arith)
+  defs-more {kind} {file} {next} inside k eleven v q p (d ∷ ds) a f = go d (seeD d tree j (a .0) k eleven) a f
+    where
+      go : (x : Definition) → ViewD 11 x → RunAt DefinitionAt sizeD (x ∷ ds) tree j → j + runSize sizeD (x ∷ ds) ≡ end → P (dependencies (x ∷ ds))
+      go (IncludeDefinition t l) v-IncludeDefinition u e =
+          let f : j + (sizeD (IncludeDefinition t l) + runSize sizeD ds) ≡ end = e in
+          let nx : next ≡ j + sizeD (IncludeDefinition t l)
+          = q ∙ skip-law tree j end (headD (IncludeDefinition t l) (u .0)) (sizeD-pos (IncludeDefinition t l)) (omega arith) in
+          let same : t .value ≡ file = ap (λ (x : Token). x .value) (u .0 .0 .token) ∙ sym v in
+          rw same (p ds (rw nx (u .1)) (omega arith))
+
 -- `add_includes`
 neither : (a b : Bool) → cond a true b ≡ false → (a ≡ false) × (b ≡ false)
 neither true b h = never h
@@ -160,36 +206,19 @@ neither false b h = (refl, h)
 
 module _ (tree : List ℕ) (j end : ℕ) (any : Bool) (set : List ℕ) where
   pub includes-end : end ≤ j → Includes tree j end any set set any
-  unfolding runSize
-  includes-end past = record { adds = go; still = λ h. (h, refl) }
-    where
-      go : (defs : List Definition) → RunAt DefinitionAt sizeD defs tree j → j + runSize sizeD defs ≡ end → set ≡ addBits set (dependencies defs)
-      go [] a f = refl
-      go (d ∷ ds) a f = absurd (omega (arith, sizeD-pos d))
+  includes-end past = record { adds = defs-end tree j end (λ ns. set ≡ addBits set ns) past refl; still = λ h. (h, refl) }
 
-  pub includes-other : {kind : ℕ} → j < end → kind ≡ kindAt tree j → (kind ≡ 11 → ⊥) → Includes tree j end any set set any
-  unfolding RunAt
-  includes-other {kind} inside k ne = record { adds = go; still = λ h. (h, refl) }
-    where
-      none-of : (d : Definition) (ds : List Definition) → (kindD d ≡ 11 → ⊥) → set ≡ addBits set (dependencies (d ∷ ds))
-      none-of (LocalDefinition x) ds h = refl
-      none-of (IncludeDefinition x y) ds h = absurd (h refl)
-      none-of (ModelDefinition x y) ds h = refl
-      none-of (PublicModelDefinition x y) ds h = refl
-      none-of (PlainFunction x) ds h = refl
-      none-of (PublicFunction x) ds h = refl
-      none-of (ImplementDefinition x y) ds h = refl
-      none-of (ApplyDefinition x y) ds h = refl
-
-      go : (defs : List Definition) → RunAt DefinitionAt sizeD defs tree j → j + runSize sizeD defs ≡ end → set ≡ addBits set (dependencies defs)
-      go [] a f = refl
-      go (d ∷ ds) a f = none-of d ds (λ q. ne (k ∙ headD d (a .0) .kind-is ∙ q))
+  pub includes-other : {kind : ℕ} → kind ≡ kindAt tree j → (kind ≡ 11 → ⊥) → Includes tree j end any set set any
+  includes-other k ne = record { adds = defs-other tree j end (λ ns. set ≡ addBits set ns) k ne refl; still = λ h. (h, refl) }
 
   pub includes-more : {kind file next : ℕ} {mid after : List ℕ} {fresh grew r : Bool} → j < end → kind ≡ kindAt tree j → kind ≡ 11
       → file ≡ valueAt tree j → Added set file mid fresh → next ≡ skipC tree j end → grew ≡ cond any true fresh
       → Includes tree next end grew mid after r → Includes tree j end any set after r
-  unfolding RunAt runSize DefinitionAt addBit
-  includes-more {kind} {file} {next} {mid} {after} {fresh} {grew} {r} inside k eleven v a q g I = record { adds = go; still = λ h. quiet (I .still h) }
+  unfolding addBit
+  includes-more {kind} {file} {next} {mid} {after} {fresh} {grew} {r} inside k eleven v a q g I = record {
+    adds = defs-more tree j end (λ ns. after ≡ addBits set ns) inside k eleven v q (λ ds u f. I .adds ds u f ∙ rw (a .words));
+    still = λ h. quiet (I .still h);
+  }
     where
       unchanged : bitOf set file ≡ true → mid ≡ set
       unchanged b = a .words ∙ rw b
@@ -198,19 +227,6 @@ module _ (tree : List ℕ) (j end : ℕ) (any : Bool) (set : List ℕ) where
       quiet p =
           let n = neither any fresh (sym g ∙ p .0) in
           (n .0, p .1 ∙ unchanged (not-false (bitOf set file) (sym (a .is-new) ∙ n .1)))
-
-      go : (defs : List Definition) → RunAt DefinitionAt sizeD defs tree j → j + runSize sizeD defs ≡ end → after ≡ addBits set (dependencies defs)
-      go [] w f = absurd (omega arith)
-      go (d ∷ ds) w f = see d (seeD d tree j (w .0) k eleven) w f
-        where
-          see : (x : Definition) → ViewD 11 x → RunAt DefinitionAt sizeD (x ∷ ds) tree j → j + runSize sizeD (x ∷ ds) ≡ end
-              → after ≡ addBits set (dependencies (x ∷ ds))
-          see (IncludeDefinition t l) v-IncludeDefinition u e =
-              let f : j + (sizeD (IncludeDefinition t l) + runSize sizeD ds) ≡ end = e in
-              let nx : next ≡ j + sizeD (IncludeDefinition t l)
-              = q ∙ skip-law tree j end (headD (IncludeDefinition t l) (u .0)) (sizeD-pos (IncludeDefinition t l)) (omega arith) in
-              let same : t .value ≡ file = ap (λ (x : Token). x .value) (u .0 .0 .token) ∙ sym v in
-              I .adds ds (rw nx (u .1)) (omega arith) ∙ rw (same, ← a .words)
 
 -- `reach`
 module _ (tree : List ℕ) (i end : ℕ) (set : List ℕ) (any : Bool) (next : List ℕ) where

@@ -109,7 +109,7 @@ pub inserts-below : (ns l : List ℕ) → Below l → Below ns → Below (insert
 inserts-below [] l b h = b
 inserts-below (n ∷ ns) l b h = inserts-below ns (insertNumber n l) (insert-below n l b (h .0)) (h .1)
 
-found-below : (n : ℕ) (ds : List Document) → InSets ds → Below (dependenciesOf (findDocument n ds))
+pub found-below : (n : ℕ) (ds : List Document) → InSets ds → Below (dependenciesOf (findDocument n ds))
 found-below n [] s = tt
 found-below n (d ∷ ds) s = go (eqb (d .filename) n) refl (found-below n ds (s .2))
   where

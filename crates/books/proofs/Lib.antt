@@ -20,3 +20,6 @@ pub mod Steadfast
 pub mod Lefts
 pub mod Rounds
 pub mod Beginning
+pub mod BundleRange
+pub mod BookWays
+pub mod StandsLaws

@@ -4,14 +4,20 @@ ghost use mathlib.Core.Bool.{true, false, cond};
 ghost use Prim.Native.Nat.{_≤_, _<_};
 ghost use lib.ListN.{length};
 ghost use Rattle.books.specs.Sets.{bitOf, Added, NextIn, Passes, setSize};
-ghost use Rattle.books.specs.Solving.{FindsTwice, Includes, Reaches, Needs, Misses};
+ghost use Rattle.books.specs.Solving.{FindsTwice, Includes, Reaches, Needs, Misses, FindsDocument, TakesBooks, AllIncluded, FindsReady, Brings};
+ghost use Rattle.words.specs.Record.{mostRecords};
 use crate::body::skip;
 use building::scopes::Found;
+use building::taking;
+use words::areas;
 use words::record;
 use words::record::field;
 
 // Numbers in sets are below this: every text number is.
 const SET_SIZE: u64 = 1048576;
+
+// A book that waits in area 12 is its file number times this and the place of its document.
+pub(crate) const BOOK_UNIT: u64 = 1048576;
 
 pub(crate) fn has(set: &[u64], n: u64) -> bool
     ensures { λ r. ⌜ r ≡ bitOf (now (set .entry)) n ⌝ }
@@ -171,4 +177,99 @@ pub(crate) fn missing(needed: &[u64], present: &[u64]) -> Found
         from = n + 1;
     }
     Found::Nothing
+}
+
+fn find_document(tree: &[u64], end: usize, file: u64) -> usize
+    ensures { λ r. ⌜ FindsDocument (now (tree .entry)) 0 end file r ⌝ }
+{
+    let mut i: usize = 0;
+    while i < end {
+        let there = field(tree, i, record::VALUE);
+        if there == file {
+            return i;
+        }
+        i = skip(tree, i, end);
+    }
+    i
+}
+
+// The books needed, ascending, each an entry of area 12.
+pub(crate) fn take_books(
+    tree: &[u64],
+    end: usize,
+    needed: &[u64],
+    full: u64,
+    books: &mut [u64],
+) -> taking::Taken
+    requires { ⌜ end ≤ mostRecords ⌝ }
+    ensures { λ r. ⌜ TakesBooks (now (tree .entry)) end (now (needed .entry)) full (now (books .entry)) r (now (books .exit)) ⌝ }
+{
+    let mut t = taking::Taken { full, count: 0 };
+    let mut from: u64 = 0;
+    while from < SET_SIZE {
+        let n = next_in(needed, from);
+        if SET_SIZE <= n {
+            return t;
+        }
+        let at = find_document(tree, end, n) as u64;
+        t = taking::take1(books, areas::BOOKS, t.full, t.count, n * BOOK_UNIT + at);
+        from = n + 1;
+    }
+    t
+}
+
+// Whether the includes ahead of the first other definition are all in the set.
+fn all_in(tree: &[u64], at: usize, end: usize, set: &[u64]) -> bool
+    ensures { λ r. ⌜ AllIncluded (now (tree .entry)) at end (now (set .entry)) r ⌝ }
+{
+    let mut j = at;
+    while j < end {
+        let kind = field(tree, j, record::KIND);
+        if kind != record::INCLUDE_DEFINITION {
+            return true;
+        }
+        let file = field(tree, j, record::VALUE);
+        if !has(set, file) {
+            return false;
+        }
+        j = skip(tree, j, end);
+    }
+    true
+}
+
+// The first of the waiting books, from entry `done` on, whose includes are all compiled; the count where there is none.
+pub(crate) fn next_ready(
+    tree: &[u64],
+    end: usize,
+    done: usize,
+    count: usize,
+    compiled: &[u64],
+    books: &[u64],
+) -> usize
+    ensures { λ r. ⌜ FindsReady (now (tree .entry)) end done count (now (compiled .entry)) (now (books .entry)) r ⌝ }
+{
+    let mut k = done;
+    while k < count {
+        let entry = areas::entry_word(books, areas::BOOK_WORDS, k, 0);
+        let at = (entry % BOOK_UNIT) as usize;
+        let last = skip(tree, at, end);
+        if all_in(tree, at + 1, last, compiled) {
+            return k;
+        }
+        k += 1;
+    }
+    k
+}
+
+// The file number of the book at entry k goes to the place of the first waiting one, those between one up.
+pub(crate) fn bring(books: &mut [u64], done: usize, k: usize, file: u64)
+    ensures { λ _. ⌜ Brings (now (books .entry)) done k file (now (books .exit)) ⌝ }
+{
+    let mut i = k;
+    while done < i {
+        let before = areas::entry_word(books, areas::BOOK_WORDS, i - 1, 0);
+        areas::write_word(books, areas::BOOK_WORDS, i, 0, before);
+        i -= 1;
+    }
+    areas::write_word(books, areas::BOOK_WORDS, done, 0, file);
 }

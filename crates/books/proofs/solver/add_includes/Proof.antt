@@ -27,8 +27,7 @@ returns : tie.Need-returns Inv-loop μ-loop
 returns c =
     let c6 = c .before .before .before .before .before .before in
     c .before .before .before .loop .inv .1 _ _ (includes-other (c6 .args .tree .now) (c .before .before .before .loop .j) (c6 .args .end)
-    (c .before .before .before .loop .grew) (c .before .before .before .loop .set) (c .before .before .loop-test .taken) (c .before .field .ensures)
-    (c .if1 .taken))
+    (c .before .before .before .loop .grew) (c .before .before .before .loop .set) (c .before .field .ensures) (c .if1 .taken))
 
 loop-less : tie.Need-loop-less Inv-loop μ-loop
 loop-less c =
