@@ -16,7 +16,7 @@ use Rattle.definition.proofs.Delivery.{answer-keeps}
 use Rattle.books.specs.Promise.{lengthsOf, saying, logsIn, answering, Compiles}
 
 -- every row has a number
-no-row : {n : ℕ} {es : List Error} → Row n es → n ≡ 0 → ⊥
+pub no-row : {n : ℕ} {es : List Error} → Row n es → n ≡ 0 → ⊥
 no-row row-2 z = omega arith
 no-row row-3 z = omega arith
 no-row row-4 z = omega arith
