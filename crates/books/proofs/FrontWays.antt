@@ -103,15 +103,21 @@ module _ (tree : List ℕ) {x : Shape} (shape-is : x ≡ shapeOf tree) (fine-is 
           let there : missing (root ∷ others) numbers ≡ none = found-none (missing (root ∷ others) numbers) (sym nothing ∙ absent) in
           record {
             refused = λ ne lengths. absurd (ne refl);
-            accepted = λ z. (root, (others, record {
-              fine = is-fine;
-              documents = documents;
-              bundle = rw (← end-is) bundled;
-              distinct = distinct;
-              chosen = chosen;
-              there = there;
-              answers = λ lengths. so-far lengths ∙ rw there;
-            }));
+            accepted = λ z. (
+              root,
+              (
+                others,
+                record {
+                  fine = is-fine;
+                  documents = documents;
+                  bundle = rw (← end-is) bundled;
+                  distinct = distinct;
+                  chosen = chosen;
+                  there = there;
+                  answers = λ lengths. so-far lengths ∙ rw there;
+                },
+              ),
+            );
           }
 
     pub front-missing : {y : ℕ} → m ≡ At y → Fronts tree 6 y set

@@ -59,13 +59,35 @@ module _ {κ : Limits} {s : struct.Book} {c k f m p t l u n b e o : List ℕ} {c
   unfolding areasOf tablesOf
   delivered-words =
       let S = R .ready .rest z in
-      rw (← filled-is (S .code), ← filled-is (S .constants), ← filled-is (S .functions), ← filled-is (S .models), ← filled-is properties-are,
-      ← filled-is (S .methods), ← filled-is (S .locals), ← filled-is publics-are, ← filled-is (S .names), ← filled-is (S .breaks), ← filled-is (S .errors),
-      ← filled-is shelved)
+      rw (
+        ← filled-is (S .code),
+        ← filled-is (S .constants),
+        ← filled-is (S .functions),
+        ← filled-is (S .models),
+        ← filled-is properties-are,
+        ← filled-is (S .methods),
+        ← filled-is (S .locals),
+        ← filled-is publics-are,
+        ← filled-is (S .names),
+        ← filled-is (S .breaks),
+        ← filled-is (S .errors),
+        ← filled-is shelved,
+      )
 
   pub delivered-reply : saying (delivery (totals s books globals)) ≡ replyOf (Delivery context)
   unfolding replyOf tablesOf
   delivered-reply =
       let S = R .ready .rest z in
-      rw (S .code .count, S .constants .count, S .functions .count, S .models .count, properties-are .count, S .methods .count, S .locals .count,
-      publics-are .count, shelved .count, S .entry, marked)
+      rw (
+        S .code .count,
+        S .constants .count,
+        S .functions .count,
+        S .models .count,
+        properties-are .count,
+        S .methods .count,
+        S .locals .count,
+        publics-are .count,
+        shelved .count,
+        S .entry,
+        marked,
+      )

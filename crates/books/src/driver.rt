@@ -1,10 +1,21 @@
 // `backend/dependency_solver.rs`: the books of a bundle, one after the other, over lent areas. Private: their promise is relational.
+ghost use mathlib.Core.Path.{_≡_};
+ghost use lib.ListN.{replicate};
 ghost use Rattle.building.specs.Taking.{taken};
-ghost use Rattle.books.specs.Driving.{Rings};
+ghost use Rattle.books.specs.Driving.{Rings, Fronts, FirstConstants};
+use crate::solver;
+use building::scopes::Found;
 use building::taking;
 use building::taking::Taken;
+use tree::Shape;
 use words::areas;
 use words::reply;
+
+// A row of 01 and its place; row 0 for none.
+pub struct Row {
+    pub number: u64,
+    pub place: u64,
+}
 
 // A waiting book's entry of area 12 is its file number, then its document's record.
 const PLACE_UNIT: u64 = 1048576;
@@ -17,8 +28,60 @@ fn ring(done: usize, count: usize, errors: &mut [u64], books: &[u64]) -> Taken
     let mut k = done;
     while k < count {
         let file = areas::entry_word(books, areas::BOOK_WORDS, k, 0) / PLACE_UNIT;
-        t = taking::take4(errors, areas::ERRORS, t.full, t.count, reply::ERROR_RING, 0, 0, file);
+        t = taking::take4(
+            errors,
+            areas::ERRORS,
+            t.full,
+            t.count,
+            reply::ERROR_RING,
+            0,
+            0,
+            file,
+        );
         k += 1;
     }
     t
+}
+
+// Rows 2 to 6, and the set of the books needed.
+fn front(tree: &[u64], chosen: &mut [u64]) -> Row
+    requires { ⌜ now chosen ≡ replicate 16384 0 ⌝ }
+    ensures { λ r. ⌜ Fronts (now (tree .entry)) (r .number) (r .place) (now (chosen .exit)) ⌝ }
+{
+    let shape = tree::check(tree);
+    if let Shape::Refused(number, at) = shape {
+        let place = at as u64;
+        return Row { number, place };
+    }
+    let end = tree.len() / 4;
+    let mut present = [0; 16384];
+    let double = solver::twice(tree, end, &mut present);
+    if let Found::At(place) = double {
+        return Row {
+            number: reply::BOOK_TWICE,
+            place,
+        };
+    }
+    let mut next = [0; 16384];
+    solver::needed(tree, end, chosen, &mut next);
+    let absent = solver::missing(chosen, &present);
+    if let Found::At(place) = absent {
+        return Row {
+            number: reply::BOOK_MISSING,
+            place,
+        };
+    }
+    Row {
+        number: 0,
+        place: 0,
+    }
+}
+
+// The three constants that every program begins with: null, true and false.
+fn first_constants(constants: &mut [u64]) -> Taken
+    ensures { λ r. ⌜ FirstConstants (now (constants .entry)) r (now (constants .exit)) ⌝ }
+{
+    let a = taking::take3(constants, areas::CONSTANTS, 0, 0, 0, 0, 0);
+    let b = taking::take3(constants, areas::CONSTANTS, a.full, a.count, 1, 1, 0);
+    taking::take3(constants, areas::CONSTANTS, b.full, b.count, 1, 0, 0)
 }

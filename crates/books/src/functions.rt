@@ -2,11 +2,11 @@
 ghost use mathlib.Core.Path.{_≡_};
 ghost use Rattle.tree.specs.At.{isParameter};
 ghost use Rattle.books.specs.Making.{instanceBy, MeetsParameter, MeetsParameters, ParametersEnd};
+use crate::body;
 use building::function_state;
 use building::function_state::FunctionState;
 use building::scopes;
 use building::scopes::Found;
-use crate::body;
 use words::record;
 use words::record::field;
 use words::reply;
