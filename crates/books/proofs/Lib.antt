@@ -23,3 +23,4 @@ pub mod Beginning
 pub mod BundleRange
 pub mod BookWays
 pub mod StandsLaws
+pub mod Ending

@@ -39,16 +39,16 @@ use Rattle.books.proofs.Tokens.{skip-law}
 module _ (calm : (d : Definition) → Calms (compileDefinition d)) {tree : List ℕ} {end done count : ℕ} {set books : List ℕ} {s : struct.Book}
     {c k f m p t l u n b e : List ℕ} where
   -- no book is left
-  pub drive-end : count ≤ done → (place : ℕ) → Drives tree end done count set books s c k f m p t l u n b e s c k f m p t l u n b e books 0 place
+  pub drive-end : count ≤ done → {place : ℕ} → place ≡ done → Drives tree end done count set books s c k f m p t l u n b e s c k f m p t l u n b e books 0 place
   unfolding drive
-  drive-end past place = record { drives = go }
+  drive-end past {place} place-is = record { drives = go }
     where
       go : (ds : List Document) (left rest compiled : List ℕ) (κ : Limits) (context : Context) (uses : List Use)
           → Driving ds tree end done count left rest compiled set books κ s c k f m p t l u n b e context uses
           → Outcome κ s c k f m p t l u n b e books rest 0 place (drive (length left) ds compiled left context uses)
       go ds [] rest compiled κ context uses D = record {
         full = D .resting .ready .full;
-        came = λ z. came-delivered refl (D .resting) (D .stands .words);
+        came = λ z. came-delivered refl (place-is ∙ D .so-many) (D .resting) (D .stands .words);
       }
       go ds (x ∷ left) rest compiled κ context uses D = absurd (omega (arith, D .in-all))
 

@@ -47,7 +47,8 @@ totals s books globals = record {
 }
 
 module _ {κ : Limits} {s : struct.Book} {c k f m p t l u n b e o : List ℕ} {context : Context} {uses : List Use} {books globals : ℕ}
-    (R : Resting κ s c k f m p t l u n b e context uses) (z : s .full ≡ 0) (shelved : Filled 1 o (entriesFrom bookEntry 0 (context .assemblies)) books)
+    (R : Resting κ s c k f m p t l u n b e context uses) (z : s .full ≡ 0) (shelved : o ≡ filled (length o) (entriesFrom bookEntry 0 (context .assemblies)))
+    (many : books ≡ length (entriesFrom bookEntry 0 (context .assemblies)))
     (marked : globals ≡ globalDependencies (context .pool .globals) 0 (context .pool .constants)) where
   properties-are : Filled 2 p (entriesFrom modelProperties 0 (context .models)) (s .properties)
   properties-are = rw (append-nil (entriesFrom modelProperties 0 (context .models))) at (R .ready .rest z .properties)
@@ -71,7 +72,7 @@ module _ {κ : Limits} {s : struct.Book} {c k f m p t l u n b e o : List ℕ} {c
         ← filled-is (S .names),
         ← filled-is (S .breaks),
         ← filled-is (S .errors),
-        ← filled-is shelved,
+        ← shelved,
       )
 
   pub delivered-reply : saying (delivery (totals s books globals)) ≡ replyOf (Delivery context)
@@ -87,7 +88,7 @@ module _ {κ : Limits} {s : struct.Book} {c k f m p t l u n b e o : List ℕ} {c
         S .methods .count,
         S .locals .count,
         publics-are .count,
-        shelved .count,
+        many,
         S .entry,
         marked,
       )

@@ -5,18 +5,18 @@ use mathlib.Core.Option.{none}
 use mathlib.Core.List.{List, [], _∷_, _++_}
 use lib.ListN.{length, replicate}
 use Rattle.words.specs.Ast.{Definition, Document}
-use Rattle.words.specs.Areas.{entriesIn, entryWord, constantsArea, errorsArea, booksArea}
-use Rattle.words.specs.Object.{defaultConstants}
+use Rattle.words.specs.Areas.{entriesIn, entryWord, entryField, constantsArea, errorsArea, booksArea}
+use Rattle.words.specs.Object.{Constant, defaultConstants}
 use Rattle.tree.specs.At.{DefinitionAt, sizeD, DocumentAt, sizeDoc, RunAt, runSize}
 use Rattle.definition.specs.Uses.{Use, Limits, firstOver}
 use Rattle.definition.specs.Compiler.{Error}
-use Rattle.definition.specs.Program.{entriesFrom, constantEntry, errorEntry}
+use Rattle.definition.specs.Program.{bit, entriesFrom, constantEntry, errorEntry, globalDependencies}
 use Rattle.definition.specs.DependencySolver.{needed, missing, compileNeeded, filesOf, drive, Ending, Delivered, Faulty, Ring, Worked}
 use Rattle.definition.specs.Answer.{Refusal, ringErrors, answerWorked, limitsOf, answer}
 use Rattle.tree.specs.Check.{shapeOf}
 use Rattle.tree.specs.Reading.{documentsOf}
 use Rattle.tree.specs.declared.Shape.the-variants.{Fine}
-use Rattle.definition.specs.Book.{newContext, Context, Book, opened, compileDefinition, compileDefinitions}
+use Rattle.definition.specs.Book.{hasText, newContext, Context, Book, opened, compileDefinition, compileDefinitions}
 use Rattle.definition.specs.Within.{All}
 use Rattle.definition.proofs.Limits.{LimitedFunction, LimitedDocument, functionsIn}
 use Rattle.building.specs.declared.taking.Taken.{Taken}
@@ -103,9 +103,9 @@ pub record Fronts (tree : List ℕ) (row place : ℕ) (set : List ℕ) : Type 0 
   pub refused : (row ≡ 0 → ⊥) → (lengths : List ℕ) → answer tree lengths ≡ Refusal row place []
   pub accepted : row ≡ 0 → (root : Document) × ((others : List Document) × Accepted tree set root others)
 
--- how the books end, where nothing is full: `rest` is what stands in area 12 behind the books
+-- how the books end, where nothing is full: `rest` is what stands in area 12 behind the books; of a delivery `place` is the number of books
 pub data Came (κ : Limits) (s : struct.Book) (c k f m p t l u n b e books rest : List ℕ) (row place : ℕ) (uses : List Use) : Ending → Type 0 where
-  came-delivered : {context : Context} → row ≡ 0 → Resting κ s c k f m p t l u n b e context uses → books ≡ filesOf (context .assemblies) ++ rest
+  came-delivered : {context : Context} → row ≡ 0 → place ≡ length (context .assemblies) → Resting κ s c k f m p t l u n b e context uses → books ≡ filesOf (context .assemblies) ++ rest
       → Came κ s c k f m p t l u n b e books rest row place uses (Delivered context)
   came-faulty : {file : ℕ} {es : List Error} → row ≡ 7 → place ≡ file → Filled 4 e (entriesFrom errorEntry 0 es) (s .errors)
       → Came κ s c k f m p t l u n b e books rest row place uses (Faulty file es)
@@ -170,3 +170,8 @@ pub record Works (tree set : List ℕ) (c k f m p t l u n b e o : List ℕ) (s�
       → ((s : struct.Book) → Lent κ s c k f m p t l u n b e o)
       → (rest : List ℕ) × (Zero rest × Outcome κ s′ c′ k′ f′ m′ p′ t′ l′ u′ n′ b′ e′ o′ rest row place
       (compileNeeded (needed [] root others) (root ∷ others) newContext))
+
+-- `count_marked`: the constants from a place on that are marked, n counted before it
+pub record MarkedFrom (k : List ℕ) (i count n r : ℕ) : Type 0 where
+  pub marked : (gs : List ℕ) (cs : List Constant) → ((j : ℕ) → j < length cs → entryField 3 (i + j) 2 k ≡ bit (hasText (i + j) gs)) → i + length cs ≡ count
+      → r ≡ n + globalDependencies gs i cs
