@@ -5,3 +5,4 @@ pub mod Tokens
 pub mod Runs
 pub mod ExpressionWays
 pub mod StatementWays
+pub mod VariableWays
