@@ -6,3 +6,4 @@ pub mod Runs
 pub mod ExpressionWays
 pub mod StatementWays
 pub mod VariableWays
+pub mod InfixWays

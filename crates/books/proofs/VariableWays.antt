@@ -13,7 +13,8 @@ use Rattle.words.specs.Opcode.{toInstruction, word, LocalInit}
 use Rattle.words.specs.Record.{tokenAt, kindAt, positionAt, valueAt}
 use Rattle.definition.specs.FunctionState.{defineLocal}
 use Rattle.definition.specs.Uses.{Limits}
-use Rattle.definition.specs.Compiler.{Work, Step, withFunction, pushError, skip, bareBy, valuedBy, compileBare, compileValued, compileExpression, compileVariables}
+use Rattle.definition.specs.Compiler.{Work, Step, withFunction, pushError, skip, bareBy, valuedBy}
+use Rattle.definition.specs.Compiler.{compileBare, compileValued, compileExpression, compileVariables}
 use Rattle.definition.specs.Program.{Entries}
 use Rattle.definition.proofs.Steady.{Steadily, steady-trans, steady-define, steady-error, steady-bare, steady-valued, steady-expression}
 use Rattle.tree.specs.At.{VariablesAt, sizeE, sizeVs}
