@@ -33,6 +33,10 @@ pub target-full : {tree : List ℕ} {at end token start count : ℕ} {locals : L
     → MeetsTarget tree at end token start count locals m m
 target-full {tree} {token = token} ne = record { meets = λ x h l. full-does (steady-target x (tokenAt tree token)) ne }
 
+pub target-past : {tree : List ℕ} {at end token start count : ℕ} {locals : List ℕ} {m m′ : Machine} → end ≤ at
+    → MeetsTarget tree at end token start count locals m m′
+target-past p = record { meets = λ x h l. absurd (omega (arith, sizeE-pos x)) }
+
 -- two expressions and then an opcode, at the position of the record before them
 pair-does : {tree : List ℕ} {at end start count : ℕ} {locals : List ℕ} {m : Machine} {s s′ : FunctionState} {c c′ k n b e : List ℕ} {position : ℕ} (o : ℕ)
     (t : Token) (x y : Expression) → position ≡ t .position → MeetsTwo tree at end start count locals m (machine s c k n b e)

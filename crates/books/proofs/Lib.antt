@@ -7,3 +7,4 @@ pub mod ExpressionWays
 pub mod StatementWays
 pub mod VariableWays
 pub mod InfixWays
+pub mod IfWays

@@ -52,6 +52,12 @@ module _ {tree : List ℕ} {at end start count : ℕ} {locals : List ℕ} where
     };
   }
 
+  pub block-past : {m m′ : Machine} → end ≤ at → MeetsBlock tree at end start count locals m m′
+  block-past p = record { meets = λ ss h q. absurd (omega arith) }
+
+  pub inner-past : {m m′ : Machine} → end ≤ at → MeetsInner tree at end start count locals m m′
+  inner-past p = record { meets = λ s h q. absurd (omega (arith, sizeS-pos s)) }
+
   pub full-meets : {m : Machine} → (m .state .full ≡ 0 → ⊥) → MeetsS tree at end start count locals m m
   full-meets ne = record { meets = λ s h q. full-does (steady-statement s) ne }
 

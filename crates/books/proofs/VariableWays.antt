@@ -143,6 +143,9 @@ module _ {tree : List ℕ} {at end start count : ℕ} {locals : List ℕ} {name 
 
 -- the loop over variables: each is a name and its value, or none
 module _ {tree : List ℕ} {at end start count : ℕ} {locals : List ℕ} where
+  pub variable-past : {m m′ : Machine} → end ≤ at → MeetsVariable tree at end start count locals m m′
+  variable-past p = record { bare = λ t h h₁ l. absurd (omega arith); valued = λ t x h h₁ l. absurd (omega arith) }
+
   pub list-end : {m : Machine} → end ≤ at → MeetsVariables tree at end start count locals m m
   unfolding compileVariables VariablesAt sizeVs skip
   list-end {m} past = record { meets = go }
