@@ -105,8 +105,10 @@ module _ {tree : List ℕ} {at end start count : ℕ} {locals : List ℕ} {name 
     variable-bare q = record {
       bare = λ t h h₁ l. subst (λ (x : ℕ). Does start count locals (machine s c k n b e) (machine (d .state) c k n′ b e) (defining x (λ o. bareBy o 1 t)))
           (named tree at name-is t (h .token))
-          (record { meets = λ κ E w I H. go t (withFunction (defineLocal name (w .function) .state) w) (define-law H D (I .is-open))
-              (defineLocal name (w .function) .found) (here D new H) });
+          (record {
+            meets = λ κ E w I H. go t (withFunction (defineLocal name (w .function) .state) w) (define-law H D (I .is-open))
+                (defineLocal name (w .function) .found) (here D new H);
+          });
       valued = λ t x h h₁ l. absurd (value-there x tree (at + 1) h₁ (sym kind-is ∙ q));
     }
       where
@@ -125,11 +127,13 @@ module _ {tree : List ℕ} {at end start count : ℕ} {locals : List ℕ} {name 
       valued = λ t x h h₁ l. subst (λ (y : ℕ). Does start count locals (machine s c k n b e) (machine s′ c′ k₂ n₂ b₂ e₂)
           (defining y (λ o. valuedBy o t (compileExpression x))))
           (named tree at name-is t (h .token))
-          (record { meets = λ κ E w I H. go κ E t x (position-is ∙ sym (ap (λ (u : Token). u .position) (h .token)))
-              (withFunction (defineLocal name (w .function) .state) w)
-              (M .meets x h₁ l .meets κ E (withFunction (defineLocal name (w .function) .state) w)
-              (inside-after (steady-define name w) (balanced-define name w) I) (define-law H D (I .is-open)))
-              (defineLocal name (w .function) .found) (here D new H) });
+          (record {
+            meets = λ κ E w I H. go κ E t x (position-is ∙ sym (ap (λ (u : Token). u .position) (h .token)))
+                (withFunction (defineLocal name (w .function) .state) w)
+                (M .meets x h₁ l .meets κ E (withFunction (defineLocal name (w .function) .state) w)
+                (inside-after (steady-define name w) (balanced-define name w) I) (define-law H D (I .is-open)))
+                (defineLocal name (w .function) .found) (here D new H);
+          });
     }
       where
         go : (κ : Limits) (E : Entries) (t : Token) (x : Expression) → position ≡ t .position → (w : Work)
