@@ -5,3 +5,6 @@ pub mod Tokens
 pub mod Runs
 pub mod ExpressionWays
 pub mod StatementWays
+pub mod VariableWays
+pub mod InfixWays
+pub mod IfWays

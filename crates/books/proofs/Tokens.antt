@@ -199,7 +199,7 @@ module _ (tree : List ℕ) (at : ℕ) {s : FunctionState} {c e : List ℕ} where
     };
   }
 
-positive : (m : ℕ) → (m ≡ 0 → ⊥) → 0 < m
+pub positive : (m : ℕ) → (m ≡ 0 → ⊥) → 0 < m
 positive zero h = absurd (h refl)
 positive (suc m) h = omega arith
 
