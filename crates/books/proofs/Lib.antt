@@ -3,5 +3,6 @@ pub mod Steps
 pub mod Leaves
 pub mod Tokens
 pub mod Runs
+pub mod Loops
 pub mod ExpressionWays
 pub mod StatementWays
