@@ -10,30 +10,9 @@ same-length : tie.Need-same-length
 same-length c =
     let c8 = c .before .before .before .before .before .before .before .before in
     let c13 = c8 .before .before .before .before .before in
-    let c15 = c13 .before .before in
-    let c16 = c15 .before in
-    let c19 = c16 .before .before .before in
-    let c21 = c19 .before .before in
-    let c22 = c21 .before in
-    let c26 = c22 .before .before .before .before in
-    let c28 = c26 .before .before in
-    let c29 = c28 .before in
-    let c30 = c29 .before in
-    omega (
-      arith,
-      c .before .before .exit-scope .kept,
-      c8 .exit-break-scope .kept,
-      c13 .replace-instruction .kept,
-      c15 .to-instruction3 .kept,
-      c16 .get-next-instruction-index .kept,
-      c19 .emit2 .kept,
-      c21 .to-instruction2 .kept,
-      c22 .get-last-position2 .kept,
-      c26 .emit .kept,
-      c28 .to-instruction .kept,
-      c29 .wrapping-add-u64 .kept,
-      c30 .get-last-position .kept,
-    )
+    let c19 = c13 .before .before .before .before .before .before in
+    let c26 = c19 .before .before .before .before .before .before .before in
+    omega (arith, c26 .emit .kept, c19 .emit2 .kept, c13 .replace-instruction .kept, c8 .exit-break-scope .kept)
 
 returns : tie.Need-returns
 returns c =

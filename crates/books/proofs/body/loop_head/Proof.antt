@@ -9,24 +9,16 @@ use native.Mathlib.Omega.{arith}
 same-length : tie.Need-same-length
 same-length c =
     let c6 = c .before .before .before .before .before .before in
-    let c8 = c6 .before .before in
-    let c9 = c8 .before in
-    let c14 = c9 .before .before .before .before .before in
+    let c14 = c6 .before .before .before .before .before .before .before .before in
     let c19 = c14 .before .before .before .before .before in
     let c23 = c19 .before .before .before .before in
-    let c25 = c23 .before .before in
-    let c26 = c25 .before in
     omega (
       arith,
-      c .before .before .emit-opcode-without-position2 .kept,
-      c6 .emit2 .kept,
-      c8 .to-instruction2 .kept,
-      c9 .wrapping-add-u64 .kept,
-      c14 .constant .kept,
-      c19 .emit-opcode-without-position .kept,
       c23 .emit .kept,
-      c25 .to-instruction .kept,
-      c26 .field .kept,
+      c19 .emit-opcode-without-position .kept,
+      c14 .constant .kept,
+      c6 .emit2 .kept,
+      c .before .before .emit-opcode-without-position2 .kept,
     )
 
 returns : tie.Need-returns

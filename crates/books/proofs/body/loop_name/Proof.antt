@@ -8,32 +8,8 @@ use native.Mathlib.Omega.{arith}
 
 same-length-2 : tie.Need-same-length-2
 same-length-2 c =
-    let c6 = c .before .before .before .before .before .before in
-    let c8 = c6 .before .before in
-    let c11 = c8 .before .before .before in
-    let c13 = c11 .before .before in
-    let c16 = c13 .before .before .before in
-    let c18 = c16 .before .before in
-    let c19 = c18 .before in
-    let c24 = c19 .before .before .before .before .before in
-    let c26 = c24 .before .before in
-    let c27 = c26 .before in
-    let c28 = c27 .before in
-    omega (
-      arith,
-      c .before .before .emit-opcode-without-position2 .kept,
-      c6 .emit2 .kept,
-      c8 .to-instruction2 .kept,
-      c11 .emit-opcode-without-position .kept,
-      c13 .get-next-instruction-index2 .kept,
-      c16 .emit .kept,
-      c18 .to-instruction .kept,
-      c19 .get-next-instruction-index .kept,
-      c24 .define-local .kept,
-      c26 .field3 .kept,
-      c27 .field2 .kept,
-      c28 .field .kept,
-    )
+    let c24 = c .before .before .before .before .before .before .before .before .before .before .before .before .before .before .before .before .before .before .before .before .before .before .before .before in
+    omega (arith, c24 .define-local .kept)
 
 returns : tie.Need-returns
 returns c =
