@@ -6,3 +6,4 @@ pub mod Runs
 pub mod Loops
 pub mod ExpressionWays
 pub mod StatementWays
+pub mod LoopWays

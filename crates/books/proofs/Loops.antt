@@ -147,31 +147,31 @@ pub name-names : {tree : List ℕ} {at name local : ℕ} {s s₂ s₃ s₄ s₅ 
     → LoopName tree at name local s c n (record { first = first; exit = exit; state = s₅ }) c₅ n′
 name-names {tree} {at} {name} {s = s} {n = n} {n′ = n′} {d = d} {index = index}
     position-is text-is q-is D index-is first-is as-word d₂ exit-is d₃ as-word′ d₄ d₅ = record {
-  names = λ x agree k b e κ E w op H.
-      let t = tokenAt tree at in
-      let m = tokenAt tree name in
-      let u = loopDefined m w in
-      let w₂ = loopNext x t m w in
-      let w₃ = emitOpcodeWithoutPosition JumpIf w₂ in
-      let o = defineLocal (m .value) (w .function) .found in
-      let i = getOr 0 o in
-      let w₄ = emit (toInstruction LocalSet i) (m .position) w₃ in
-      let D′ : Defines (valueAt tree name) (naming s n) d n′ = rw (← text-is) D in
-      let H₁ = define-law H D′ op in
-      let H₂ = emitted (toInstruction ForNext x) (t .position) d₂ (λ z. as-local ForNext x as-word (agree (define-mark D z))) (λ z. position-is) H₁ in
-      let H₃ = last-emitted JumpIf d₃ H₂ in
-      let here : d .state .full ≡ 0 → index ≡ i % 2 ^ 64 = λ z. index-is ∙ ap foundOrZero (define-found H D′ (define-mark D z)) ∙ found-zero o in
-      let S₃ = twice-steady ForNext x (t .position) JumpIf u in
-      let H₄ = emitted (toInstruction LocalSet i) (m .position) d₄ (λ z. as-local LocalSet i as-word′ (here (back (S₃ .uses) H₁ H₃ z))) (λ z. q-is) H₃ in
-      let H₅ = last-emitted Pop d₅ H₄ in
-      let S₅ = twice-steady LocalSet i (m .position) Pop w₃ in
-      let S₂ = steady-trans (steady-function w₂ (method.emitOpcodeWithoutPosition JumpIf (w₂ .function)) refl) S₅ in
-      record {
-        held = H₅;
-        first = λ z. first-is ∙ next-law H₁ (back (steady-trans S₃ S₅ .uses) H₁ H₅ z);
-        exit = λ z. exit-is ∙ next-law H₂ (back (S₂ .uses) H₂ H₅ z);
-      };
-}
+      names = λ x agree k b e κ E w op H.
+          let t = tokenAt tree at in
+          let m = tokenAt tree name in
+          let u = loopDefined m w in
+          let w₂ = loopNext x t m w in
+          let w₃ = emitOpcodeWithoutPosition JumpIf w₂ in
+          let o = defineLocal (m .value) (w .function) .found in
+          let i = getOr 0 o in
+          let w₄ = emit (toInstruction LocalSet i) (m .position) w₃ in
+          let D′ : Defines (valueAt tree name) (naming s n) d n′ = rw (← text-is) D in
+          let H₁ = define-law H D′ op in
+          let H₂ = emitted (toInstruction ForNext x) (t .position) d₂ (λ z. as-local ForNext x as-word (agree (define-mark D z))) (λ z. position-is) H₁ in
+          let H₃ = last-emitted JumpIf d₃ H₂ in
+          let here : d .state .full ≡ 0 → index ≡ i % 2 ^ 64 = λ z. index-is ∙ ap foundOrZero (define-found H D′ (define-mark D z)) ∙ found-zero o in
+          let S₃ = twice-steady ForNext x (t .position) JumpIf u in
+          let H₄ = emitted (toInstruction LocalSet i) (m .position) d₄ (λ z. as-local LocalSet i as-word′ (here (back (S₃ .uses) H₁ H₃ z))) (λ z. q-is) H₃ in
+          let H₅ = last-emitted Pop d₅ H₄ in
+          let S₅ = twice-steady LocalSet i (m .position) Pop w₃ in
+          let S₂ = steady-trans (steady-function w₂ (method.emitOpcodeWithoutPosition JumpIf (w₂ .function)) refl) S₅ in
+          record {
+            held = H₅;
+            first = λ z. first-is ∙ next-law H₁ (back (steady-trans S₃ S₅ .uses) H₁ H₅ z);
+            exit = λ z. exit-is ∙ next-law H₂ (back (S₂ .uses) H₂ H₅ z);
+          };
+    }
 
 -- `loop_end`
 pub end-ends : {around s s₁ s₂ s₃ s′ : FunctionState} {c c₁ c₂ c₃ c₄ n b n′ b′ : List ℕ} {first exit p iterator v p₁ v₁ following v₂ : ℕ}
@@ -183,24 +183,24 @@ pub end-ends : {around s s₁ s₂ s₃ s′ : FunctionState} {c c₁ c₂ c₃ 
 unfolding method.exitBreakScope
 end-ends {around} {s} {s₁} {s₂} {s₃} {s′} {c₃ = c₃} {c₄ = c₄} {n = n} {b = b} {b′ = b′} {exit = exit} {v₂ = v₂}
     position-is more as-word d₁ last-is as-word₁ d₂ following-is as-word₂ replaced left out = record {
-  ends = λ x first′ exit′ k e κ E w A hf hx H.
-      let f = w .function in
-      let w₁ = emit (toInstruction Iterate (x + 1)) (getLastPosition f) w in
-      let w₂ = emit (toInstruction Jump first′) (getLastPosition (w₁ .function)) w₁ in
-      let w₃ = replaceInstruction exit′ (toInstruction JumpIf (next w₂)) w₂ in
-      let w₄ = doing (method.exitBreakScope exit′) w₃ in
-      let S₁ : Steady w w₁ = steady-function w _ refl in
-      let S₂ : Steady w w₂ = steady-trans S₁ (steady-function w₁ _ refl) in
-      let S₃ : Steady w w₃ = steady-trans S₂ (steady-function w₂ _ refl) in
-      let S₄ : Steady w w₄ = steady-trans S₃ (steady-function w₃ _ refl) in
-      let H₁ = emitted (toInstruction Iterate (x + 1)) (getLastPosition f) d₁ (λ z. as-local Iterate (x + 1) as-word (next-local x more (A z .local)))
-      (λ z. position-is ∙ last-position-law H z) H in
-      let H₂ = emitted (toInstruction Jump first′) (getLastPosition (w₁ .function)) d₂
-      (λ z. as-word₁ ∙ ap (λ (i : ℕ). word (toInstruction Jump i)) (hf (back (S₁ .uses) H H₁ z))) (λ z. last-is ∙ last-position-law H₁ z) H₁ in
-      let R = replace-law exit v₂ exit′ (toInstruction JumpIf (next w₂)) (λ z. hx (back (S₂ .uses) H H₂ z))
-      (λ z. as-word₂ ∙ ap (λ (i : ℕ). word (toInstruction JumpIf i)) (following-is ∙ next-law H₂ z)) H₂ in
-      let H₃ : Held κ E (machine s₂ c₃ k n b e) w₃ = rw (ap (λ (m : Coded). m .code) replaced) R in
-      let H₄ = held-breaking s₃ c₄ b′ left (exit-break-law exit′ (around .«break_base») (around .«in_loop») H₃ (λ z. A (back (S₃ .uses) H H₃ z) .loop)
-      (λ z. A (back (S₃ .uses) H H₃ z) .in-loop)) in
-      exit-law H₄ out (λ z. A (back (S₄ .uses) H H₄ z) .scope);
-}
+      ends = λ x first′ exit′ k e κ E w A hf hx H.
+          let f = w .function in
+          let w₁ = emit (toInstruction Iterate (x + 1)) (getLastPosition f) w in
+          let w₂ = emit (toInstruction Jump first′) (getLastPosition (w₁ .function)) w₁ in
+          let w₃ = replaceInstruction exit′ (toInstruction JumpIf (next w₂)) w₂ in
+          let w₄ = doing (method.exitBreakScope exit′) w₃ in
+          let S₁ : Steady w w₁ = steady-function w _ refl in
+          let S₂ : Steady w w₂ = steady-trans S₁ (steady-function w₁ _ refl) in
+          let S₃ : Steady w w₃ = steady-trans S₂ (steady-function w₂ _ refl) in
+          let S₄ : Steady w w₄ = steady-trans S₃ (steady-function w₃ _ refl) in
+          let H₁ = emitted (toInstruction Iterate (x + 1)) (getLastPosition f) d₁ (λ z. as-local Iterate (x + 1) as-word (next-local x more (A z .local)))
+          (λ z. position-is ∙ last-position-law H z) H in
+          let H₂ = emitted (toInstruction Jump first′) (getLastPosition (w₁ .function)) d₂
+          (λ z. as-word₁ ∙ ap (λ (i : ℕ). word (toInstruction Jump i)) (hf (back (S₁ .uses) H H₁ z))) (λ z. last-is ∙ last-position-law H₁ z) H₁ in
+          let R = replace-law exit v₂ exit′ (toInstruction JumpIf (next w₂)) (λ z. hx (back (S₂ .uses) H H₂ z))
+          (λ z. as-word₂ ∙ ap (λ (i : ℕ). word (toInstruction JumpIf i)) (following-is ∙ next-law H₂ z)) H₂ in
+          let H₃ : Held κ E (machine s₂ c₃ k n b e) w₃ = rw (ap (λ (m : Coded). m .code) replaced) R in
+          let H₄ = held-breaking s₃ c₄ b′ left (exit-break-law exit′ (around .«break_base») (around .«in_loop») H₃ (λ z. A (back (S₃ .uses) H H₃ z) .loop)
+          (λ z. A (back (S₃ .uses) H H₃ z) .in-loop)) in
+          exit-law H₄ out (λ z. A (back (S₄ .uses) H H₄ z) .scope);
+    }
