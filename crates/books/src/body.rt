@@ -1,7 +1,7 @@
 // `backend/compiler.rs`: expressions, statements and function bodies over lent areas. Private: their promise is relational.
 ghost use mathlib.Core.Path.{_≡_};
 ghost use Prim.Native.Nat.{_<_};
-ghost use Rattle.words.specs.Record.{tokenAt, kindAt};
+ghost use Rattle.words.specs.Record.{tokenAt, kindAt, positionAt};
 ghost use Rattle.words.specs.Codes.{numberOf};
 ghost use Rattle.words.specs.Object.{constantOf};
 ghost use Rattle.words.specs.Opcode.{PushConstant};
@@ -9,6 +9,7 @@ ghost use Rattle.definition.specs.Compiler.{pushError, emitConstant, emitGlobal
 ghost use Rattle.definition.specs.Compiler.{skip};
 ghost use Rattle.books.specs.Meets.{OnErrors, OnFaults, OnPool, OnNames, Leafs, standingOf, skipC};
 ghost use Rattle.books.specs.Meets.{Counted, operationOf, Operates};
+ghost use Rattle.books.specs.Looping.{LoopStart, LoopHead, LoopName, LoopEnd, foundOrZero};
 use building::context;
 use building::function_state;
 use building::function_state::FunctionState;
@@ -325,4 +326,116 @@ fn operation(code: &mut [u64], state: FunctionState, value: u64, position: u64) 
         return function_state::emit_opcode(code, s1, OpCode::Not, position);
     }
     s1
+}
+
+// Where a loop starts, where the jump out of it stands, and the state.
+struct LoopEntry {
+    first: usize,
+    exit: usize,
+    state: FunctionState,
+}
+
+// The locals of a loop's enumerable and iterator, its scope and its breaks.
+fn loop_start(state: FunctionState) -> FunctionState
+    ensures { λ r. ⌜ LoopStart state r ⌝ }
+{
+    let s1 = scopes::define_anonymous_local(state);
+    let s2 = scopes::define_anonymous_local(s1);
+    let s3 = scopes::enter_scope(s2);
+    function_state::enter_break_scope(s3)
+}
+
+// The enumerable and the iterator into their locals.
+fn loop_head(
+    tree: &[u64],
+    at: usize,
+    code: &mut [u64],
+    constants: &mut [u64],
+    state: FunctionState,
+    enumerable: u64,
+) -> FunctionState
+    ensures { λ r. ⌜ LoopHead enumerable (positionAt (now (tree .entry)) at) state (now (code .entry)) (now (constants .entry)) r (now (code .exit))
+        (now (constants .exit)) ⌝ }
+{
+    let position = field(tree, at, record::POSITION);
+    let set = OpCode::LocalSet.to_instruction(enumerable);
+    let s1 = function_state::emit(code, state, set, position);
+    let s2 = function_state::emit_opcode_without_position(code, s1, OpCode::Pop);
+    let s3 = constant(code, constants, s2, INTEGER_KIND, 0, position);
+    let iterator = std::num::wrapping_add_u64(enumerable, 1);
+    let start = OpCode::LocalSet.to_instruction(iterator);
+    let s4 = function_state::emit(code, s3, start, position);
+    function_state::emit_opcode_without_position(code, s4, OpCode::Pop)
+}
+
+// A local's number. The Rust unwraps: a loop's name is in a scope just entered, so it is found.
+fn found_or_zero(found: Found) -> u64
+    ensures { λ r. ⌜ r ≡ foundOrZero found ⌝ }
+{
+    match found {
+        Found::At(i) => i,
+        Found::Nothing => 0,
+    }
+}
+
+// A turn's start: the next element or the exit, and the element into the local of the loop's name.
+fn loop_name(
+    tree: &[u64],
+    at: usize,
+    name: usize,
+    code: &mut [u64],
+    names: &mut [u64],
+    state: FunctionState,
+    enumerable: u64,
+) -> LoopEntry
+    ensures { λ r. ⌜ LoopName (now (tree .entry)) at name enumerable state (now (code .entry)) (now (names .entry)) r (now (code .exit))
+        (now (names .exit)) ⌝ }
+{
+    let position = field(tree, at, record::POSITION);
+    let text = field(tree, name, record::VALUE);
+    let text_position = field(tree, name, record::POSITION);
+    let d = scopes::define_local(names, state, text);
+    let s1 = d.state;
+    let found = d.found;
+    let index = found_or_zero(found);
+    let first = function_state::get_next_instruction_index(s1);
+    let next = OpCode::ForNext.to_instruction(enumerable);
+    let s2 = function_state::emit(code, s1, next, position);
+    let exit = function_state::get_next_instruction_index(s2);
+    let s3 = function_state::emit_opcode_without_position(code, s2, OpCode::JumpIf);
+    let set = OpCode::LocalSet.to_instruction(index);
+    let s4 = function_state::emit(code, s3, set, text_position);
+    let s5 = function_state::emit_opcode_without_position(code, s4, OpCode::Pop);
+    LoopEntry {
+        first,
+        exit,
+        state: s5,
+    }
+}
+
+// A turn's end: the next element, and back. Then out of the loop, to the scope and the breaks around it.
+fn loop_end(
+    code: &mut [u64],
+    names: &mut [u64],
+    breaks: &mut [u64],
+    state: FunctionState,
+    around: FunctionState,
+    first: usize,
+    exit: usize,
+) -> FunctionState
+    ensures { λ r. ⌜ LoopEnd around first exit state (now (code .entry)) (now (names .entry)) (now (breaks .entry)) r (now (code .exit))
+        (now (names .exit)) (now (breaks .exit)) ⌝ }
+{
+    let position = function_state::get_last_position(code, state);
+    let iterator = std::num::wrapping_add_u64(around.local_count, 1);
+    let iterate = OpCode::Iterate.to_instruction(iterator);
+    let s1 = function_state::emit(code, state, iterate, position);
+    let last = function_state::get_last_position(code, s1);
+    let back = OpCode::Jump.to_instruction(first as u64);
+    let s2 = function_state::emit(code, s1, back, last);
+    let next = function_state::get_next_instruction_index(s2);
+    let out = OpCode::JumpIf.to_instruction(next as u64);
+    function_state::replace_instruction(code, s2, exit, out);
+    let s3 = function_state::exit_break_scope(code, breaks, s2, around.break_base, around.in_loop);
+    scopes::exit_scope(names, s3, around.scope_base)
 }
