@@ -252,3 +252,6 @@ module _ (tree : List ℕ) (at end : ℕ) where
       go : (t : Bool) → ltb at end ≡ t → (at ≤ next) × (next ≤ max at end)
       go true z = let m = skip-more (ltb-true at end z) q in (omega arith, omega arith)
       go false z = let v : next ≡ at = q ∙ rw z in (omega arith, omega arith)
+
+  pub skip-inside : at ≤ end → {next : ℕ} → next ≡ skipC tree at end → (at ≤ next) × (next ≤ end)
+  skip-inside l q = let m = skip-within q in (omega (arith, m), omega (arith, m, l))
