@@ -1,6 +1,6 @@
 -- `for_part` does the definition's for statement, over what its calls ensure. The numbers of its locals, the scope and the loop around it are
 -- remembered from the state before it: they stand where nothing is full, by the notes, and the scopes are balanced. Assumes nothing.
-use Prim.Native.Nat.{ℕ, _+_, _%_, _^_}
+use Prim.Native.Nat.{ℕ, _+_, _≤_}
 use native.Mathlib.Omega.{arith}
 use mathlib.Core.Path.{_≡_, refl, sym, ap, _∙_}
 use mathlib.Core.List.{List}
@@ -13,7 +13,7 @@ use Rattle.definition.proofs.Steady.{steady-trans, steady-expression, steady-st
 use Rattle.tree.specs.At.{ExpressionAt, StatementAt, StatementsAt, sizeE, sizeS, sizeSs}
 use Rattle.tree.proofs.View.{headE, sizeE-pos}
 use Rattle.building.specs.declared.function_state.FunctionState.{FunctionState}
-use Rattle.building.specs.Held.{machine, isOpen}
+use Rattle.building.specs.Held.{Machine, machine, isOpen}
 use Rattle.building.proofs.Notes.{back}
 use Rattle.books.specs.declared.body.LoopEntry.{LoopEntry}
 use Rattle.books.specs.Meets.{Inside, Does, skipC}
@@ -81,3 +81,8 @@ module _ {tree : List ℕ} {at end start count : ℕ} {locals : List ℕ} {body 
       go t m x ss h q =
           let mid : body ≡ at + 2 + sizeE x = skipped ∙ skip-law tree (at + 2) end (headE x (h .2)) (sizeE-pos x) (omega arith) in
           rw (h .0 .token, h .1 .token) (at-tokens x ss (h .2) (sym mid) (rw mid (h .3)) (omega arith))
+
+-- too short for a for: nothing of the kind stands there
+pub for-past : {tree : List ℕ} {at end start count : ℕ} {locals : List ℕ} {m m′ : Machine} → end ≤ at + 1 → MeetsFor tree at end start count locals m m′
+unfolding sizeS
+for-past p = record { meets = λ t i x ss h q. absurd (omega (arith, sizeE-pos x)) }
