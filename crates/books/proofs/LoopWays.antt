@@ -1,6 +1,6 @@
 -- `for_part` does the definition's for statement, over what its calls ensure. The numbers of its locals, the scope and the loop around it are
 -- remembered from the state before it: they stand where nothing is full, by the notes, and the scopes are balanced. Assumes nothing.
-use Prim.Native.Nat.{ℕ, _+_, _≤_, _%_, _^_}
+use Prim.Native.Nat.{ℕ, _+_, _≤_}
 use native.Mathlib.Omega.{arith}
 use mathlib.Core.Path.{_≡_, refl, sym, ap, _∙_}
 use mathlib.Core.List.{List}
@@ -82,7 +82,7 @@ module _ {tree : List ℕ} {at end start count : ℕ} {locals : List ℕ} {body 
           let mid : body ≡ at + 2 + sizeE x = skipped ∙ skip-law tree (at + 2) end (headE x (h .2)) (sizeE-pos x) (omega arith) in
           rw (h .0 .token, h .1 .token) (at-tokens x ss (h .2) (sym mid) (rw mid (h .3)) (omega arith))
 
--- a name and an expression take two records at least
+-- too short for a for: nothing of the kind stands there
 pub for-past : {tree : List ℕ} {at end start count : ℕ} {locals : List ℕ} {m m′ : Machine} → end ≤ at + 1 → MeetsFor tree at end start count locals m m′
 unfolding sizeS
-for-past past = record { meets = λ t n x ss h q. absurd (omega (arith, sizeE-pos x)) }
+for-past p = record { meets = λ t i x ss h q. absurd (omega (arith, sizeE-pos x)) }

@@ -3,37 +3,34 @@
 use Prim.Native.Nat.{ℕ, _+_, _%_, _^_}
 use native.Mathlib.Nat.{mod-add-mod}
 use native.Mathlib.Omega.{arith}
-use mathlib.Core.Path.{_≡_, refl, sym, ap, _∙_}
-use mathlib.Core.Bool.{Bool, true}
+use mathlib.Core.Path.{_≡_, refl, ap, _∙_}
 use mathlib.Core.Option.{Option, none, some}
-use mathlib.Core.List.{List, []}
+use mathlib.Core.List.{List}
 use Rattle.words.specs.Ast.{Token}
 use Rattle.words.specs.Object.{constantOf, integerKind}
 use Rattle.words.specs.Opcode.{toInstruction, word, Pop, PushConstant, LocalSet, Jump, JumpIf, ForNext, Iterate}
 use Rattle.words.specs.Record.{tokenAt, positionAt, valueAt}
 use Rattle.definition.specs.FunctionState as method
-use Rattle.definition.specs.FunctionState.{getLastPosition, defineLocal, tail}
-use Rattle.definition.specs.Uses.{Limits, total}
-use Rattle.definition.specs.Compiler.{Work, Step, withFunction, doing, emit, emitOpcodeWithoutPosition, replaceInstruction, next, emitConstant, getOr}
+use Rattle.definition.specs.FunctionState.{getLastPosition, defineLocal}
+use Rattle.definition.specs.Uses.{Limits}
+use Rattle.definition.specs.Compiler.{Work, withFunction, doing, emit, emitOpcodeWithoutPosition, replaceInstruction, next, emitConstant, getOr}
 use Rattle.definition.specs.Program.{Entries}
-use Rattle.definition.proofs.Steady.{Steady, Steadily, steady-trans, steady-function, steady-emit, steady-emit-constant, steady-define}
+use Rattle.definition.proofs.Steady.{Steady, Steadily, steady-trans, steady-function, steady-emit-constant, steady-define}
 use Rattle.building.specs.declared.function_state.FunctionState.{FunctionState}
-use Rattle.building.specs.declared.scopes.Found.{Found}
 use Rattle.building.specs.declared.scopes.Defined.{Defined}
 use Rattle.building.specs.Emission.{Coded, coded, nextC, lastPositionC, emitC, emitLastC, replaceC, enterBreakC, breaking, exitBreakC}
 use Rattle.building.specs.Found.{foundOf, wrapped}
 use Rattle.building.specs.Scopes.{naming, enterScopeC, exitScopeC, defineAnonymousC, Defines}
-use Rattle.building.specs.Held.{machine, Held, isOpen}
+use Rattle.building.specs.Held.{machine, Held}
 use Rattle.building.proofs.EmissionLaws.{held-coded, emit-opcode-without-position-law, next-law, last-position-law}
 use Rattle.building.proofs.BreakLaws.{held-breaking, replace-law, exit-break-law}
 use Rattle.building.proofs.ScopeLaws.{enter-law, exit-law, anonymous-law, define-law, define-found, define-mark}
 use Rattle.building.proofs.StateLaws.{enter-break-law}
 use Rattle.building.proofs.Notes.{back, held-renoted}
-use Rattle.books.specs.declared.body.LoopEntry.{LoopEntry}
 use Rattle.books.specs.Meets.{OnPool}
-use Rattle.books.specs.Looping.{loopStart, LoopStart, loopHead, LoopHead, loopDefined, loopNext, loopName, foundOrZero, LoopNamed, LoopName, loopEnd}
-use Rattle.books.specs.Looping.{Around, LoopEnd}
-use Rattle.books.proofs.Balanced.{Balanced, Balancing, balanced-trans, balanced-function, balanced-emit-constant, balanced-define}
+use Rattle.books.specs.Looping.{loopStart, LoopStart, loopHead, LoopHead, loopDefined, loopNext, loopName, foundOrZero, LoopName}
+use Rattle.books.specs.Looping.{LoopEnd}
+use Rattle.books.proofs.Balanced.{Balancing, balanced-trans, balanced-function, balanced-emit-constant, balanced-define}
 use Rattle.books.proofs.Leaves.{emitted, low-bits}
 
 -- `loop_start`
