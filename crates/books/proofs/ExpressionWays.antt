@@ -34,9 +34,6 @@ module _ {tree : List ℕ} {at end start count : ℕ} {locals : List ℕ} where
   pub kind-past : {kind : ℕ} {m m′ : Machine} → end ≤ at → MeetsKind kind tree at end start count locals m m′
   kind-past p = record { meets = λ e q h l. absurd (omega (arith, sizeE-pos e)) }
 
-  pub two-past : {m m′ : Machine} → end ≤ at → MeetsTwo tree at end start count locals m m′
-  two-past p = record { meets = λ a b ha hb q. absurd (omega (arith, sizeE-pos a)) }
-
   pub two-meets : {middle : ℕ} {m m₁ m′ : Machine} → middle ≡ skipC tree at end → MeetsE tree at middle start count locals m m₁
       → MeetsE tree middle end start count locals m₁ m′ → MeetsTwo tree at end start count locals m m′
   two-meets {middle} {m} {m₁} {m′} skipped A B = record { meets = go }

@@ -58,9 +58,6 @@ module _ {tree : List ℕ} {at end start count : ℕ} {locals : List ℕ} where
   pub inner-past : {m m′ : Machine} → end ≤ at → MeetsInner tree at end start count locals m m′
   inner-past p = record { meets = λ s h q. absurd (omega (arith, sizeS-pos s)) }
 
-  pub for-past : {m m′ : Machine} → end ≤ at → MeetsFor tree at end start count locals m m′
-  for-past p = record { meets = λ t i x ss h q. absurd (omega (arith, sizeS-pos (For t i x ss))) }
-
   pub full-meets : {m : Machine} → (m .state .full ≡ 0 → ⊥) → MeetsS tree at end start count locals m m
   full-meets ne = record { meets = λ s h q. full-does (steady-statement s) ne }
 

@@ -1,4 +1,4 @@
-// `backend/compiler.rs`: expressions, statements and function bodies over lent areas. Private: their promise is relational.
+// `backend/compiler.rs`: expressions, statements and function bodies over lent areas. Not public: their promise is relational.
 ghost use mathlib.Core.Path.{_≡_};
 ghost use Prim.Native.Nat.{_<_};
 ghost use Rattle.words.specs.Record.{tokenAt, kindAt, positionAt};
@@ -264,7 +264,7 @@ fn rescue(
 }
 
 // The end of the subtree at a place, held to the end.
-fn skip(tree: &[u64], at: usize, end: usize) -> usize
+pub(crate) fn skip(tree: &[u64], at: usize, end: usize) -> usize
     ensures { λ r. ⌜ r ≡ skipC (now (tree .entry)) at end ⌝ }
 {
     if at < end {
@@ -443,7 +443,7 @@ fn loop_end(
     scopes::exit_scope(names, s3, around.scope_base)
 }
 
-// What stands at `at` and ends exactly at `end` is compiled, here and in each member of the cycle: `compile_expression`.
+// `compile_expression`. Each member of the cycle compiles what stands at `at` and ends exactly at `end`.
 fn expression(
     tree: &[u64],
     at: usize,
@@ -669,6 +669,7 @@ fn two(
     )
 }
 
+// Expressions one after the other.
 fn expressions(
     tree: &[u64],
     at: usize,
@@ -1044,6 +1045,7 @@ fn block(
     state
 }
 
+// Statements one after the other.
 pub(crate) fn statements(
     tree: &[u64],
     at: usize,
@@ -1211,6 +1213,7 @@ fn inner(
     state
 }
 
+// Variables one after the other.
 fn variables(
     tree: &[u64],
     at: usize,
