@@ -3,6 +3,7 @@ pub mod Steps
 pub mod Leaves
 pub mod Tokens
 pub mod Runs
+pub mod Loops
 pub mod ExpressionWays
 pub mod StatementWays
 pub mod Calm
@@ -24,3 +25,7 @@ pub mod BundleRange
 pub mod BookWays
 pub mod StandsLaws
 pub mod Ending
+pub mod VariableWays
+pub mod InfixWays
+pub mod IfWays
+pub mod LoopWays

@@ -6,3 +6,4 @@ pub mod Promise
 pub mod Driving
 pub mod Sets
 pub mod Solving
+pub mod Looping
