@@ -10,3 +10,4 @@ pub mod Shelving
 pub mod Resuming
 pub mod LocalEntries
 pub mod DeedWays
+pub mod LocalWays

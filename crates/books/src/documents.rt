@@ -4,13 +4,17 @@ ghost use Rattle.words.specs.Record.{tokenAt};
 ghost use Rattle.words.specs.Object.{constantOf};
 ghost use Rattle.definition.specs.Book.{pushBookError, addBookConstant, defineContextLocal};
 ghost use Rattle.building.specs.State.{begun};
-ghost use Rattle.books.specs.Deeds.{resumedBook, ErrorsDo, ConstantsPlace, LocalsSeek, LocalsValue};
+ghost use Prim.Native.Nat.{_+_};
+ghost use Rattle.books.specs.Deeds.{resumedBook, ErrorsDo, ConstantsPlace, LocalsSeek, LocalsValue, AddsValue, GivesValue, Binds, DefinesLocals};
 use crate::body;
 use building::context;
 use building::function_state;
 use building::function_state::FunctionState;
 use building::pool;
 use building::scopes::Found;
+use words::record;
+use words::record::field;
+use words::reply;
 
 // The book under compilation: the first full area, the entries in use of each area, the book's index, where its context locals and public names start,
 // and the entry point.
@@ -116,4 +120,111 @@ fn set_value(locals: &mut [u64], book: Book, found: Found, constant: u64)
         context::set_value(locals, book.full, book.locals, i, constant);
         return;
     }
+}
+
+// A constant that is the value of a local.
+fn add_value(
+    constants: &mut [u64],
+    locals: &mut [u64],
+    book: Book,
+    found: Found,
+    kind: u64,
+    value: u64,
+) -> Book
+    ensures { λ r. ⌜ AddsValue book found kind value (now (constants .entry)) (now (locals .entry)) r (now (constants .exit)) (now (locals .exit)) ⌝ }
+{
+    let a = add_constant(constants, book, kind, value);
+    let place = a.place;
+    let b = a.book;
+    set_value(locals, b, found, place);
+    b
+}
+
+// The value of a local: a constant that stands, one to add, or none.
+fn give_value(
+    tree: &[u64],
+    at: usize,
+    book: Book,
+    found: Found,
+    constants: &mut [u64],
+    locals: &mut [u64],
+    errors: &mut [u64],
+) -> Book
+    ensures { λ r. ⌜ GivesValue (now (tree .entry)) at book found (now (constants .entry)) (now (locals .entry)) (now (errors .entry)) r
+        (now (constants .exit)) (now (locals .exit)) (now (errors .exit)) ⌝ }
+{
+    let kind = field(tree, at, record::KIND);
+    let value = field(tree, at, record::VALUE);
+    let constant = body::standing(kind, value);
+    if kind == record::NULL {
+        set_value(locals, book, found, constant);
+        return book;
+    }
+    if kind == record::BOOLEAN {
+        set_value(locals, book, found, constant);
+        return book;
+    }
+    if kind == record::INTEGER {
+        return add_value(constants, locals, book, found, body::INTEGER_KIND, value);
+    }
+    if kind == record::FLOAT {
+        return add_value(constants, locals, book, found, body::FLOAT_KIND, value);
+    }
+    fault(tree, at, errors, book, reply::ERROR_CONSTANT_ONLY)
+}
+
+// A pair of a local definition: a repeated name is passed over before its value is looked at.
+fn binding(
+    tree: &[u64],
+    at: usize,
+    next: usize,
+    book: Book,
+    constants: &mut [u64],
+    locals: &mut [u64],
+    errors: &mut [u64],
+) -> Book
+    ensures { λ r. ⌜ Binds (now (tree .entry)) at next book (now (constants .entry)) (now (locals .entry)) (now (errors .entry)) r
+        (now (constants .exit)) (now (locals .exit)) (now (errors .exit)) ⌝ }
+{
+    let name = field(tree, at, record::VALUE);
+    let d = define_local(locals, book, name);
+    let b = d.book;
+    if b.full != 0 {
+        return b;
+    }
+    let kind = field(tree, next, record::KIND);
+    if kind == record::ABSENT {
+        return b;
+    }
+    let found = d.found;
+    if let Found::At(i) = found {
+        return give_value(tree, next, b, Found::At(i), constants, locals, errors);
+    }
+    b
+}
+
+// `compile_local_definition`: its pairs.
+fn local_definition(
+    tree: &[u64],
+    at: usize,
+    end: usize,
+    book: Book,
+    constants: &mut [u64],
+    locals: &mut [u64],
+    errors: &mut [u64],
+) -> Book
+    ensures { λ r. ⌜ DefinesLocals (now (tree .entry)) (at + 1) end book (now (constants .entry)) (now (locals .entry)) (now (errors .entry)) r
+        (now (constants .exit)) (now (locals .exit)) (now (errors .exit)) ⌝ }
+{
+    if end <= at {
+        return book;
+    }
+    let mut i = at + 1;
+    let mut b = book;
+    while 1 < end - i {
+        let next = i + 1;
+        b = binding(tree, i, next, b, constants, locals, errors);
+        i = next + 1;
+    }
+    b
 }
