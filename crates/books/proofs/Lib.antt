@@ -11,3 +11,5 @@ pub mod Resuming
 pub mod LocalEntries
 pub mod DeedWays
 pub mod LocalWays
+pub mod PublicNames
+pub mod IncludeWays

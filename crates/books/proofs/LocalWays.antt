@@ -102,14 +102,14 @@ module _ (tree : List ℕ) (at next : ℕ) {name : ℕ} (hn : name ≡ valueAt t
   pub binds-full : (s₁ .full ≡ 0 → ⊥) → Binds tree at next s k l e s₁ k l₁ e
   binds-full ne =
       after-name (λ c f m p t u n b κ ps y v there H H₁.
-          let d = defineContextLocal name y in keeping-longer (calm-binding-by (d .place) v (d .book) .uses) ne H₁)
+      let d = defineContextLocal name y in keeping-longer (calm-binding-by (d .place) v (d .book) .uses) ne H₁)
 
   pub binds-absent : {kind : ℕ} → kind ≡ kindAt tree next → kind ≡ 49 → Binds tree at next s k l e s₁ k l₁ e
   unfolding ValueAt
   binds-absent hk q =
       after-name (λ c f m p t u n b κ ps y v there H H₁.
-          let d = defineContextLocal name y in
-          rw (absent (d .place) v (d .book) there (sym hk ∙ q)) H₁)
+      let d = defineContextLocal name y in
+      rw (absent (d .place) v (d .book) there (sym hk ∙ q)) H₁)
     where
       absent : (o : Option ℕ) (v : Option Token) (y : Book) → ValueAt v tree next → kindAt tree next ≡ 49 → compileBindingBy o v y ≡ y
       absent none v y there q = refl
@@ -119,8 +119,8 @@ module _ (tree : List ℕ) (at next : ℕ) {name : ℕ} (hn : name ≡ valueAt t
   pub binds-again : s₁ .full ≡ 0 → found ≡ Nothing → Binds tree at next s k l e s₁ k l₁ e
   binds-again z lost =
       after-name (λ c f m p t u n b κ ps y v there H H₁.
-          let d = defineContextLocal name y in
-          rw (again (d .place) v (d .book) (sym lost ∙ D .seeks c k f m p t u n b e .sought κ ps y H z)) H₁)
+      let d = defineContextLocal name y in
+      rw (again (d .place) v (d .book) (sym lost ∙ D .seeks c k f m p t u n b e .sought κ ps y H z)) H₁)
     where
       again : (o : Option ℕ) (v : Option Token) (y : Book) → Nothing ≡ foundOf o → compileBindingBy o v y ≡ y
       again none v y q = refl
@@ -131,10 +131,10 @@ module _ (tree : List ℕ) (at next : ℕ) {name : ℕ} (hn : name ≡ valueAt t
   unfolding ValueAt
   binds-value z hk n₁ {i} is {s′} {k′} {l′} {e′} G =
       after-name (λ c f m p t u n b κ ps y v there H H₁.
-          let d = defineContextLocal name y in
-          let many : y .context .pool .localCount ≡ length (y .context .localNames) = H .rest (unfilled (calm-local name y .uses) H H₁ z) .counted in
-          go c f m p t u n b κ ps (d .book) (d .place) v there (λ q. n₁ (hk ∙ q)) (sym is ∙ D .seeks c k f m p t u n b e .sought κ ps y H z)
-          (defined-below name y many) H₁)
+      let d = defineContextLocal name y in
+      let many : y .context .pool .localCount ≡ length (y .context .localNames) = H .rest (unfilled (calm-local name y .uses) H H₁ z) .counted in
+      go c f m p t u n b κ ps (d .book) (d .place) v there (λ q. n₁ (hk ∙ q)) (sym is ∙ D .seeks c k f m p t u n b e .sought κ ps y H z)
+      (defined-below name y many) H₁)
     where
       go : (c f m p t u n b : List ℕ) (κ : Limits) (ps : List ℕ) (y : Book) (o : Option ℕ) (v : Option Token) → ValueAt v tree next
           → (kindAt tree next ≡ 49 → ⊥) → At i ≡ foundOf o → Below o (length (y .context .localNames))

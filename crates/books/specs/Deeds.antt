@@ -8,7 +8,8 @@ use Rattle.words.specs.Ast.{Token, Binding}
 use Rattle.words.specs.Object.{constantOf}
 use Rattle.tree.specs.At.{Leaf, ValueAt, BindingAt, RunAt, runSize, double}
 use Rattle.definition.specs.Uses.{Limits}
-use Rattle.definition.specs.Book.{Book, Deed, Placed, MaybePlaced, setLocalValue, addBookConstant, valueOf, compileValue, compileBinding, compileLocalDefinition}
+use Rattle.definition.specs.Book.{Book, Deed, Placed, MaybePlaced, setLocalValue, addBookConstant, valueOf, compileValue, compileBinding}
+use Rattle.definition.specs.Book.{compileLocalDefinition}
 use Rattle.building.specs.declared.function_state.FunctionState.{FunctionState}
 use Rattle.building.specs.declared.scopes.Found.{Found}
 use Rattle.building.specs.declared.taking.Taken.{Taken}

@@ -61,7 +61,8 @@ loop-again c =
         omega (arith, c11 .loop .inv .1 .1, c6 .binding .kept),
         omega (arith, c11 .loop .inv .1 .2, c6 .binding .kept),
       ),
-      λ s k l e h. c11 .loop .inv .2 s k l e (pairs-more (c17 .args .tree .now) (c11 .loop .i) (c17 .args .end) (c10 .loop-test .taken) (c6 .binding .ensures) h),
+      λ s k l e h. c11 .loop .inv .2 s k l e
+          (pairs-more (c17 .args .tree .now) (c11 .loop .i) (c17 .args .end) (c10 .loop-test .taken) (c6 .binding .ensures) h),
     )
 
 same-length : tie.Need-same-length Inv-loop μ-loop
