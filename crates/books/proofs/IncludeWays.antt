@@ -2,7 +2,7 @@
 use Prim.Native.Nat.{ℕ, _+_, _-_, _≤_, _<_}
 use native.Mathlib.Omega.{arith}
 use mathlib.Core.Path.{_≡_, refl, sym, ap, _∙_}
-use mathlib.Core.Bool.{true, false}
+use mathlib.Core.Bool.{false}
 use mathlib.Core.Option.{Option, none, some}
 use mathlib.Core.List.{List, [], _∷_}
 use lib.ListN.{length}
@@ -11,16 +11,16 @@ use borrow.Author.Tests.{eq-eqb, ne-eqb}
 use Rattle.words.specs.Ast.{Token, Alias}
 use Rattle.words.specs.Areas.{entryField}
 use Rattle.words.specs.Record.{valueAt}
-use Rattle.tree.specs.At.{Leaf, AliasAt, RunAt, runSize, double}
+use Rattle.tree.specs.At.{AliasAt, RunAt, runSize, double}
 use Rattle.definition.specs.Uses.{Limits}
-use Rattle.definition.specs.Book.{Assembly, Book, defineContextLocal, setLocalValue, findAssembly, publicOf, includedName, giveValue, compileAlias}
+use Rattle.definition.specs.Book.{Assembly, Book, defineContextLocal, findAssembly, publicOf, includedName, giveValue, compileAlias}
 use Rattle.definition.specs.Book.{compileIncludeDefinition}
 use Rattle.building.specs.declared.scopes.Found.{Found}
 use Rattle.building.specs.declared.scopes.Found.the-variants.{At, Nothing}
 use Rattle.building.specs.Found.{foundOf}
 use Rattle.books.specs.declared.documents.Book as struct
 use Rattle.books.specs.Shelf.{shelf, Keeping, Shelved}
-use Rattle.books.specs.Deeds.{LocalsSeek, Below, Valuable, LocalsValue}
+use Rattle.books.specs.Deeds.{LocalsSeek, Below, LocalsValue}
 use Rattle.books.specs.Including.{isPublic, findBookC, findPublicC, publicConstant, includedBy, includedC, LocalsInclude, TakesName, TakesNames}
 use Rattle.books.proofs.Calm.{calm-local, calm-give, calm-alias}
 use Rattle.books.proofs.Shelving.{keeping-longer, unfilled}

@@ -5,21 +5,21 @@ use mathlib.Core.Path.{_≡_, refl, sym, ap, _∙_}
 use mathlib.Core.Option.{Option, none, some}
 use mathlib.Core.List.{List, [], _∷_}
 use lib.ListN.{length}
-use borrow.Author.Tests.{eq-eqb, ne-eqb}
+use borrow.Author.Tests.{ne-eqb}
 use Rattle.words.specs.Ast.{Token, Binding}
-use Rattle.words.specs.Object.{constantOf}
+use Rattle.words.specs.Object.{constantOf, integerKind, floatKind}
 use Rattle.words.specs.Record.{tokenAt, kindAt, valueAt}
-use Rattle.tree.specs.At.{Leaf, ValueAt, BindingAt, RunAt, runSize, double}
+use Rattle.tree.specs.At.{ValueAt, BindingAt, RunAt, runSize, double}
 use Rattle.definition.specs.Uses.{Limits}
-use Rattle.definition.specs.Book.{Book, Deed, pushBookError, addBookConstant, defineContextLocal, setLocalValue, valueOf, compileValue, compileBindingBy}
+use Rattle.definition.specs.Book.{Book, pushBookError, addBookConstant, defineContextLocal, setLocalValue, valueOf, compileValue, compileBindingBy}
 use Rattle.definition.specs.Book.{compileBinding, compileLocalDefinition, NoConstant}
 use Rattle.building.specs.declared.scopes.Found.{Found}
 use Rattle.building.specs.declared.scopes.Found.the-variants.{At, Nothing}
 use Rattle.building.specs.Found.{foundOf}
 use Rattle.books.specs.declared.documents.Book as struct
 use Rattle.books.specs.Meets.{standingOf}
-use Rattle.books.specs.Shelf.{shelf, Keeping, Deeds}
-use Rattle.books.specs.Deeds.{ErrorsDo, ConstantsPlace, LocalsSeek, Below, Valuable, LocalsValue, LocalsDo, Located, AddsValue, GivesValue, Binds}
+use Rattle.books.specs.Shelf.{shelf, Keeping}
+use Rattle.books.specs.Deeds.{ErrorsDo, ConstantsPlace, LocalsSeek, Below, LocalsValue, LocalsDo, AddsValue, GivesValue, Binds}
 use Rattle.books.specs.Deeds.{DefinesLocals}
 use Rattle.books.proofs.Calm.{calm-constant, calm-local, calm-binding-by}
 use Rattle.books.proofs.Shelving.{keeping-longer, unfilled, deeds-then}
@@ -54,17 +54,17 @@ module _ (tree : List ℕ) (at : ℕ) {kind value : ℕ} (hk : kind ≡ kindAt t
       → GivesValue tree at s found k l e s k l′ e
   gives-null {k} {l} {e} {constant = constant} q r L = gives-standing k l e constant (λ o x. rw (← hk, r, q) refl) L
 
-  pub gives-boolean : {k l e l′ : List ℕ} {constant : ℕ} → (kind ≡ 32 → ⊥) → kind ≡ 36 → constant ≡ standingOf kind value → LocalsValue s l l′ found constant
+  pub gives-boolean : {k l e l′ : List ℕ} {constant : ℕ} → kind ≡ 36 → constant ≡ standingOf kind value → LocalsValue s l l′ found constant
       → GivesValue tree at s found k l e s k l′ e
-  gives-boolean {k} {l} {e} {constant = constant} n₁ q r L = gives-standing k l e constant (λ o x. rw (← hk, ← hv, r, q) refl) L
+  gives-boolean {k} {l} {e} {constant = constant} q r L = gives-standing k l e constant (λ o x. rw (← hk, ← hv, r, q) refl) L
 
-  pub gives-integer : {k l e k′ l′ : List ℕ} {s′ : struct.Book} → kind ≡ 33 → AddsValue s found 2 value k l s′ k′ l′
+  pub gives-integer : {k l e k′ l′ : List ℕ} {s′ : struct.Book} → kind ≡ 33 → AddsValue s found integerKind value k l s′ k′ l′
       → GivesValue tree at s found k l e s′ k′ l′ e
   gives-integer {e = e} q A = record {
     gives = λ c f m p t u n b κ ps x o v leaf B H. rw (leaf .token, ← hk, ← hv, q) (A .adds c f m p t u n b e κ ps x o B H);
   }
 
-  pub gives-float : {k l e k′ l′ : List ℕ} {s′ : struct.Book} → kind ≡ 34 → AddsValue s found 3 value k l s′ k′ l′
+  pub gives-float : {k l e k′ l′ : List ℕ} {s′ : struct.Book} → kind ≡ 34 → AddsValue s found floatKind value k l s′ k′ l′
       → GivesValue tree at s found k l e s′ k′ l′ e
   gives-float {e = e} q A = record {
     gives = λ c f m p t u n b κ ps x o v leaf B H. rw (leaf .token, ← hk, ← hv, q) (A .adds c f m p t u n b e κ ps x o B H);

@@ -1,6 +1,6 @@
 -- The name that an include takes: what the searches in areas 12 and 8 find is what the definition finds among the books before. By induction over the
 -- books and over the entries of their public names. Assumes nothing.
-use Prim.Native.Nat.{ℕ, zero, suc, _+_, _-_, _≤_, _<_}
+use Prim.Native.Nat.{ℕ, zero, suc, _+_, _-_, _<_}
 use native.Mathlib.Nat.{zero-add, sub-zero}
 use native.Mathlib.Omega.{arith}
 use mathlib.Core.Path.{_≡_, refl, sym, ap, _∙_, subst}
@@ -16,10 +16,9 @@ use Rattle.definition.specs.FunctionState.{Entry, findName, orElse}
 use Rattle.definition.specs.Book.{Assembly, Book, findAssembly, publicOf, includedName}
 use Rattle.definition.specs.Program.{Entries, entriesFrom, publicEntries, assemblyPublics}
 use Rattle.building.specs.Found.{firstFrom}
-use Rattle.building.specs.Held.{Filled}
 use Rattle.building.proofs.Filling.{filled-field}
 use Rattle.books.specs.Shelf.{Shelf, Stock, Shelved}
-use Rattle.books.specs.Including.{isBook, findBookC, isPublic, findPublicC, publicConstant, includedBy, includedC}
+use Rattle.books.specs.Including.{isBook, isPublic, findPublicC, publicConstant, includedBy, includedC}
 
 abbrev nobody : Assembly
 nobody = record { filename = 0; index = 0; publics = [] }

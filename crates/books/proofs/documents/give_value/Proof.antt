@@ -16,13 +16,12 @@ returns c =
 
 returns-2 : tie.Need-returns-2
 returns-2 c =
-    let c5 = c .before .before .before .before .before in
-    let c6 = c5 .before in
+    let c6 = c .before .before .before .before .before .before in
     let c7 = c6 .before in
     let c8 = c7 .before in
     let c13 = c8 .before .before .before .before .before in
-    gives-boolean (c13 .args .tree .now) (c13 .args .at) (c8 .field .ensures) (c7 .field2 .ensures) (c5 .if1 .left)
-    (c .before .before .before .before .if2 .taken) (c6 .standing .ensures) (c .before .before .set-value2 .ensures)
+    gives-boolean (c13 .args .tree .now) (c13 .args .at) (c8 .field .ensures) (c7 .field2 .ensures) (c .before .before .before .before .if2 .taken)
+    (c6 .standing .ensures) (c .before .before .set-value2 .ensures)
 
 returns-3 : tie.Need-returns-3
 returns-3 c =
