@@ -29,3 +29,9 @@ pub mod VariableWays
 pub mod InfixWays
 pub mod IfWays
 pub mod LoopWays
+pub mod Resuming
+pub mod LocalEntries
+pub mod DeedWays
+pub mod LocalWays
+pub mod PublicNames
+pub mod IncludeWays

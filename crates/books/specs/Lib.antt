@@ -7,3 +7,5 @@ pub mod Driving
 pub mod Sets
 pub mod Solving
 pub mod Looping
+pub mod Deeds
+pub mod Including
