@@ -1,6 +1,6 @@
 -- One lemma for each way through the routines that keep the books of area 12: those needed, the next that is ready, and its move behind those done.
 -- Assumes nothing.
-use Prim.Native.Nat.{ℕ, zero, suc, _+_, _-_, _*_, _/_, _%_, _^_, _≤_, _<_}
+use Prim.Native.Nat.{ℕ, suc, _+_, _-_, _*_, _/_, _%_, _^_, _≤_, _<_}
 use native.Mathlib.Omega.{arith}
 use native.Mathlib.Decide.{decLt}
 use native.Mathlib.Numerals.{add-one}
@@ -11,26 +11,23 @@ use mathlib.Core.Option.{Option, none, some}
 use mathlib.Core.List.{List, [], _∷_, _++_, append-assoc}
 use lib.ListN.{length, getD, set as set′, take, drop, length-set, length-append, take-append-drop}
 use lib.Seq.{set-split, take-suc-set, drop-set-lt, set-at, getD-at}
-use lib.Dec.{eqb, ltb}
+use lib.Dec.{eqb}
 use lib.Pow.{high, low}
 use borrow.Author.Tests.{eq-eqb, ne-eqb, lt-ltb, le-ltb, eqb-true}
-use Rattle.words.specs.Ast.{Token, Document, Definition, LocalDefinition, IncludeDefinition, ModelDefinition, PublicModelDefinition, PlainFunction}
-use Rattle.words.specs.Ast.{PublicFunction, ImplementDefinition, ApplyDefinition}
+use Rattle.words.specs.Ast.{Document}
 use Rattle.words.specs.Record.{kindAt, valueAt}
-use Rattle.words.specs.Areas.{entriesIn, entryField, booksArea, Patched, setEntry}
-use Rattle.tree.specs.At.{RunAt, runSize, DefinitionAt, sizeD, kindD, DocumentAt, sizeDoc}
-use Rattle.tree.proofs.View.{headD, seeD, sizeD-pos, ViewD}
-use Rattle.tree.proofs.View.ViewD.{v-IncludeDefinition}
-use Rattle.definition.specs.DependencySolver.{dependencies, dependenciesOf, findDocument, missing, missingBy, ready, readyBy, allIn, without}
+use Rattle.words.specs.Areas.{entriesIn, entryField, booksArea, Patched}
+use Rattle.tree.specs.At.{RunAt, runSize, DocumentAt, sizeDoc}
+use Rattle.definition.specs.DependencySolver.{dependencies, dependenciesOf, findDocument, missing, missingBy, ready, allIn, without}
 use Rattle.building.specs.declared.taking.Taken.{Taken}
 use Rattle.building.specs.Taking.{Took, taken}
 use Rattle.building.proofs.Filling.{room-fits}
 use Rattle.books.specs.Meets.{skipC}
-use Rattle.books.specs.Sets.{setSize, bitOf, addBit, allBits, Added, SetIs, NextIn, Below, Ascends}
-use Rattle.books.specs.Solving.{Bundle, InSets, placeOf, FindsDocument, bookUnit, bookWord, waiting, booksOf, TakesBooks, AllIncluded, Stands, Ready}
+use Rattle.books.specs.Sets.{setSize, bitOf, allBits, SetIs, NextIn, Below, Ascends}
+use Rattle.books.specs.Solving.{Bundle, placeOf, FindsDocument, bookUnit, bookWord, waiting, booksOf, TakesBooks, AllIncluded, Stands, Ready}
 use Rattle.books.specs.Solving.{FindsReady, Brings}
 use Rattle.books.proofs.Tokens.{skip-law}
-use Rattle.books.proofs.FileLists.{never, all-bits, found-below, set-add, SetFrom, set-from, next-some, next-none}
+use Rattle.books.proofs.FileLists.{all-bits, found-below, SetFrom, set-from, next-some, next-none}
 use Rattle.books.proofs.BundleWays.{bundle-first, bundle-next, bundle-past, bundle-none, bundle-rest, bundle-fits, defs-end, defs-other, defs-more}
 
 -- `find_document`

@@ -1,31 +1,31 @@
 -- One lemma for each way through the routines that read the documents one after the other. Whatever is answered from here is answered from the start.
 -- Assumes nothing.
-use Prim.Native.Nat.{ℕ, zero, suc, _+_, _-_, _*_, _/_, _≤_, _<_}
+use Prim.Native.Nat.{ℕ, zero, suc, _+_, _/_, _≤_, _<_}
 use native.Mathlib.Omega.{arith}
 use native.Mathlib.Decide.{ℕ-discrete}
 use mathlib.Core.Path.{_≡_, refl, sym, ap, subst, _∙_}
 use mathlib.Core.Bool.{Bool, true, false, cond, not}
-use mathlib.Core.Option.{Option, none, some}
+use mathlib.Core.Option.{none, some}
 use mathlib.Core.List.{List, [], _∷_}
 use lib.ListN.{length}
-use lib.Dec.{eqb, ltb}
-use borrow.Author.Tests.{eq-eqb, ne-eqb, lt-ltb, le-ltb, not-true, not-false}
+use lib.Dec.{eqb}
+use borrow.Author.Tests.{ne-eqb, lt-ltb, le-ltb, not-true, not-false}
 use Rattle.words.specs.Ast.{Token, Document, Definition, LocalDefinition, IncludeDefinition, ModelDefinition, PublicModelDefinition, PlainFunction}
 use Rattle.words.specs.Ast.{PublicFunction, ImplementDefinition, ApplyDefinition}
-use Rattle.words.specs.Record.{kindAt, spanAt, valueAt}
+use Rattle.words.specs.Record.{kindAt, valueAt}
 use Rattle.tree.specs.At.{RunAt, runSize, DefinitionAt, sizeD, kindD, DocumentAt, DocumentsAt, sizeDoc}
 use Rattle.tree.specs.Reading.{listOf}
 use Rattle.tree.proofs.View.{headD, seeD, sizeD-pos, ViewD}
 use Rattle.tree.proofs.View.ViewD.{v-IncludeDefinition}
 use Rattle.definition.specs.Book.{hasText}
 use Rattle.definition.specs.DependencySolver.{dependencies, findDocument, reachedFrom, neededIn, missing}
-use Rattle.definition.specs.Answer.{twice, documentPlaces}
+use Rattle.definition.specs.Answer.{twice}
 use Rattle.building.specs.declared.scopes.Found.{Found}
 use Rattle.building.specs.declared.scopes.Found.the-variants.{At, Nothing}
 use Rattle.building.specs.Found.{foundOf}
 use Rattle.books.specs.Meets.{skipC}
 use Rattle.books.specs.Sets.{setSize, bitOf, addBit, addBits, Added, SetIs, NextIn, Below, Ascends}
-use Rattle.books.specs.Solving.{Bundle, Distinct, InSets, files, Twice, FindsTwice, Includes, Reaches, reachBits, Needs, Misses}
+use Rattle.books.specs.Solving.{Bundle, Distinct, files, FindsTwice, Includes, Reaches, reachBits, Needs, Misses}
 use Rattle.books.proofs.Tokens.{skip-law}
 use Rattle.books.proofs.FileLists.{join, never, has-head, has-tail, set-add, set-reached, reached-ascends, reached-below, same-members, needed-still}
 use Rattle.books.proofs.FileLists.{SetFrom, set-from, Split, next-some, next-none, missing-by}
@@ -155,7 +155,8 @@ twice-whole tree end before {r} {after} T = record {
       let t = T .finds ds [] b s in
       record {
         answer = λ e. t .answer
-            ∙ ap (λ (l : List ℕ). foundOf (twice [] tree l)) (sym (places (length tree / 4) ds tree 0 (length tree / 4) (b .documents) (b .fills ∙ e) (omega arith)));
+            ∙ ap (λ (l : List ℕ). foundOf (twice [] tree l))
+            (sym (places (length tree / 4) ds tree 0 (length tree / 4) (b .documents) (b .fills ∙ e) (omega arith)));
         distinct = t .distinct;
         present = λ h. t .present h (files ds) (λ m g. refl);
       };
@@ -283,7 +284,8 @@ module _ (tree : List ℕ) (i end : ℕ) (set next : List ℕ) {mid : List ℕ} 
         let still : mid ≡ set = R .still (not-true grew g) .1 ∙ q in
         let m : SetIs set (reachedFrom [] ds l l) = subst (λ (x : List ℕ). SetIs x (reachedFrom [] ds l l)) still (reached ds l b u s q) in
         let same : reachedFrom [] ds l l ≡ l
-        = same-members 0 (reachedFrom [] ds l l) l (reached-ascends ds l l a) a (reached-below ds l l (b .numbers) w) w (λ k h. sym (m .has k h) ∙ s .has k h) in
+        = same-members 0 (reachedFrom [] ds l l) l (reached-ascends ds l l a) a (reached-below ds l l (b .numbers) w) w
+        (λ k h. sym (m .has k h) ∙ s .has k h) in
         rw (needed-still (length rest) ds l same) s;
   }
 

@@ -1,6 +1,6 @@
 -- Ascending lists of file numbers: their members, that members determine them, and what is inserted and reached. Then the same by the bits of sets.
 -- Assumes nothing.
-use Prim.Native.Nat.{ℕ, zero, suc, _+_, _*_, _/_, _≤_, _<_}
+use Prim.Native.Nat.{ℕ, zero, suc, _+_, _/_, _≤_, _<_}
 use native.Mathlib.Omega.{arith}
 use native.Mathlib.Decide.{decLt, ℕ-discrete}
 use native.Mathlib.Nat.{div-add-mod'}
@@ -9,12 +9,12 @@ use mathlib.Core.Bool.{Bool, true, false, cond}
 use mathlib.Core.Option.{Option, none, some}
 use mathlib.Core.List.{List, [], _∷_}
 use lib.ListN.{length, length-set}
-use lib.Dec.{eqb, ltb}
-use borrow.Author.Tests.{eq-eqb, ne-eqb, lt-ltb, le-ltb, eqb-true}
+use lib.Dec.{eqb}
+use borrow.Author.Tests.{eq-eqb, ne-eqb, lt-ltb, le-ltb}
 use Rattle.words.specs.Ast.{Document}
 use Rattle.definition.specs.Book.{hasText}
 use Rattle.definition.specs.DependencySolver.{dependencies, dependenciesOf, findDocument, insertNumber, insertNumbers, reachedFrom, neededIn}
-use Rattle.definition.specs.DependencySolver.{missing, missingBy, allIn}
+use Rattle.definition.specs.DependencySolver.{missingBy, allIn}
 use Rattle.books.specs.Sets.{setSize, setWords, bitOf, addBit, addBits, allBits, SetIs, NextIn, Below, Ascends}
 use Rattle.books.specs.Solving.{InSets, Distinct, files, reachBits}
 use Rattle.books.proofs.SetBits.{add-bit}
@@ -246,7 +246,8 @@ reach-bits : (set l : List ℕ) (ds : List Document) (next : List ℕ) (m : ℕ)
 unfolding asked
 reach-bits set l [] next m i s r = refl
 reach-bits set l (d ∷ ds) next m i s r =
-    go (bitOf set (d .filename)) refl (reach-bits set l ds (addBits next deps) m i (addBits-length next deps ∙ s) (r .2)) (reach-bits set l ds next m i s (r .2))
+    go (bitOf set (d .filename)) refl (reach-bits set l ds (addBits next deps) m i (addBits-length next deps ∙ s) (r .2))
+    (reach-bits set l ds next m i s (r .2))
   where
     deps : List ℕ
     deps = dependencies (d .definitions)

@@ -2,18 +2,17 @@
 use Prim.Native.Nat.{ℕ, zero, suc, _+_, _-_, _*_, _/_, _%_, _^_, _≤_, _<_}
 use native.Mathlib.Omega.{arith}
 use native.Mathlib.Decide.{decLt, ℕ-discrete}
-use native.Mathlib.Nat.{zero-div, div-self, div-eq-of-lt, mul-mod-left, pow-suc, mod-lt, div-add-mod', div-lt-iff-lt-mul, div-eq-of-lt-le, lt-div-mul-add, one-mul}
+use native.Mathlib.Nat.{zero-div, div-self, div-eq-of-lt, mul-mod-left, pow-suc, mod-lt, div-add-mod', div-eq-of-lt-le, lt-div-mul-add, one-mul}
 use mathlib.Core.Path.{_≡_, refl, sym, ap, _∙_}
-use mathlib.Core.Bool.{Bool, true, false, cond, not}
-use mathlib.Core.List.{List, [], _∷_}
-use lib.ListN.{length, getD, set, replicate, length-set, length-replicate, getD-replicate, List·getD-eq-default}
+use mathlib.Core.Bool.{Bool, true, false, cond}
+use mathlib.Core.List.{List}
+use lib.ListN.{length, getD, set, List·getD-eq-default}
 use lib.Seq.{getD-set-same, getD-set-other, set-out, ext-getD}
 use lib.Dec.{eqb}
 use lib.Pow.{pow-pos, pow-lt, pow-add, shl-shr, shl-exact}
 use lib.Bits.{bitOr, or-shr, or-mod, or-zero-r}
 use borrow.Author.Tests.{eq-eqb, ne-eqb}
-use Rattle.definition.specs.Book.{hasText}
-use Rattle.books.specs.Sets.{bitOf, addBit, Added, SetIs, NextIn, Passes, setSize, setWords}
+use Rattle.books.specs.Sets.{bitOf, addBit, Added, NextIn, Passes, setSize}
 
 -- powers of two have one bit
 pow-other : (j k : ℕ) → (j ≡ k → ⊥) → 2 ^ k / 2 ^ j % 2 ≡ 0

@@ -4,18 +4,16 @@ use Prim.Native.Nat.{ℕ, zero, suc, _+_, _/_, _%_, _^_, _≤_, _<_}
 use native.Mathlib.Omega.{arith}
 use native.Mathlib.Nat.{zero-div}
 use mathlib.Core.Path.{_≡_, refl, sym, ap, subst, _∙_}
-use mathlib.Core.Bool.{Bool, true, false, cond}
+use mathlib.Core.Bool.{Bool, true, false}
 use mathlib.Core.Option.{Option, none, some}
 use mathlib.Core.List.{List, [], _∷_, _++_}
 use lib.ListN.{length, getD, replicate, length-replicate}
 use lib.Dec.{eqb}
 use borrow.Author.Tests.{eq-eqb}
 use Rattle.words.specs.Ast.{Document}
-use Rattle.words.specs.Areas.{entryField}
-use Rattle.definition.specs.Book.{hasText}
 use Rattle.definition.specs.DependencySolver.{findDocument, missing, missingBy, needed, neededIn, reachedFrom, without}
 use Rattle.books.specs.Sets.{setSize, setWords, bitOf, Added, SetIs, Below, Ascends}
-use Rattle.books.specs.Solving.{Bundle, InSets, booksOf, Stands, Ready, Brings}
+use Rattle.books.specs.Solving.{InSets, Stands, Ready, Brings}
 use Rattle.books.proofs.FileLists.{reached-ascends, reached-below, set-add}
 
 -- zeros are the empty set

@@ -2,9 +2,9 @@
 -- no book stands before (a fresh call)
 use Prim.Native.Nat.{ℕ, _+_, _*_, _/_, _%_, _≤_, _<_}
 use mathlib.Core.Path.{_≡_}
-use mathlib.Core.Bool.{Bool, true, false, cond}
-use mathlib.Core.Option.{Option, none, some}
-use mathlib.Core.List.{List, [], _∷_, _++_, map}
+use mathlib.Core.Bool.{Bool, false, cond}
+use mathlib.Core.Option.{none, some}
+use mathlib.Core.List.{List, [], _∷_, _++_}
 use lib.ListN.{length, drop}
 use lib.Dec.{eqb}
 use Rattle.words.specs.Ast.{Definition, Document}
@@ -14,7 +14,7 @@ use Rattle.tree.specs.At.{RunAt, DefinitionAt, sizeD, DocumentAt, DocumentsAt, 
 use Rattle.definition.specs.DependencySolver.{dependencies, findDocument, needed, missing, ready, without}
 use Rattle.definition.specs.Answer.{twice, documentPlaces}
 use Rattle.building.specs.declared.scopes.Found.{Found}
-use Rattle.building.specs.declared.scopes.Found.the-variants.{At, Nothing}
+use Rattle.building.specs.declared.scopes.Found.the-variants.{Nothing}
 use Rattle.building.specs.declared.taking.Taken.{Taken}
 use Rattle.building.specs.Taking.{taken}
 use Rattle.building.specs.Found.{foundOf}

@@ -1,6 +1,6 @@
 -- `books::solver::all_in` meets its contract. The invariant: what is answered from here is answered from the start. Assumes nothing.
 -- Made from Proof.answers by `answers make`: edit that file, and not this one.
-use Prim.Native.Nat.{ℕ, _-_}
+use Prim.Native.Nat.{_-_}
 use mathlib.Core.Path.{sym, _∙_}
 use mathlib.Core.Bool.{Bool}
 use borrow.Author.Tests.{not-true, not-false}

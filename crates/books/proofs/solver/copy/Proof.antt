@@ -1,6 +1,6 @@
 -- `books::solver::copy` meets its contract. The invariant: what is passed is copied. Assumes nothing.
 -- Made from Proof.answers by `answers make`: edit that file, and not this one.
-use Prim.Native.Nat.{ℕ, _-_, _<_, _≤_}
+use Prim.Native.Nat.{_-_}
 use mathlib.Core.Path.{_≡_, sym}
 use lib.ListN.{length, getD, length-set}
 use Rattle.books.proofs.SetBits.{Copied, copy-more, copy-all}

@@ -40,8 +40,8 @@ loop-again c =
       (skip-more (c6 .args .tree .now) (c .before .before .before .before .loop .i) (c6 .args .end) (c .before .before .before .loop-test .taken)
           (c .skip .ensures)) .1,
       λ r h. c .before .before .before .before .loop .inv .1 r
-          (find-more (c6 .args .tree .now) (c .before .before .before .before .loop .i) (c6 .args .end) (c6 .args .file) (c .before .before .before .loop-test .taken)
-          (c .before .before .field .ensures) (c .before .if1 .left) (c .skip .ensures) h),
+          (find-more (c6 .args .tree .now) (c .before .before .before .before .loop .i) (c6 .args .end) (c6 .args .file)
+          (c .before .before .before .loop-test .taken) (c .before .before .field .ensures) (c .before .if1 .left) (c .skip .ensures) h),
     )
 
 returns-2 : tie.Need-returns-2 Inv-loop μ-loop

@@ -1,7 +1,7 @@
 -- `books::solver::missing` meets its contract. The invariant: what is missing from here is missing from the start. Assumes nothing.
 -- Made from Proof.answers by `answers make`: edit that file, and not this one.
-use Prim.Native.Nat.{ℕ, _-_}
-use mathlib.Core.Path.{_≡_, refl, sym, _∙_}
+use Prim.Native.Nat.{_-_}
+use mathlib.Core.Path.{sym, _∙_}
 use borrow.Author.Tests.{not-true, not-false}
 use Rattle.building.specs.declared.scopes.Found.{Found}
 use Rattle.books.specs.Sets.{setSize}

@@ -1,7 +1,7 @@
 -- `books::solver::needed` meets its contract. The invariant: what is needed from here is needed from the start. Assumes nothing.
 -- Made from Proof.answers by `answers make`: edit that file, and not this one.
 use Prim.Native.Nat.{ℕ, _-_}
-use mathlib.Core.Path.{_≡_, refl, ap, _∙_}
+use mathlib.Core.Path.{_≡_, refl, ap}
 use mathlib.Core.List.{List}
 use lib.ListN.{length}
 use Rattle.books.proofs.Tokens.{skip-more}
