@@ -6,7 +6,8 @@ use mathlib.Core.Option.{Option, none, some}
 use mathlib.Core.List.{List}
 use Rattle.words.specs.Ast.{Token}
 use Rattle.words.specs.Object.{Constant}
-use Rattle.definition.specs.FunctionState.{findName}
+use Rattle.definition.specs.FunctionState.{Entry, findName}
+use Rattle.definition.specs.Book.{Placed, addMethods, publish}
 use Rattle.definition.specs.Book.{Book, Deed, working, pushBookError, addBookConstant, noted, defineContextLocalBy, defineContextLocal, setLocalValue, giveValue}
 use Rattle.definition.proofs.Steady.{Longer, same, more, longer-trans, steady-constant}
 
@@ -54,3 +55,10 @@ calm-value (some i) c b = record { uses = same; assemblies = refl; filename = re
 pub calm-give : (o p : Option ℕ) → Calms (giveValue o p)
 calm-give o none b = calm-refl b
 calm-give o (some c) b = calm-value o c b
+
+pub calm-methods : (o : Option ℕ) (es : List Entry) → Calms (addMethods o es)
+calm-methods none es b = calm-refl b
+calm-methods (some m) es b = record { uses = more same; assemblies = refl; filename = refl; index = refl }
+
+pub calm-publish : (name : ℕ) (p : Placed) → Calm (p .book) (publish name p)
+calm-publish name p = record { uses = more same; assemblies = refl; filename = refl; index = refl }

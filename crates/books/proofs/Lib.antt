@@ -7,3 +7,6 @@ pub mod ExpressionWays
 pub mod StatementWays
 pub mod Calm
 pub mod Shelving
+pub mod Pairs
+pub mod Stocking
+pub mod MethodWays

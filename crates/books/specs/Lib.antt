@@ -1,3 +1,4 @@
 pub mod Meets
 pub mod Members
 pub mod Shelf
+pub mod Modelling

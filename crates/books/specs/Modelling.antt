@@ -1,0 +1,44 @@
+-- What the routines of `models.rt` promise: whatever the areas that they do not have hold, counts and areas then stand for the deed's book
+use Prim.Native.Nat.{ℕ, _-_}
+use mathlib.Core.Bool.{Bool, false, cond}
+use mathlib.Core.Option.{Option, some}
+use mathlib.Core.List.{List, [], _∷_}
+use lib.Dec.{eqb}
+use Rattle.words.specs.Areas.{entryField}
+use Rattle.definition.specs.Book.{addMethods}
+use Rattle.building.specs.declared.taking.Taken.{Taken}
+use Rattle.building.specs.Found.{firstFrom}
+use Rattle.books.specs.declared.documents.Book.{Book}
+use Rattle.books.specs.Shelf.{shelf, Deeds}
+
+-- the counts after an entry more of area 6
+abbrev pub withMethodCount : Taken → Book → Book
+withMethodCount t s = record {
+  full = t .full;
+  code = s .code;
+  constants = s .constants;
+  functions = s .functions;
+  models = s .models;
+  properties = s .properties;
+  methods = t .count;
+  locals = s .locals;
+  publics = s .publics;
+  errors = s .errors;
+  file = s .file;
+  «first_local» = s .«first_local»;
+  «first_public» = s .«first_public»;
+  «entry_point» = s .«entry_point»;
+}
+
+-- whether the first two words of entry i are a and b
+abbrev pub isPair : ℕ → ℕ → ℕ → List ℕ → ℕ → Bool
+isPair width a b w i = cond (eqb (entryField width i 0 w) a) (eqb (entryField width i 1 w) b) false
+
+-- the first such entry from entry `from` on, up to the count
+abbrev pub findPairC : ℕ → ℕ → ℕ → ℕ → ℕ → List ℕ → Option ℕ
+findPairC width from count a b w = firstFrom (isPair width a b w) (count - from) from
+
+-- `insert_method`: area 6
+pub record InsertsMethod (model name function : ℕ) (s : Book) (t : List ℕ) (s′ : Book) (t′ : List ℕ) : Type 0 where
+  pub deeds : (c k f m p l u n b e : List ℕ) → Deeds (shelf s c k f m p t l u n b e) (shelf s′ c k f m p t′ l u n b e)
+      (addMethods (some model) (record { name = name; index = function } ∷ []))

@@ -1,0 +1,75 @@
+// `backend/compiler.rs`: models, their methods and public names over lent areas. Not public: their promise is relational.
+ghost use mathlib.Core.Path.{_≡_};
+ghost use Rattle.building.specs.Found.{foundOf};
+ghost use Rattle.books.specs.Modelling.{isPair, findPairC, InsertsMethod};
+use crate::documents::Book;
+use building::scopes::Found;
+use building::taking;
+use words::areas;
+
+// The word of a method's entry that is its function.
+const FUNCTION: usize = 2;
+
+// Whether the first two words of an entry are a and b.
+fn is_pair(area: &[u64], width: usize, i: usize, a: u64, b: u64) -> bool
+    ensures { λ r. ⌜ r ≡ isPair width a b (now (area .entry)) i ⌝ }
+{
+    if areas::entry_word(area, width, i, 0) == a {
+        return areas::entry_word(area, width, i, 1) == b;
+    }
+    false
+}
+
+// The first entry from `from` on, up to the count, whose first two words are a and b.
+pub(crate) fn find_pair(
+    area: &[u64],
+    width: usize,
+    from: usize,
+    count: usize,
+    a: u64,
+    b: u64,
+) -> Found
+    ensures { λ r. ⌜ r ≡ foundOf (findPairC width from count a b (now (area .entry))) ⌝ }
+{
+    let mut i = from;
+    while i < count {
+        if is_pair(area, width, i, a, b) {
+            return Found::At(i as u64);
+        }
+        i += 1;
+    }
+    Found::Nothing
+}
+
+// One entry for a model and a name: the last function wins.
+pub(crate) fn insert_method(
+    methods: &mut [u64],
+    book: Book,
+    model: u64,
+    name: u64,
+    function: u64,
+) -> Book
+    ensures { λ r. ⌜ InsertsMethod model name function book (now (methods .entry)) r (now (methods .exit)) ⌝ }
+{
+    if book.full != 0 {
+        return book;
+    }
+    let found = find_pair(methods, areas::METHOD_WORDS, 0, book.methods, model, name);
+    if let Found::At(i) = found {
+        areas::write_word(methods, areas::METHOD_WORDS, i as usize, FUNCTION, function);
+        return book;
+    }
+    let t = taking::take3(
+        methods,
+        areas::METHODS,
+        book.full,
+        book.methods,
+        model,
+        name,
+        function,
+    );
+    let mut b = book;
+    b.full = t.full;
+    b.methods = t.count;
+    b
+}
