@@ -10,3 +10,4 @@ pub mod Shelving
 pub mod Pairs
 pub mod Stocking
 pub mod MethodWays
+pub mod PublicWays

@@ -75,7 +75,7 @@ module _ (model name function : ℕ) where
             → Stock ps (shelf s c k f m p t l u n b e) w
             → Inserting noMethod (λ x. sameMethod x (methodOf model name function)) (methodOf model name function) (w .context .methods) 0 (some i)
             → Keeping κ ps (shelf s c k f m p t′ l u n b e) (addMethods (some model) (record { name = name; index = function } ∷ []) w)
-        go c k f m p l u n b e κ ps w H S (there j q h r set-is) =
+        go c k f m p l u n b e κ ps w H S (there j q h r set-is first) =
             let xs = w .context .methods in
             let words : t′ ≡ set t (i * 3 + 2) function =
             patch-there i 2 function (omega arith) (omega (arith, rows-count methodWords [] xs noMethod (omega arith) (S .methods))) (omega arith) (S .methods) P in

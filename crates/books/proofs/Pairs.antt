@@ -35,12 +35,17 @@ insertBy t e [] = e ∷ []
 insertBy t e (x ∷ xs) = cond (t x) (e ∷ xs) (x ∷ insertBy t e xs)
 
 pub data Inserting {A : Type 0} (d : A) (t : A → Bool) (e : A) (xs : List A) (from : ℕ) : Option ℕ → Type 0 where
-  there : {i : ℕ} (j : ℕ) → i ≡ from + j → j < length xs → t (getD xs j d) ≡ true → insertBy t e xs ≡ set xs j e → Inserting d t e xs from (some i)
+  there : {i : ℕ} (j : ℕ) → i ≡ from + j → j < length xs → t (getD xs j d) ≡ true → insertBy t e xs ≡ set xs j e
+      → ((k : ℕ) → k < j → t (getD xs k d) ≡ false) → Inserting d t e xs from (some i)
   new : insertBy t e xs ≡ xs ++ (e ∷ []) → Inserting d t e xs from none
 
 module _ {A : Type 0} (d : A) (t : A → Bool) (e : A) where
   next : (x : A) (xs : List A) (from : ℕ) → t x ≡ false → {o : Option ℕ} → Inserting d t e xs (from + 1) o → Inserting d t e (x ∷ xs) from o
-  next x xs from q (there {i = i} j p h r s) = there {i = i} (suc j) (omega arith) (omega arith) r (rw q (ap (λ (l : List A). x ∷ l) s))
+  next x xs from q (there {i = i} j p h r s first) = there {i = i} (suc j) (omega arith) (omega arith) r (rw q (ap (λ (l : List A). x ∷ l) s)) earlier
+    where
+      earlier : (k : ℕ) → k < suc j → t (getD (x ∷ xs) k d) ≡ false
+      earlier zero l = q
+      earlier (suc k) l = first k (omega arith)
   next x xs from q (new s) = new (rw q (ap (λ (l : List A). x ∷ l) s))
 
   -- what the search finds is where the insert puts it
@@ -57,7 +62,7 @@ module _ {A : Type 0} (d : A) (t : A → Bool) (e : A) where
 
       go : (b : Bool) → t x ≡ b → Inserting d t e xs (from + 1) (firstFrom test (length xs) (from + 1))
           → Inserting d t e (x ∷ xs) from (cond (test from) (some from) (firstFrom test (length xs) (from + 1)))
-      go true q r = rw (here, q) (there {i = from} 0 (omega arith) (omega arith) q (rw q))
+      go true q r = rw (here, q) (there {i = from} 0 (omega arith) (omega arith) q (rw q) (λ k l. absurd (omega arith)))
       go false q r = rw (here, q) (next x xs from q r)
 
 -- a word of an entry in use is there

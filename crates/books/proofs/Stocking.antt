@@ -6,8 +6,9 @@ use mathlib.Core.List.{List, [], _∷_, _++_}
 use lib.ListN.{length}
 use Rattle.words.specs.Areas.{widthOf, entriesIn}
 use Rattle.definition.specs.Uses.{Use, using′, Limits, limitOf}
+use Rattle.definition.specs.FunctionState.{Entry}
 use Rattle.definition.specs.Book.{Method, Book, noted, withMethods}
-use Rattle.definition.specs.Program.{Entries, entriesFrom, methodEntry}
+use Rattle.definition.specs.Program.{Entries, entriesFrom, methodEntry, assemblyPublics, publicEntries}
 use Rattle.building.specs.declared.taking.Taken.{Taken}
 use Rattle.building.specs.Taking.{taken}
 use Rattle.building.specs.Held.{Filled, Sized}
@@ -15,7 +16,7 @@ use Rattle.building.proofs.Filling.{over-fits, over-here}
 use Rattle.building.proofs.ContextLaws.{Grown, grown, over}
 use Rattle.books.specs.declared.documents.Book as struct
 use Rattle.books.specs.Shelf.{Shelf, shelf, Stock, Fitted, Keeping}
-use Rattle.books.specs.Modelling.{withMethodCount}
+use Rattle.books.specs.Modelling.{withMethodCount, withPublicCount}
 
 module _ {κ : Limits} {ps : List ℕ} {m : Shelf} {b : Book} (H : Keeping κ ps m b) (z : m .book .full ≡ 0) {ps′ : List ℕ} {m′ : Shelf} (area count : ℕ)
     (b′ : Book) (same : b′ .uses ≡ b .uses) where
@@ -88,6 +89,52 @@ fitted-methods e F = record {
   methods = rw e (F .methods);
   locals = F .locals;
   publics = F .publics;
+  names = F .names;
+  breaks = F .breaks;
+  errors = F .errors;
+}
+
+-- area 8
+pub stock-publics : {ps : List ℕ} {m : Shelf} {b : Book} {l : List Entry} {us : List Use} {u′ : List ℕ} {full n : ℕ} → Stock ps m b
+    → Filled 3 u′ (entriesFrom assemblyPublics 0 (b .context .assemblies) ++ publicEntries (b .assembly .index) l) n
+    → Stock ps (shelf (withPublicCount (taken full n) (m .book)) (m .code) (m .constants) (m .functions) (m .models) (m .properties) (m .methods)
+    (m .locals) u′ (m .names) (m .breaks) (m .errors))
+    (record { compiler = b .compiler; assembly = record { filename = b .assembly .filename; index = b .assembly .index; publics = l }; context = b .context; uses = us })
+stock-publics S f = record {
+  code = S .code;
+  sized = S .sized;
+  constants = S .constants;
+  marks = S .marks;
+  functions = S .functions;
+  models = S .models;
+  properties = S .properties;
+  methods = S .methods;
+  locals = S .locals;
+  counted = S .counted;
+  valued = S .valued;
+  named = S .named;
+  publics = f;
+  first-public = S .first-public;
+  file = S .file;
+  last-index = S .last-index;
+  indexed = S .indexed;
+  entry = S .entry;
+  names = S .names;
+  breaks = S .breaks;
+  errors = S .errors;
+}
+
+pub fitted-publics : {κ : Limits} {m : Shelf} {u′ : List ℕ} {s : struct.Book} → length u′ ≡ length (m .publics) → Fitted κ m
+    → Fitted κ (shelf s (m .code) (m .constants) (m .functions) (m .models) (m .properties) (m .methods) (m .locals) u′ (m .names) (m .breaks) (m .errors))
+fitted-publics e F = record {
+  code = F .code;
+  constants = F .constants;
+  functions = F .functions;
+  models = F .models;
+  properties = F .properties;
+  methods = F .methods;
+  locals = F .locals;
+  publics = rw e (F .publics);
   names = F .names;
   breaks = F .breaks;
   errors = F .errors;

@@ -1,15 +1,55 @@
 -- What the routines of `models.rt` promise: whatever the areas that they do not have hold, counts and areas then stand for the deed's book
 use Prim.Native.Nat.{ℕ, _-_}
+use mathlib.Core.Path.{_≡_}
 use mathlib.Core.Bool.{Bool, false, cond}
 use mathlib.Core.Option.{Option, some}
 use mathlib.Core.List.{List, [], _∷_}
 use lib.Dec.{eqb}
 use Rattle.words.specs.Areas.{entryField}
-use Rattle.definition.specs.Book.{addMethods}
+use Rattle.definition.specs.Uses.{Limits}
+use Rattle.definition.specs.Book.{Placed, addMethods, publish}
 use Rattle.building.specs.declared.taking.Taken.{Taken}
 use Rattle.building.specs.Found.{firstFrom}
 use Rattle.books.specs.declared.documents.Book.{Book}
-use Rattle.books.specs.Shelf.{shelf, Deeds}
+use Rattle.books.specs.Shelf.{shelf, Keeping, Deeds}
+
+-- the counts after an entry more of area 4
+abbrev pub withModelCount : Taken → Book → Book
+withModelCount t s = record {
+  full = t .full;
+  code = s .code;
+  constants = s .constants;
+  functions = s .functions;
+  models = t .count;
+  properties = s .properties;
+  methods = s .methods;
+  locals = s .locals;
+  publics = s .publics;
+  errors = s .errors;
+  file = s .file;
+  «first_local» = s .«first_local»;
+  «first_public» = s .«first_public»;
+  «entry_point» = s .«entry_point»;
+}
+
+-- the counts after an entry more of area 5
+abbrev pub withPropertyCount : Taken → Book → Book
+withPropertyCount t s = record {
+  full = t .full;
+  code = s .code;
+  constants = s .constants;
+  functions = s .functions;
+  models = s .models;
+  properties = t .count;
+  methods = s .methods;
+  locals = s .locals;
+  publics = s .publics;
+  errors = s .errors;
+  file = s .file;
+  «first_local» = s .«first_local»;
+  «first_public» = s .«first_public»;
+  «entry_point» = s .«entry_point»;
+}
 
 -- the counts after an entry more of area 6
 abbrev pub withMethodCount : Taken → Book → Book
@@ -30,6 +70,25 @@ withMethodCount t s = record {
   «entry_point» = s .«entry_point»;
 }
 
+-- the counts after an entry more of area 8
+abbrev pub withPublicCount : Taken → Book → Book
+withPublicCount t s = record {
+  full = t .full;
+  code = s .code;
+  constants = s .constants;
+  functions = s .functions;
+  models = s .models;
+  properties = s .properties;
+  methods = s .methods;
+  locals = s .locals;
+  publics = t .count;
+  errors = s .errors;
+  file = s .file;
+  «first_local» = s .«first_local»;
+  «first_public» = s .«first_public»;
+  «entry_point» = s .«entry_point»;
+}
+
 -- whether the first two words of entry i are a and b
 abbrev pub isPair : ℕ → ℕ → ℕ → List ℕ → ℕ → Bool
 isPair width a b w i = cond (eqb (entryField width i 0 w) a) (eqb (entryField width i 1 w) b) false
@@ -42,3 +101,8 @@ findPairC width from count a b w = firstFrom (isPair width a b w) (count - from)
 pub record InsertsMethod (model name function : ℕ) (s : Book) (t : List ℕ) (s′ : Book) (t′ : List ℕ) : Type 0 where
   pub deeds : (c k f m p l u n b e : List ℕ) → Deeds (shelf s c k f m p t l u n b e) (shelf s′ c k f m p t′ l u n b e)
       (addMethods (some model) (record { name = name; index = function } ∷ []))
+
+-- `publish`: area 8, of a constant whose number is the definition's where nothing is full
+pub record Publishes (place name : ℕ) (s : Book) (u : List ℕ) (s′ : Book) (u′ : List ℕ) : Type 0 where
+  pub meets : (c k f m p t l n b e : List ℕ) (κ : Limits) (ps : List ℕ) (q : Placed) → Keeping κ ps (shelf s c k f m p t l u n b e) (q .book)
+      → (s .full ≡ 0 → place ≡ q .place) → Keeping κ ps (shelf s′ c k f m p t l u′ n b e) (publish name q)

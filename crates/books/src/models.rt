@@ -1,14 +1,17 @@
 // `backend/compiler.rs`: models, their methods and public names over lent areas. Not public: their promise is relational.
 ghost use mathlib.Core.Path.{_≡_};
 ghost use Rattle.building.specs.Found.{foundOf};
-ghost use Rattle.books.specs.Modelling.{isPair, findPairC, InsertsMethod};
+ghost use Rattle.books.specs.Modelling.{isPair, findPairC, InsertsMethod, Publishes};
 use crate::documents::Book;
+use crate::documents::Placed;
 use building::scopes::Found;
 use building::taking;
 use words::areas;
 
-// The word of a method's entry that is its function.
+// The words of an entry that are a method's function and a public name's constant.
 const FUNCTION: usize = 2;
+
+const CONSTANT: usize = 2;
 
 // Whether the first two words of an entry are a and b.
 fn is_pair(area: &[u64], width: usize, i: usize, a: u64, b: u64) -> bool
@@ -71,5 +74,47 @@ pub(crate) fn insert_method(
     let mut b = book;
     b.full = t.full;
     b.methods = t.count;
+    b
+}
+
+// `public_indices.insert`
+pub(crate) fn publish(publics: &mut [u64], placed: Placed, name: u64) -> Book
+    ensures { λ r. ⌜ Publishes (placed .place) name (placed .book) (now (publics .entry)) r (now (publics .exit)) ⌝ }
+{
+    let place = placed.place;
+    let book = placed.book;
+    if book.full != 0 {
+        return book;
+    }
+    let found = find_pair(
+        publics,
+        areas::PUBLIC_NAME_WORDS,
+        book.first_public,
+        book.publics,
+        book.file,
+        name,
+    );
+    if let Found::At(i) = found {
+        areas::write_word(
+            publics,
+            areas::PUBLIC_NAME_WORDS,
+            i as usize,
+            CONSTANT,
+            place,
+        );
+        return book;
+    }
+    let t = taking::take3(
+        publics,
+        areas::PUBLIC_NAMES,
+        book.full,
+        book.publics,
+        book.file,
+        name,
+        place,
+    );
+    let mut b = book;
+    b.full = t.full;
+    b.publics = t.count;
     b
 }
