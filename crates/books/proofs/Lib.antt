@@ -7,7 +7,11 @@ pub mod ExpressionWays
 pub mod StatementWays
 pub mod Calm
 pub mod Shelving
+pub mod ModelCalm
 pub mod Pairs
 pub mod Stocking
 pub mod MethodWays
 pub mod PublicWays
+pub mod Resuming
+pub mod LocalEntries
+pub mod DeedWays

@@ -23,7 +23,7 @@ use Rattle.building.proofs.ContextLaws.{took-law}
 use Rattle.books.specs.declared.documents.Book as struct
 use Rattle.books.specs.Shelf.{Shelf, shelf, Stock, Fitted, Keeping}
 use Rattle.books.specs.Modelling.{isPair, findPairC, withMethodCount, InsertsMethod}
-use Rattle.books.proofs.Calm.{calm-methods}
+use Rattle.books.proofs.ModelCalm.{calm-methods}
 use Rattle.books.proofs.Shelving.{full-deeds}
 use Rattle.books.proofs.Pairs.{found-at, found-none, insertBy, Inserting, there, new, inserting, patch-there, rows-count, rows-more, row-word, row-set}
 use Rattle.books.proofs.Stocking.{keeping-fits, keeping-grown, stock-methods, fitted-methods}

@@ -24,7 +24,7 @@ use Rattle.building.proofs.ContextLaws.{took-law}
 use Rattle.books.specs.declared.documents.Book as struct
 use Rattle.books.specs.Shelf.{Shelf, shelf, Stock, Fitted, Keeping, Deeds, Places}
 use Rattle.books.specs.Modelling.{isPair, findPairC, withPublicCount, Publishes}
-use Rattle.books.proofs.Calm.{calm-publish}
+use Rattle.books.proofs.ModelCalm.{calm-publish}
 use Rattle.books.proofs.Shelving.{keeping-longer}
 use Rattle.books.proofs.Pairs.{found-at, found-none, insertBy, Inserting, there, new, inserting, patch-there, rowsFrom, rows-count, rows-more}
 use Rattle.books.proofs.Pairs.{row-word, row-set}

@@ -28,7 +28,7 @@ const FLOAT_KIND: u64 = 3;
 const TEXT_KIND: u64 = 4;
 
 // An error at the token that a record is.
-fn fault(
+pub(crate) fn fault(
     tree: &[u64],
     at: usize,
     errors: &mut [u64],
