@@ -12,6 +12,7 @@ pub mod Pairs
 pub mod Stocking
 pub mod MethodWays
 pub mod PublicWays
+pub mod PropertyWays
 pub mod Resuming
 pub mod LocalEntries
 pub mod DeedWays

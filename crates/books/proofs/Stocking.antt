@@ -7,8 +7,8 @@ use lib.ListN.{length}
 use Rattle.words.specs.Areas.{widthOf, entriesIn}
 use Rattle.definition.specs.Uses.{Use, using′, Limits, limitOf}
 use Rattle.definition.specs.FunctionState.{Entry}
-use Rattle.definition.specs.Book.{Method, Book, noted, withMethods}
-use Rattle.definition.specs.Program.{Entries, entriesFrom, methodEntry, assemblyPublics, publicEntries}
+use Rattle.definition.specs.Book.{Model, Method, Book, noted, withModels, withMethods}
+use Rattle.definition.specs.Program.{Entries, entriesFrom, modelEntry, modelProperties, propertyEntries, methodEntry, assemblyPublics, publicEntries}
 use Rattle.building.specs.declared.taking.Taken.{Taken}
 use Rattle.building.specs.Taking.{taken}
 use Rattle.building.specs.Held.{Filled, Sized}
@@ -16,7 +16,7 @@ use Rattle.building.proofs.Filling.{over-fits, over-here}
 use Rattle.building.proofs.ContextLaws.{Grown, grown, over}
 use Rattle.books.specs.declared.documents.Book as struct
 use Rattle.books.specs.Shelf.{Shelf, shelf, Stock, Fitted, Keeping}
-use Rattle.books.specs.Modelling.{withMethodCount, withPublicCount}
+use Rattle.books.specs.Modelling.{withModelCount, withPropertyCount, withMethodCount, withPublicCount}
 
 module _ {κ : Limits} {ps : List ℕ} {m : Shelf} {b : Book} (H : Keeping κ ps m b) (z : m .book .full ≡ 0) {ps′ : List ℕ} {m′ : Shelf} (area count : ℕ)
     (b′ : Book) (same : b′ .uses ≡ b .uses) where
@@ -135,6 +135,100 @@ fitted-publics e F = record {
   methods = F .methods;
   locals = F .locals;
   publics = rw e (F .publics);
+  names = F .names;
+  breaks = F .breaks;
+  errors = F .errors;
+}
+
+-- area 5: a property more of the model that is not there yet
+pub stock-properties : {ps ps′ : List ℕ} {m : Shelf} {b : Book} {us : List Use} {p′ : List ℕ} {full n : ℕ} → Stock ps m b
+    → Filled 2 p′ (entriesFrom modelProperties 0 (b .context .models) ++ propertyEntries (length (b .context .models)) ps′) n
+    → Stock ps′ (shelf (withPropertyCount (taken full n) (m .book)) (m .code) (m .constants) (m .functions) (m .models) p′ (m .methods)
+    (m .locals) (m .publics) (m .names) (m .breaks) (m .errors))
+    (record { compiler = b .compiler; assembly = b .assembly; context = b .context; uses = us })
+stock-properties S f = record {
+  code = S .code;
+  sized = S .sized;
+  constants = S .constants;
+  marks = S .marks;
+  functions = S .functions;
+  models = S .models;
+  properties = f;
+  methods = S .methods;
+  locals = S .locals;
+  counted = S .counted;
+  valued = S .valued;
+  named = S .named;
+  publics = S .publics;
+  first-public = S .first-public;
+  file = S .file;
+  last-index = S .last-index;
+  indexed = S .indexed;
+  entry = S .entry;
+  names = S .names;
+  breaks = S .breaks;
+  errors = S .errors;
+}
+
+pub fitted-properties : {κ : Limits} {m : Shelf} {p′ : List ℕ} {s : struct.Book} → length p′ ≡ length (m .properties) → Fitted κ m
+    → Fitted κ (shelf s (m .code) (m .constants) (m .functions) (m .models) p′ (m .methods) (m .locals) (m .publics) (m .names) (m .breaks) (m .errors))
+fitted-properties e F = record {
+  code = F .code;
+  constants = F .constants;
+  functions = F .functions;
+  models = F .models;
+  properties = rw e (F .properties);
+  methods = F .methods;
+  locals = F .locals;
+  publics = F .publics;
+  names = F .names;
+  breaks = F .breaks;
+  errors = F .errors;
+}
+
+-- area 4: a model with the properties that were taken for it
+pub stock-models : {ps : List ℕ} {m : Shelf} {b : Book} {l : List Model} {us : List Use} {m′ : List ℕ} {full n : ℕ} → Stock ps m b
+    → Filled 2 m′ (entriesFrom modelEntry 0 l) n
+    → entriesFrom modelProperties 0 (b .context .models) ++ propertyEntries (length (b .context .models)) ps
+    ≡ entriesFrom modelProperties 0 l ++ propertyEntries (length l) []
+    → Stock [] (shelf (withModelCount (taken full n) (m .book)) (m .code) (m .constants) (m .functions) m′ (m .properties) (m .methods)
+    (m .locals) (m .publics) (m .names) (m .breaks) (m .errors))
+    (record { compiler = b .compiler; assembly = b .assembly; context = withModels l (b .context); uses = us })
+stock-models S f e = record {
+  code = S .code;
+  sized = S .sized;
+  constants = S .constants;
+  marks = S .marks;
+  functions = S .functions;
+  models = f;
+  properties = rw (← e) (S .properties);
+  methods = S .methods;
+  locals = S .locals;
+  counted = S .counted;
+  valued = S .valued;
+  named = S .named;
+  publics = S .publics;
+  first-public = S .first-public;
+  file = S .file;
+  last-index = S .last-index;
+  indexed = S .indexed;
+  entry = S .entry;
+  names = S .names;
+  breaks = S .breaks;
+  errors = S .errors;
+}
+
+pub fitted-models : {κ : Limits} {m : Shelf} {m′ : List ℕ} {s : struct.Book} → length m′ ≡ length (m .models) → Fitted κ m
+    → Fitted κ (shelf s (m .code) (m .constants) (m .functions) m′ (m .properties) (m .methods) (m .locals) (m .publics) (m .names) (m .breaks) (m .errors))
+fitted-models e F = record {
+  code = F .code;
+  constants = F .constants;
+  functions = F .functions;
+  models = rw e (F .models);
+  properties = F .properties;
+  methods = F .methods;
+  locals = F .locals;
+  publics = F .publics;
   names = F .names;
   breaks = F .breaks;
   errors = F .errors;

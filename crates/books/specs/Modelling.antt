@@ -1,13 +1,17 @@
 -- What the routines of `models.rt` promise: whatever the areas that they do not have hold, counts and areas then stand for the deed's book
-use Prim.Native.Nat.{ℕ, _-_}
+use Prim.Native.Nat.{ℕ, _+_, _-_}
 use mathlib.Core.Path.{_≡_}
 use mathlib.Core.Bool.{Bool, false, cond}
 use mathlib.Core.Option.{Option, some}
 use mathlib.Core.List.{List, [], _∷_}
 use lib.Dec.{eqb}
+use Rattle.words.specs.Ast.{Token}
+use Rattle.words.specs.Record.{tokenAt}
 use Rattle.words.specs.Areas.{entryField}
 use Rattle.definition.specs.Uses.{Limits}
-use Rattle.definition.specs.Book.{Placed, addMethods, publish}
+use Rattle.definition.specs.Book as book
+use Rattle.definition.specs.Book.{Placed, addMethods, publish, propertiesOf, addProperty, compileProperties}
+use Rattle.tree.specs.At.{RunAt, runSize, NameAt, single}
 use Rattle.building.specs.declared.taking.Taken.{Taken}
 use Rattle.building.specs.Found.{firstFrom}
 use Rattle.books.specs.declared.documents.Book.{Book}
@@ -106,3 +110,21 @@ pub record InsertsMethod (model name function : ℕ) (s : Book) (t : List ℕ) (
 pub record Publishes (place name : ℕ) (s : Book) (u : List ℕ) (s′ : Book) (u′ : List ℕ) : Type 0 where
   pub meets : (c k f m p t l n b e : List ℕ) (κ : Limits) (ps : List ℕ) (q : Placed) → Keeping κ ps (shelf s c k f m p t l u n b e) (q .book)
       → (s .full ≡ 0 → place ≡ q .place) → Keeping κ ps (shelf s′ c k f m p t l u′ n b e) (publish name q)
+
+-- `add_property`: areas 5 and 11; the properties of the model that is not there yet start at entry `first`
+pub record AddsProperty (tree : List ℕ) (at first : ℕ) (s : Book) (p e : List ℕ) (s′ : Book) (p′ e′ : List ℕ) : Type 0 where
+  pub meets : (c k f m t l u n b : List ℕ) (κ : Limits) (ps : List ℕ) (w : book.Book) → (s .full ≡ 0 → first ≡ propertiesOf (w .context .models))
+      → Keeping κ ps (shelf s c k f m p t l u n b e) w
+      → Keeping κ (addProperty (tokenAt tree at) ps w .texts) (shelf s′ c k f m p′ t l u n b e′) (addProperty (tokenAt tree at) ps w .book)
+
+-- the loop over a model's properties
+pub record AddsProperties (tree : List ℕ) (at end first : ℕ) (s : Book) (p e : List ℕ) (s′ : Book) (p′ e′ : List ℕ) : Type 0 where
+  pub meets : (c k f m t l u n b : List ℕ) (κ : Limits) (ps : List ℕ) (w : book.Book) (ts : List Token) → RunAt NameAt single ts tree at
+      → at + runSize single ts ≡ end → (s .full ≡ 0 → first ≡ propertiesOf (w .context .models)) → Keeping κ ps (shelf s c k f m p t l u n b e) w
+      → Keeping κ (compileProperties ts ps w .texts) (shelf s′ c k f m p′ t l u n b e′) (compileProperties ts ps w .book)
+
+-- `model_properties`: from none
+pub record ModelsProperties (tree : List ℕ) (at end : ℕ) (s : Book) (p e : List ℕ) (s′ : Book) (p′ e′ : List ℕ) : Type 0 where
+  pub meets : (c k f m t l u n b : List ℕ) (κ : Limits) (w : book.Book) (ts : List Token) → RunAt NameAt single ts tree at
+      → at + runSize single ts ≡ end → Keeping κ [] (shelf s c k f m p t l u n b e) w
+      → Keeping κ (compileProperties ts [] w .texts) (shelf s′ c k f m p′ t l u n b e′) (compileProperties ts [] w .book)

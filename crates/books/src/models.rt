@@ -2,11 +2,16 @@
 ghost use mathlib.Core.Path.{_≡_};
 ghost use Rattle.building.specs.Found.{foundOf};
 ghost use Rattle.books.specs.Modelling.{isPair, findPairC, InsertsMethod, Publishes};
+ghost use Rattle.books.specs.Modelling.{AddsProperty, AddsProperties, ModelsProperties};
+use crate::documents;
 use crate::documents::Book;
 use crate::documents::Placed;
 use building::scopes::Found;
 use building::taking;
 use words::areas;
+use words::record;
+use words::record::field;
+use words::reply;
 
 // The words of an entry that are a method's function and a public name's constant.
 const FUNCTION: usize = 2;
@@ -116,5 +121,69 @@ pub(crate) fn publish(publics: &mut [u64], placed: Placed, name: u64) -> Book
     let mut b = book;
     b.full = t.full;
     b.publics = t.count;
+    b
+}
+
+// `add_property`: a name that is there already is an error and takes no entry. The properties of the model start at entry `first`.
+fn add_property(
+    tree: &[u64],
+    at: usize,
+    first: usize,
+    book: Book,
+    properties: &mut [u64],
+    errors: &mut [u64],
+) -> Book
+    ensures { λ r. ⌜ AddsProperty (now (tree .entry)) at first book (now (properties .entry)) (now (errors .entry)) r (now (properties .exit))
+        (now (errors .exit)) ⌝ }
+{
+    if book.full != 0 {
+        return book;
+    }
+    let name = field(tree, at, record::VALUE);
+    let model = book.models as u64;
+    let found = find_pair(
+        properties,
+        areas::PROPERTY_WORDS,
+        first,
+        book.properties,
+        model,
+        name,
+    );
+    if let Found::At(_) = found {
+        return documents::fault(tree, at, errors, book, reply::ERROR_PROPERTY_EXISTS);
+    }
+    let t = taking::take2(
+        properties,
+        areas::PROPERTIES,
+        book.full,
+        book.properties,
+        model,
+        name,
+    );
+    let mut b = book;
+    b.full = t.full;
+    b.properties = t.count;
+    b
+}
+
+// The properties of a model that is not there yet.
+fn model_properties(
+    tree: &[u64],
+    at: usize,
+    end: usize,
+    book: Book,
+    properties: &mut [u64],
+    errors: &mut [u64],
+) -> Book
+    ensures { λ r. ⌜ ModelsProperties (now (tree .entry)) at end book (now (properties .entry)) (now (errors .entry)) r (now (properties .exit))
+        (now (errors .exit)) ⌝ }
+{
+    let first = book.properties;
+    let mut i = at;
+    let mut b = book;
+    while i < end {
+        b = add_property(tree, i, first, b, properties, errors);
+        i += 1;
+    }
     b
 }
