@@ -13,6 +13,7 @@ pub mod Stocking
 pub mod MethodWays
 pub mod PublicWays
 pub mod PropertyWays
+pub mod FindWays
 pub mod Resuming
 pub mod LocalEntries
 pub mod DeedWays

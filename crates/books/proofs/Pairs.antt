@@ -1,24 +1,26 @@
 -- A map's insert, in the definition and in an area: the first entry with the key has the new value, or one entry more stands behind the others.
 -- By induction over the list; the area is entries of a list's elements, one each, behind others. Assumes nothing.
 use Prim.Native.Nat.{ℕ, zero, suc, _+_, _-_, _*_, _≤_, _<_}
+use native.Mathlib.Nat.{mul-le-mul-right}
 use native.Mathlib.Omega.{arith}
 use mathlib.Core.Path.{_≡_, refl, sym, ap, _∙_}
 use mathlib.Core.Bool.{Bool, true, false, cond}
 use mathlib.Core.Option.{Option, none, some}
 use mathlib.Core.List.{List, [], _∷_, _++_, append-assoc}
-use lib.ListN.{length, getD, set, length-append, length-set}
+use lib.ListN.{length, getD, set, replicate, length-append}
 use lib.Seq.{getD-append-add}
 use lib.Dec.{eqb}
 use borrow.Author.Tests.{eq-eqb, ne-eqb, lt-ltb, le-leb}
 use Rattle.words.specs.Areas.{entryField, entriesIn, wordFits, Patched}
-use Rattle.definition.specs.Program.{Entries, entriesFrom}
+use Rattle.definition.specs.Program.{Entries, flat, entriesFrom}
+use Rattle.words.proofs.Entries.{field-in}
 use Rattle.definition.proofs.Cells.{single-length, single-at}
 use Rattle.building.specs.declared.scopes.Found.{Found}
 use Rattle.building.specs.declared.scopes.Found.the-variants.{At, Nothing}
 use Rattle.building.specs.Found.{foundOf, firstFrom}
 use Rattle.building.specs.Held.{Filled}
 use Rattle.books.specs.Modelling.{isPair}
-use Rattle.building.proofs.Filling.{room-fits, set-append-add, filled-set, filled-field}
+use Rattle.building.proofs.Filling.{room-fits, filled-at, set-append-add, filled-set, filled-field}
 
 -- an answer of the code, and the definition's
 pub found-at : (o : Option ℕ) {f : Found} {i : ℕ} → f ≡ foundOf o → f ≡ At i → o ≡ some i
@@ -74,6 +76,20 @@ patch-there {width} {l} {n = n} i k v narrow h q f P =
   where
     less : {a b c : ℕ} → a < b → b ≤ c → a < c
     less p r = omega arith
+
+-- behind the entries stand zeros
+zero-at : (z j : ℕ) → getD {A = ℕ} (replicate z 0) j 0 ≡ 0
+zero-at zero j = refl
+zero-at (suc z) zero = refl
+zero-at (suc z) (suc j) = zero-at z j
+
+pub filled-past : {width : ℕ} {l : List ℕ} {es : Entries} {n : ℕ} → Filled width l es n → (i k : ℕ) → width ≤ 8 → k < width → n ≤ i
+    → entryField width i k l ≡ 0
+filled-past {width} {l} {es} {n} f i k narrow q past =
+    let more : n * width ≤ i * width = mul-le-mul-right width past in
+    let place : i * width + k ≡ length (flat es) + (i * width + k - n * width) = omega (arith, filled-at f) in
+    sym (field-in l width i k narrow q) ∙ rw (f .is, place, getD-append-add (flat es) (replicate (f .zeros) 0) (i * width + k - n * width) 0)
+    (zero-at (f .zeros) (i * width + k - n * width))
 
 -- entries of elements, one each
 module _ {A : Type 0} (g : A → List ℕ) where

@@ -2,20 +2,23 @@
 use Prim.Native.Nat.{ℕ, _+_, _-_}
 use mathlib.Core.Path.{_≡_}
 use mathlib.Core.Bool.{Bool, false, cond}
-use mathlib.Core.Option.{Option, some}
+use mathlib.Core.Option.{Option, none, some}
 use mathlib.Core.List.{List, [], _∷_}
 use lib.Dec.{eqb}
 use Rattle.words.specs.Ast.{Token}
+use Rattle.words.specs.Object.{modelKind}
 use Rattle.words.specs.Record.{tokenAt}
 use Rattle.words.specs.Areas.{entryField}
 use Rattle.definition.specs.Uses.{Limits}
 use Rattle.definition.specs.Book as book
 use Rattle.definition.specs.Book.{Placed, addMethods, publish, propertiesOf, addProperty, compileProperties}
+use Rattle.definition.specs.Book.{findModelIndexByLocalName}
 use Rattle.tree.specs.At.{RunAt, runSize, NameAt, single}
 use Rattle.building.specs.declared.taking.Taken.{Taken}
+use Rattle.building.specs.declared.scopes.Found.{Found}
 use Rattle.building.specs.Found.{firstFrom}
 use Rattle.books.specs.declared.documents.Book.{Book}
-use Rattle.books.specs.Shelf.{shelf, Keeping, Deeds}
+use Rattle.books.specs.Shelf.{shelf, Keeping, Deeds, Seeks}
 
 -- the counts after an entry more of area 4
 abbrev pub withModelCount : Taken → Book → Book
@@ -128,3 +131,14 @@ pub record ModelsProperties (tree : List ℕ) (at end : ℕ) (s : Book) (p e : L
   pub meets : (c k f m t l u n b : List ℕ) (κ : Limits) (w : book.Book) (ts : List Token) → RunAt NameAt single ts tree at
       → at + runSize single ts ≡ end → Keeping κ [] (shelf s c k f m p t l u n b e) w
       → Keeping κ (compileProperties ts [] w .texts) (shelf s′ c k f m p′ t l u n b e′) (compileProperties ts [] w .book)
+
+-- the model that a context local is, by areas 7 and 2: none without a value or with another constant
+abbrev pub modelAtC : ℕ → List ℕ → List ℕ → Option ℕ
+modelAtC i l k =
+    cond (eqb (entryField 4 i 2 l) 1)
+    (cond (eqb (entryField 3 (entryField 4 i 3 l) 0 k) modelKind) (some (entryField 3 (entryField 4 i 3 l) 1 k)) none) none
+
+-- `find_model`: areas 7, 2 and 11
+pub record FindsModel (tree : List ℕ) (at : ℕ) (s : Book) (l k e : List ℕ) (found : Found) (s′ : Book) (e′ : List ℕ) : Type 0 where
+  pub seeks : (c f m p t u n b : List ℕ) → Seeks (shelf s c k f m p t l u n b e) (shelf s′ c k f m p t l u n b e′) found
+      (findModelIndexByLocalName (tokenAt tree at))

@@ -2,10 +2,12 @@
 ghost use mathlib.Core.Path.{_≡_};
 ghost use Rattle.building.specs.Found.{foundOf};
 ghost use Rattle.books.specs.Modelling.{isPair, findPairC, InsertsMethod, Publishes};
-ghost use Rattle.books.specs.Modelling.{AddsProperty, AddsProperties, ModelsProperties};
+ghost use Rattle.books.specs.Modelling.{AddsProperty, AddsProperties, ModelsProperties, modelAtC, FindsModel};
 use crate::documents;
 use crate::documents::Book;
 use crate::documents::Placed;
+use crate::documents::Sought;
+use building::context;
 use building::scopes::Found;
 use building::taking;
 use words::areas;
@@ -17,6 +19,14 @@ use words::reply;
 const FUNCTION: usize = 2;
 
 const CONSTANT: usize = 2;
+
+// The words of a context local's entry that are the mark of a value and its constant.
+const VALUE_MARK: usize = 2;
+
+const VALUE: usize = 3;
+
+// The kind of a constant that is a model (01, 'Emission').
+const MODEL_KIND: u64 = 5;
 
 // Whether the first two words of an entry are a and b.
 fn is_pair(area: &[u64], width: usize, i: usize, a: u64, b: u64) -> bool
@@ -186,4 +196,58 @@ fn model_properties(
         i += 1;
     }
     b
+}
+
+// The model that a context local is.
+fn model_of(locals: &[u64], constants: &[u64], i: usize) -> Found
+    ensures { λ r. ⌜ r ≡ foundOf (modelAtC i (now (locals .entry)) (now (constants .entry))) ⌝ }
+{
+    let mark = areas::entry_word(locals, areas::CONTEXT_LOCAL_WORDS, i, VALUE_MARK);
+    if mark != 1 {
+        return Found::Nothing;
+    }
+    let constant = areas::entry_word(locals, areas::CONTEXT_LOCAL_WORDS, i, VALUE) as usize;
+    let kind = areas::entry_word(constants, areas::CONSTANT_WORDS, constant, 0);
+    if kind != MODEL_KIND {
+        return Found::Nothing;
+    }
+    Found::At(areas::entry_word(constants, areas::CONSTANT_WORDS, constant, 1))
+}
+
+// `find_model_index_by_local_name`
+pub(crate) fn find_model(
+    tree: &[u64],
+    at: usize,
+    book: Book,
+    locals: &[u64],
+    constants: &[u64],
+    errors: &mut [u64],
+) -> Sought
+    ensures { λ r. ⌜ FindsModel (now (tree .entry)) at book (now (locals .entry)) (now (constants .entry)) (now (errors .entry)) (r .found) (r .book)
+        (now (errors .exit)) ⌝ }
+{
+    if book.full != 0 {
+        return Sought {
+            found: Found::Nothing,
+            book,
+        };
+    }
+    let name = field(tree, at, record::VALUE);
+    let local = context::find_context_local(locals, book.first_local, book.locals, name);
+    if let Found::At(i) = local {
+        let model = model_of(locals, constants, i as usize);
+        if let Found::At(_) = model {
+            return Sought { found: model, book };
+        }
+        let b = documents::fault(tree, at, errors, book, reply::ERROR_NOT_A_MODEL);
+        return Sought {
+            found: Found::Nothing,
+            book: b,
+        };
+    }
+    let b = documents::fault(tree, at, errors, book, reply::ERROR_MODEL_NOT_FOUND);
+    Sought {
+        found: Found::Nothing,
+        book: b,
+    }
 }
