@@ -14,6 +14,7 @@ pub mod MethodWays
 pub mod PublicWays
 pub mod PropertyWays
 pub mod FindWays
+pub mod Copying
 pub mod Resuming
 pub mod LocalEntries
 pub mod DeedWays

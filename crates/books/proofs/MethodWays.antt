@@ -22,23 +22,20 @@ use Rattle.building.specs.Held.{Filled}
 use Rattle.building.proofs.ContextLaws.{took-law}
 use Rattle.books.specs.declared.documents.Book as struct
 use Rattle.books.specs.Shelf.{Shelf, shelf, Stock, Fitted, Keeping}
-use Rattle.books.specs.Modelling.{isPair, findPairC, withMethodCount, InsertsMethod}
+use Rattle.books.specs.Modelling.{isPair, findPairC, withMethodCount, InsertsMethod, noMethod}
 use Rattle.books.proofs.ModelCalm.{calm-methods}
 use Rattle.books.proofs.Shelving.{full-deeds}
 use Rattle.books.proofs.Pairs.{found-at, found-none, insertBy, Inserting, there, new, inserting, patch-there, rows-count, rows-more, row-word, row-set}
 use Rattle.books.proofs.Stocking.{keeping-fits, keeping-grown, stock-methods, fitted-methods}
 
-abbrev methodWords : Method → List ℕ
+abbrev pub methodWords : Method → List ℕ
 methodWords x = x .model ∷ x .name ∷ x .function ∷ []
 
-abbrev pub noMethod : Method
-noMethod = record { model = 0; name = 0; function = 0 }
-
-insert-by : (e : Method) (xs : List Method) → insertMethod e xs ≡ insertBy (λ x. sameMethod x e) e xs
+pub insert-by : (e : Method) (xs : List Method) → insertMethod e xs ≡ insertBy (λ x. sameMethod x e) e xs
 insert-by e [] = refl
 insert-by e (x ∷ xs) = ap (λ (l : List Method). cond (sameMethod x e) (e ∷ xs) (x ∷ l)) (insert-by e xs)
 
-abbrev methodOf : ℕ → ℕ → ℕ → Method
+abbrev pub methodOf : ℕ → ℕ → ℕ → Method
 methodOf model name function = record { model = model; name = name; function = function }
 
 module _ (model name function : ℕ) where

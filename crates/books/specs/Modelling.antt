@@ -1,19 +1,21 @@
 -- What the routines of `models.rt` promise: whatever the areas that they do not have hold, counts and areas then stand for the deed's book
-use Prim.Native.Nat.{ℕ, _+_, _-_}
+use Prim.Native.Nat.{ℕ, zero, suc, _+_, _-_, _≤_}
 use mathlib.Core.Path.{_≡_}
 use mathlib.Core.Bool.{Bool, false, cond}
 use mathlib.Core.Option.{Option, none, some}
 use mathlib.Core.List.{List, [], _∷_}
+use lib.ListN.{length, getD}
 use lib.Dec.{eqb}
-use Rattle.words.specs.Ast.{Token}
+use Rattle.words.specs.Ast.{Token, ApplyDefinition}
 use Rattle.words.specs.Object.{modelKind}
 use Rattle.words.specs.Record.{tokenAt}
 use Rattle.words.specs.Areas.{entryField}
 use Rattle.definition.specs.Uses.{Limits}
 use Rattle.definition.specs.Book as book
 use Rattle.definition.specs.Book.{Placed, addMethods, publish, propertiesOf, addProperty, compileProperties}
-use Rattle.definition.specs.Book.{findModelIndexByLocalName}
-use Rattle.tree.specs.At.{RunAt, runSize, NameAt, single}
+use Rattle.definition.specs.FunctionState.{Entry}
+use Rattle.definition.specs.Book.{Method, findModelIndexByLocalName, methodsIn, compileApplyDefinition}
+use Rattle.tree.specs.At.{RunAt, runSize, NameAt, single, DefinitionAt}
 use Rattle.building.specs.declared.taking.Taken.{Taken}
 use Rattle.building.specs.declared.scopes.Found.{Found}
 use Rattle.building.specs.Found.{firstFrom}
@@ -142,3 +144,35 @@ modelAtC i l k =
 pub record FindsModel (tree : List ℕ) (at : ℕ) (s : Book) (l k e : List ℕ) (found : Found) (s′ : Book) (e′ : List ℕ) : Type 0 where
   pub seeks : (c f m p t u n b : List ℕ) → Seeks (shelf s c k f m p t l u n b e) (shelf s′ c k f m p t l u n b e′) found
       (findModelIndexByLocalName (tokenAt tree at))
+
+abbrev pub noMethod : Method
+noMethod = record { model = 0; name = 0; function = 0 }
+
+-- a model's own of the n methods from the i-th on
+abbrev pub methodsFrom : ℕ → ℕ → ℕ → List Method → List Entry
+methodsFrom model i zero l = []
+methodsFrom model i (suc n) l =
+    let x = getD l i noMethod in
+    let rest = methodsFrom model (i + 1) n l in
+    cond (eqb (x .model) model) (record { name = x .name; index = x .function } ∷ rest) rest
+
+-- `copy_method`: area 6, one method of the source under the target, if it is one
+pub record CopiesMethod (source target i : ℕ) (s : Book) (t : List ℕ) (s′ : Book) (t′ : List ℕ) : Type 0 where
+  pub deeds : (c k f m p l u n b e : List ℕ) → Deeds (shelf s c k f m p t l u n b e) (shelf s′ c k f m p t′ l u n b e)
+      (λ w. addMethods (some target) (methodsFrom source i 1 (w .context .methods)) w)
+
+-- the loop over the first methods
+pub record CopiesFrom (source target i count : ℕ) (s : Book) (t : List ℕ) (s′ : Book) (t′ : List ℕ) : Type 0 where
+  pub meets : (c k f m p l u n b e : List ℕ) (κ : Limits) (ps : List ℕ) (w : book.Book) → (s .full ≡ 0 → count ≤ length (w .context .methods))
+      → Keeping κ ps (shelf s c k f m p t l u n b e) w
+      → Keeping κ ps (shelf s′ c k f m p t′ l u n b e) (addMethods (some target) (methodsFrom source i (count - i) (w .context .methods)) w)
+
+-- `copy_methods`: all methods of the source
+pub record CopiesMethods (source target : ℕ) (s : Book) (t : List ℕ) (s′ : Book) (t′ : List ℕ) : Type 0 where
+  pub deeds : (c k f m p l u n b e : List ℕ) → Deeds (shelf s c k f m p t l u n b e) (shelf s′ c k f m p t′ l u n b e)
+      (λ w. addMethods (some target) (methodsIn source (w .context .methods)) w)
+
+-- `apply_definition`: areas 6 and 11, over areas 7 and 2
+pub record Applies (tree : List ℕ) (at end : ℕ) (s : Book) (l k t e : List ℕ) (s′ : Book) (t′ e′ : List ℕ) : Type 0 where
+  pub deeds : (c f m p u n b : List ℕ) (source target : Token) → DefinitionAt (ApplyDefinition source target) tree at → at + 3 ≡ end
+      → Deeds (shelf s c k f m p t l u n b e) (shelf s′ c k f m p t′ l u n b e′) (compileApplyDefinition source target)
