@@ -15,6 +15,7 @@ pub mod PublicWays
 pub mod PropertyWays
 pub mod FindWays
 pub mod Copying
+pub mod ApplyWays
 pub mod Resuming
 pub mod LocalEntries
 pub mod DeedWays

@@ -3,6 +3,7 @@ ghost use mathlib.Core.Path.{_≡_};
 ghost use Rattle.building.specs.Found.{foundOf};
 ghost use Rattle.books.specs.Modelling.{isPair, findPairC, InsertsMethod, Publishes};
 ghost use Rattle.books.specs.Modelling.{AddsProperty, AddsProperties, ModelsProperties, modelAtC, FindsModel};
+ghost use Rattle.books.specs.Modelling.{CopiesMethod, CopiesMethods, Applies};
 use crate::documents;
 use crate::documents::Book;
 use crate::documents::Placed;
@@ -250,4 +251,67 @@ pub(crate) fn find_model(
         found: Found::Nothing,
         book: b,
     }
+}
+
+// One method of the source under the target, if it is one.
+fn copy_method(methods: &mut [u64], book: Book, i: usize, source: u64, target: u64) -> Book
+    ensures { λ r. ⌜ CopiesMethod source target i book (now (methods .entry)) r (now (methods .exit)) ⌝ }
+{
+    if book.full != 0 {
+        return book;
+    }
+    let model = areas::entry_word(methods, areas::METHOD_WORDS, i, 0);
+    if model != source {
+        return book;
+    }
+    let name = areas::entry_word(methods, areas::METHOD_WORDS, i, 1);
+    let function = areas::entry_word(methods, areas::METHOD_WORDS, i, FUNCTION);
+    insert_method(methods, book, target, name, function)
+}
+
+// The methods that there are of the source, one by one under the target.
+fn copy_methods(methods: &mut [u64], book: Book, source: u64, target: u64) -> Book
+    ensures { λ r. ⌜ CopiesMethods source target book (now (methods .entry)) r (now (methods .exit)) ⌝ }
+{
+    let count = book.methods;
+    let mut i: usize = 0;
+    let mut b = book;
+    while i < count {
+        b = copy_method(methods, b, i, source, target);
+        i += 1;
+    }
+    b
+}
+
+// `compile_apply_definition`: with an unknown source the target is still looked at.
+pub(crate) fn apply_definition(
+    tree: &[u64],
+    at: usize,
+    end: usize,
+    book: Book,
+    locals: &[u64],
+    constants: &[u64],
+    methods: &mut [u64],
+    errors: &mut [u64],
+) -> Book
+    ensures { λ r. ⌜ Applies (now (tree .entry)) at end book (now (locals .entry)) (now (constants .entry)) (now (methods .entry)) (now (errors .entry))
+        r (now (methods .exit)) (now (errors .exit)) ⌝ }
+{
+    if end <= at {
+        return book;
+    }
+    if end - at < 3 {
+        return book;
+    }
+    let s = find_model(tree, at + 1, book, locals, constants, errors);
+    let from = s.found;
+    let t = find_model(tree, at + 2, s.book, locals, constants, errors);
+    let to = t.found;
+    if let Found::At(source) = from {
+        if let Found::At(target) = to {
+            return copy_methods(methods, t.book, source, target);
+        }
+        return t.book;
+    }
+    t.book
 }
