@@ -16,6 +16,7 @@ pub mod PropertyWays
 pub mod FindWays
 pub mod Copying
 pub mod ApplyWays
+pub mod ModelWays
 pub mod Resuming
 pub mod LocalEntries
 pub mod DeedWays

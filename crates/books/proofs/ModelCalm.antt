@@ -13,6 +13,7 @@ use Rattle.definition.specs.Book.{Book, Placed, hasText, pushBookError, addBook
 use Rattle.definition.specs.Book.{addModel, compileModelDefinition, modelOf, getLocalValue, findModelBy, findModelIn, findModelIndexByLocalName, methodsOf}
 use Rattle.definition.specs.Book.{compileApplyDefinition, Properties, propertiesOf, noted}
 use Rattle.definition.proofs.Steady.{same, more}
+use Rattle.books.specs.Modelling.{placeModel}
 use Rattle.books.proofs.Calm.{Calm, Calms, calm-refl, calm-trans, calm-error, calm-constant, calm-local, calm-value}
 
 pub calm-methods : (o : Option ℕ) (es : List Entry) → Calms (addMethods o es)
@@ -39,15 +40,20 @@ calm-properties (t ∷ ts) ps b =
 pub calm-model : (ps : List ℕ) (name : ℕ) → Calms (addModel ps name)
 calm-model ps name b = record { uses = more same; assemblies = refl; filename = refl; index = refl }
 
+pub calm-place-model : (ps : List ℕ) (name : ℕ) → Calms (λ b. placeModel ps name b .book)
+calm-place-model ps name b =
+    let b₂ = addModel ps name b in
+    let constant = constantOf modelKind (length (b .context .models)) in
+    let a = addBookConstant constant b₂ in
+    let d = defineContextLocal name (a .book) in
+    calm-trans (calm-model ps name b)
+    (calm-trans (calm-constant constant b₂) (calm-trans (calm-local name (a .book)) (calm-value (d .place) (a .place) (d .book))))
+
 pub calm-model-definition : (name : Token) (properties : List Token) → Calms (λ b. compileModelDefinition name properties b .book)
 unfolding compileModelDefinition
 calm-model-definition name properties b =
     let p = compileProperties properties [] b in
-    let b₂ = addModel (p .texts) (name .value) (p .book) in
-    let a = addBookConstant (constantOf modelKind _) b₂ in
-    let d = defineContextLocal (name .value) (a .book) in
-    calm-trans (calm-properties properties [] b) (calm-trans (calm-model (p .texts) (name .value) (p .book))
-    (calm-trans (calm-constant (constantOf modelKind _) b₂) (calm-trans (calm-local (name .value) (a .book)) (calm-value (d .place) (a .place) (d .book)))))
+    calm-trans (calm-properties properties [] b) (calm-place-model (p .texts) (name .value) (p .book))
 
 pub calm-find-model : (t : Token) → Calms (λ b. findModelIndexByLocalName t b .book)
 unfolding findModelIndexByLocalName

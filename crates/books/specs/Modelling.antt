@@ -7,20 +7,21 @@ use mathlib.Core.List.{List, [], _∷_}
 use lib.ListN.{length, getD}
 use lib.Dec.{eqb}
 use Rattle.words.specs.Ast.{Token, ApplyDefinition}
-use Rattle.words.specs.Object.{modelKind}
+use Rattle.words.specs.Object.{constantOf, modelKind}
 use Rattle.words.specs.Record.{tokenAt}
 use Rattle.words.specs.Areas.{entryField}
 use Rattle.definition.specs.Uses.{Limits}
 use Rattle.definition.specs.Book as book
 use Rattle.definition.specs.Book.{Placed, addMethods, publish, propertiesOf, addProperty, compileProperties}
 use Rattle.definition.specs.FunctionState.{Entry}
-use Rattle.definition.specs.Book.{Method, findModelIndexByLocalName, methodsIn, compileApplyDefinition}
+use Rattle.definition.specs.Book.{Method, Deed, findModelIndexByLocalName, methodsIn, compileApplyDefinition}
+use Rattle.definition.specs.Book.{addBookConstant, addModel, defineContextLocal, setLocalValue, compileModelDefinition}
 use Rattle.tree.specs.At.{RunAt, runSize, NameAt, single, DefinitionAt}
 use Rattle.building.specs.declared.taking.Taken.{Taken}
 use Rattle.building.specs.declared.scopes.Found.{Found}
 use Rattle.building.specs.Found.{firstFrom}
 use Rattle.books.specs.declared.documents.Book.{Book}
-use Rattle.books.specs.Shelf.{shelf, Keeping, Deeds, Seeks}
+use Rattle.books.specs.Shelf.{Shelf, shelf, Keeping, Deeds, Seeks}
 
 -- the counts after an entry more of area 4
 abbrev pub withModelCount : Taken → Book → Book
@@ -176,3 +177,32 @@ pub record CopiesMethods (source target : ℕ) (s : Book) (t : List ℕ) (s′ :
 pub record Applies (tree : List ℕ) (at end : ℕ) (s : Book) (l k t e : List ℕ) (s′ : Book) (t′ e′ : List ℕ) : Type 0 where
   pub deeds : (c f m p u n b : List ℕ) (source target : Token) → DefinitionAt (ApplyDefinition source target) tree at → at + 3 ≡ end
       → Deeds (shelf s c k f m p t l u n b e) (shelf s′ c k f m p t′ l u n b e′) (compileApplyDefinition source target)
+
+-- between definitions, where no model is under way: `Deeds` and `Places` of what is compiled from no property
+pub record DeedsAlone (m m′ : Shelf) (deed : Deed) : Type 0 where
+  pub meets : (κ : Limits) (w : book.Book) → Keeping κ [] m w → Keeping κ [] m′ (deed w)
+
+pub record PlacesAlone (m m′ : Shelf) (place : ℕ) (deed : book.Book → Placed) : Type 0 where
+  pub meets : (κ : Limits) (w : book.Book) → Keeping κ [] m w → Keeping κ [] m′ (deed w .book)
+  pub placed : (κ : Limits) (w : book.Book) → Keeping κ [] m w → m′ .book .full ≡ 0 → place ≡ deed w .place
+
+-- the rest of `compile_model_definition`, after the properties
+abbrev pub placeModel : List ℕ → ℕ → book.Book → Placed
+placeModel properties name w =
+    let modelIndex = length (w .context .models) in
+    let a = addBookConstant (constantOf modelKind modelIndex) (addModel properties name w) in
+    let d = defineContextLocal name (a .book) in
+    record { place = a .place; book = setLocalValue (d .place) (a .place) (d .book) }
+
+-- `place_model`: areas 2, 4 and 7
+pub record PlacesModel (name : ℕ) (s : Book) (k m l : List ℕ) (place : ℕ) (s′ : Book) (k′ m′ l′ : List ℕ) : Type 0 where
+  pub meets : (c f p t u n b e : List ℕ) (κ : Limits) (ps : List ℕ) (w : book.Book) → Keeping κ ps (shelf s c k f m p t l u n b e) w
+      → Keeping κ [] (shelf s′ c k′ f m′ p t l′ u n b e) (placeModel ps name w .book)
+  pub placed : (c f p t u n b e : List ℕ) (κ : Limits) (ps : List ℕ) (w : book.Book) → Keeping κ ps (shelf s c k f m p t l u n b e) w
+      → s′ .full ≡ 0 → place ≡ placeModel ps name w .place
+
+-- `model_definition`: areas 2, 4, 5, 7 and 11
+pub record DefinesModel (tree : List ℕ) (at end : ℕ) (s : Book) (k m p l e : List ℕ) (place : ℕ) (s′ : Book) (k′ m′ p′ l′ e′ : List ℕ) : Type 0 where
+  pub places : (c f t u n b : List ℕ) (name : Token) (properties : List Token) → name ≡ tokenAt tree at → RunAt NameAt single properties tree (at + 1)
+      → at + 1 + runSize single properties ≡ end
+      → PlacesAlone (shelf s c k f m p t l u n b e) (shelf s′ c k′ f m′ p′ t l′ u n b e′) place (compileModelDefinition name properties)

@@ -3,7 +3,7 @@ ghost use mathlib.Core.Path.{_≡_};
 ghost use Rattle.building.specs.Found.{foundOf};
 ghost use Rattle.books.specs.Modelling.{isPair, findPairC, InsertsMethod, Publishes};
 ghost use Rattle.books.specs.Modelling.{AddsProperty, AddsProperties, ModelsProperties, modelAtC, FindsModel};
-ghost use Rattle.books.specs.Modelling.{CopiesMethod, CopiesMethods, Applies};
+ghost use Rattle.books.specs.Modelling.{CopiesMethod, CopiesMethods, Applies, PlacesModel, DefinesModel};
 use crate::documents;
 use crate::documents::Book;
 use crate::documents::Placed;
@@ -314,4 +314,63 @@ pub(crate) fn apply_definition(
         return t.book;
     }
     t.book
+}
+
+// A model's entry, its constant and its context local.
+fn place_model(
+    models: &mut [u64],
+    constants: &mut [u64],
+    locals: &mut [u64],
+    book: Book,
+    name: u64,
+) -> Placed
+    ensures { λ r. ⌜ PlacesModel name book (now (constants .entry)) (now (models .entry)) (now (locals .entry)) (r .place) (r .book)
+        (now (constants .exit)) (now (models .exit)) (now (locals .exit)) ⌝ }
+{
+    if book.full != 0 {
+        return Placed { place: 0, book };
+    }
+    let index = book.models as u64;
+    let t = taking::take2(
+        models,
+        areas::MODELS,
+        book.full,
+        book.models,
+        book.file,
+        name,
+    );
+    let mut b = book;
+    b.full = t.full;
+    b.models = t.count;
+    let a = documents::add_constant(constants, b, MODEL_KIND, index);
+    let place = a.place;
+    let d = documents::define_local(locals, a.book, name);
+    let found = d.found;
+    let after = d.book;
+    documents::set_value(locals, after, found, place);
+    Placed { place, book: after }
+}
+
+// `compile_model_definition`
+pub(crate) fn model_definition(
+    tree: &[u64],
+    at: usize,
+    end: usize,
+    book: Book,
+    constants: &mut [u64],
+    models: &mut [u64],
+    properties: &mut [u64],
+    locals: &mut [u64],
+    errors: &mut [u64],
+) -> Placed
+    ensures { λ r. ⌜ DefinesModel (now (tree .entry)) at end book (now (constants .entry)) (now (models .entry)) (now (properties .entry))
+        (now (locals .entry)) (now (errors .entry)) (r .place) (r .book) (now (constants .exit)) (now (models .exit)) (now (properties .exit))
+        (now (locals .exit)) (now (errors .exit)) ⌝ }
+{
+    if end <= at {
+        return Placed { place: 0, book };
+    }
+    let name = field(tree, at, record::VALUE);
+    let b = model_properties(tree, at + 1, end, book, properties, errors);
+    place_model(models, constants, locals, b, name)
 }
