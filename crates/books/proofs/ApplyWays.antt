@@ -4,18 +4,18 @@ use native.Mathlib.Nat.{zero-add}
 use native.Mathlib.Omega.{arith}
 use native.Mathlib.Decide.{decLt}
 use mathlib.Core.Path.{_≡_, refl, sym, ap, _∙_}
-use mathlib.Core.Bool.{Bool, true, false, cond}
+use mathlib.Core.Bool.{Bool, true, false}
 use mathlib.Core.Option.{Option, none, some}
-use mathlib.Core.List.{List, [], _∷_, _++_}
+use mathlib.Core.List.{List, [], _++_}
 use lib.ListN.{length, getD, List·getD-eq-default}
 use lib.Dec.{eqb}
 use borrow.Author.Tests.{eqb-true, eqb-false, eq-eqb, ne-eqb}
-use Rattle.words.specs.Ast.{Token, ApplyDefinition}
+use Rattle.words.specs.Ast.{Token}
 use Rattle.words.specs.Areas.{entryField}
 use Rattle.words.specs.Record.{tokenAt}
 use Rattle.definition.specs.FunctionState.{Entry, findName}
 use Rattle.definition.specs.Uses.{Limits}
-use Rattle.definition.specs.Book.{Method, Book, Context, MaybePlaced, addMethods, insertMethods, methodsIn, methodsOf, modelOf, getLocalValue, findModelBy}
+use Rattle.definition.specs.Book.{Method, Book, Context, addMethods, insertMethods, methodsIn, methodsOf, modelOf, getLocalValue, findModelBy}
 use Rattle.definition.specs.Book.{findModelIn, findModelIndexByLocalName, compileApplyDefinition}
 use Rattle.definition.specs.Program.{entriesFrom, methodEntry}
 use Rattle.definition.proofs.Steady.{same, more}
@@ -25,9 +25,9 @@ use Rattle.building.specs.declared.scopes.Found.the-variants.{At, Nothing}
 use Rattle.building.specs.Found.{foundOf}
 use Rattle.building.specs.Held.{Filled}
 use Rattle.books.specs.declared.documents.Book as struct
-use Rattle.books.specs.Shelf.{Shelf, shelf, Stock, Keeping, Deeds}
+use Rattle.books.specs.Shelf.{shelf, Keeping}
 use Rattle.books.specs.Modelling.{InsertsMethod, FindsModel, noMethod, methodsFrom, CopiesMethod, CopiesFrom, CopiesMethods, Applies}
-use Rattle.books.proofs.ModelCalm.{calm-methods, calm-find-model, calm-apply}
+use Rattle.books.proofs.ModelCalm.{calm-methods, calm-find-model}
 use Rattle.books.proofs.Shelving.{keeping-longer, unfilled, full-deeds}
 use Rattle.books.proofs.Pairs.{found-at, found-none, filled-past, rows-count, row-word}
 use Rattle.books.proofs.MethodWays.{methodWords}
@@ -121,7 +121,8 @@ module _ (source target count : ℕ) where
       whole c k f m p l u n b e κ ps w few H false q H′ =
           keeping-marked (more same) (more same) (eqb-false (s .full) 0 q) H H′
 
-  pub copies-done : {s s′ : struct.Book} {t t′ : List ℕ} → count ≡ s .methods → CopiesFrom source target 0 count s t s′ t′ → CopiesMethods source target s t s′ t′
+  pub copies-done : {s s′ : struct.Book} {t t′ : List ℕ} → count ≡ s .methods → CopiesFrom source target 0 count s t s′ t′
+      → CopiesMethods source target s t s′ t′
   copies-done {s} {s′} {t} {t′} as-many A = record {
     deeds = λ c k f m p l u n b e. record {
       meets = λ κ ps w H. whole c k f m p l u n b e κ ps w H (eqb (s .full) 0) refl

@@ -3,28 +3,27 @@
 use Prim.Native.Nat.{ℕ, zero, suc, _+_, _-_, _≤_, _<_}
 use native.Mathlib.Nat.{zero-add}
 use native.Mathlib.Omega.{arith}
-use native.Mathlib.Decide.{decLt, ℕ-discrete}
+use native.Mathlib.Decide.{ℕ-discrete}
 use mathlib.Core.Path.{_≡_, refl, sym, ap, _∙_}
 use mathlib.Core.Bool.{Bool, true, false, cond}
 use mathlib.Core.Option.{Option, none, some}
 use mathlib.Core.List.{List, [], _∷_, _++_}
-use lib.ListN.{length, getD, set, length-append, length-set, List·getD-append}
+use lib.ListN.{length, getD, set, List·getD-append}
 use lib.Seq.{getD-set-same, getD-set-other}
 use lib.Dec.{eqb, ltb}
 use borrow.Author.Tests.{eqb-true, eqb-false, ltb-true, lt-ltb, eq-eqb, ne-eqb}
 use Rattle.words.specs.Areas.{methodsArea}
 use Rattle.definition.specs.FunctionState.{Entry, orElse}
 use Rattle.definition.specs.Uses.{Use, using′, Limits, limitOf, overBy, firstOver}
-use Rattle.definition.specs.Book.{Method, Book, withContext, withMethods, sameMethod, insertMethod, insertMethods, addMethods, methodsIn}
-use Rattle.definition.specs.Program.{entriesFrom, methodEntry}
+use Rattle.definition.specs.Book.{Method, Book, sameMethod, insertMethod, insertMethods, addMethods, methodsIn}
 use Rattle.definition.proofs.Steady.{Longer}
 use Rattle.definition.proofs.Cells.{single-length}
 use Rattle.building.proofs.Notes.{marks-same, over-longer}
-use Rattle.books.specs.Shelf.{Shelf, Stock, Keeping}
+use Rattle.books.specs.Shelf.{Shelf, Keeping}
 use Rattle.books.specs.Modelling.{noMethod, methodsFrom}
 use Rattle.books.proofs.ModelCalm.{calm-methods}
 use Rattle.books.proofs.Shelving.{keeping-longer}
-use Rattle.books.proofs.Pairs.{insertBy, Inserting, there, new, inserting}
+use Rattle.books.proofs.Pairs.{Inserting, there, new, inserting}
 use Rattle.books.proofs.Stocking.{keeping-fits, stock-methods}
 use Rattle.books.proofs.MethodWays.{methodOf, methodWords, insert-by}
 
@@ -105,7 +104,8 @@ from-same : (a n i : ℕ) (ys zs : List Method) → ((j : ℕ) → i ≤ j → j
     → methodsFrom a i n ys ≡ methodsFrom a i n zs
 from-same a zero i ys zs each = refl
 from-same a (suc n) i ys zs each =
-    go (getD ys i noMethod) (getD zs i noMethod) (each i (omega arith) (omega arith)) (from-same a n (i + 1) ys zs (λ j h q. each j (omega arith) (omega arith)))
+    go (getD ys i noMethod) (getD zs i noMethod) (each i (omega arith) (omega arith))
+    (from-same a n (i + 1) ys zs (λ j h q. each j (omega arith) (omega arith)))
   where
     go : (x y : Method) → SameFor a x y → methodsFrom a (i + 1) n ys ≡ methodsFrom a (i + 1) n zs
         → cond (eqb (x .model) a) (record { name = x .name; index = x .function } ∷ methodsFrom a (i + 1) n ys) (methodsFrom a (i + 1) n ys)

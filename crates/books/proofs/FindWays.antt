@@ -5,20 +5,18 @@ use native.Mathlib.Nat.{zero-add}
 use native.Mathlib.Omega.{arith}
 use native.Mathlib.Decide.{decLt}
 use mathlib.Core.Path.{_≡_, refl, sym, ap, _∙_}
-use mathlib.Core.Bool.{Bool, true, false, cond}
+use mathlib.Core.Bool.{cond}
 use mathlib.Core.Option.{Option, none, some}
-use mathlib.Core.List.{List, [], _∷_, _++_}
+use mathlib.Core.List.{List, [], _∷_}
 use lib.ListN.{length, getD}
 use lib.Dec.{eqb}
 use borrow.Author.Tests.{eq-eqb, ne-eqb}
-use Rattle.words.specs.Ast.{Token}
 use Rattle.words.specs.Areas.{entryField}
 use Rattle.words.specs.Object.{Constant, constantOf, modelKind}
 use Rattle.words.specs.Record.{tokenAt, valueAt}
 use Rattle.definition.specs.FunctionState.{Entry, findName}
-use Rattle.definition.specs.Uses.{Limits}
 use Rattle.definition.specs.Book as book
-use Rattle.definition.specs.Book.{Book, modelOf, constantAt, getLocalValue, pushBookError, findModelBy, findModelIn, findModelIndexByLocalName}
+use Rattle.definition.specs.Book.{Book, modelOf, constantAt, getLocalValue, pushBookError, findModelIndexByLocalName}
 use Rattle.definition.specs.Program.{entriesFrom, localWords, localEntry, constantEntry, bit}
 use Rattle.definition.specs.Within.{All, none as nil, _&_}
 use Rattle.definition.proofs.Cells.{single-length, single-at}
@@ -29,7 +27,7 @@ use Rattle.building.specs.Held.{Filled}
 use Rattle.building.proofs.Filling.{filled-field}
 use Rattle.building.proofs.ContextLaws.{find-context-law}
 use Rattle.books.specs.declared.documents.Book as struct
-use Rattle.books.specs.Shelf.{Shelf, shelf, Stock, Keeping, Seeks}
+use Rattle.books.specs.Shelf.{Shelf, Stock}
 use Rattle.books.specs.Deeds.{ErrorsDo}
 use Rattle.books.specs.Modelling.{modelAtC, FindsModel}
 use Rattle.books.proofs.ModelCalm.{calm-find-model}
@@ -102,8 +100,10 @@ constant-model {k} {n} gs cs f c = go (decLt c (length cs))
 
 pub model-law : {ps : List ℕ} {m : Shelf} {w : Book} → Stock ps m w → (i : ℕ) → modelAtC i (m .locals) (m .constants) ≡ modelOf (getLocalValue i (w .context))
 model-law {ps} {m} {w} S i =
-    rw (local-word (w .context .localValues) (w .context .localNames) (S .locals) (S .valued) i 2 (omega arith) apart2 refl,
-    local-word (w .context .localValues) (w .context .localNames) (S .locals) (S .valued) i 3 (omega arith) apart3 refl)
+    rw (
+      local-word (w .context .localValues) (w .context .localNames) (S .locals) (S .valued) i 2 (omega arith) apart2 refl,
+      local-word (w .context .localValues) (w .context .localNames) (S .locals) (S .valued) i 3 (omega arith) apart3 refl,
+    )
     (go (findName i (w .context .localValues)))
   where
     apart2 : (o : Option ℕ) (file name : ℕ) → getD (localWords o file name) 2 0 ≡ getD (localWords o 0 0) 2 0
@@ -155,10 +155,16 @@ module _ {tree : List ℕ} {at : ℕ} {s : struct.Book} {l k e : List ℕ} where
       unfolding findModelIndexByLocalName
       find-other lost E = record {
         seeks = λ c f m p t u n b. record {
-          meets = λ κ ps w H. rw (local-is value (H .rest z) (found-at (findContextLocalC (s .«first_local») (s .locals) name l) searched at-i),
-              ← model-law (H .rest z) i, found-none (modelAtC i l k) model lost) (E .deeds c k f m p t l u n b .meets κ ps w H);
-          sought = λ κ ps w H q. rw (local-is value (H .rest z) (found-at (findContextLocalC (s .«first_local») (s .locals) name l) searched at-i),
-              ← model-law (H .rest z) i, found-none (modelAtC i l k) model lost);
+          meets = λ κ ps w H. rw (
+            local-is value (H .rest z) (found-at (findContextLocalC (s .«first_local») (s .locals) name l) searched at-i),
+            ← model-law (H .rest z) i,
+            found-none (modelAtC i l k) model lost,
+          ) (E .deeds c k f m p t l u n b .meets κ ps w H);
+          sought = λ κ ps w H q. rw (
+            local-is value (H .rest z) (found-at (findContextLocalC (s .«first_local») (s .locals) name l) searched at-i),
+            ← model-law (H .rest z) i,
+            found-none (modelAtC i l k) model lost,
+          );
         };
       }
 
@@ -166,9 +172,15 @@ module _ {tree : List ℕ} {at : ℕ} {s : struct.Book} {l k e : List ℕ} where
       unfolding findModelIndexByLocalName
       find-there {j} at-j = record {
         seeks = λ c f m p t u n b. record {
-          meets = λ κ ps w H. rw (local-is value (H .rest z) (found-at (findContextLocalC (s .«first_local») (s .locals) name l) searched at-i),
-              ← model-law (H .rest z) i, found-at (modelAtC i l k) model at-j) H;
-          sought = λ κ ps w H q. rw (local-is value (H .rest z) (found-at (findContextLocalC (s .«first_local») (s .locals) name l) searched at-i),
-              ← model-law (H .rest z) i, found-at (modelAtC i l k) model at-j) at-j;
+          meets = λ κ ps w H. rw (
+            local-is value (H .rest z) (found-at (findContextLocalC (s .«first_local») (s .locals) name l) searched at-i),
+            ← model-law (H .rest z) i,
+            found-at (modelAtC i l k) model at-j,
+          ) H;
+          sought = λ κ ps w H q. rw (
+            local-is value (H .rest z) (found-at (findContextLocalC (s .«first_local») (s .locals) name l) searched at-i),
+            ← model-law (H .rest z) i,
+            found-at (modelAtC i l k) model at-j,
+          ) at-j;
         };
       }

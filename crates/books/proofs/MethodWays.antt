@@ -1,27 +1,27 @@
 -- One lemma for each way through `insert_method`, over what its calls ensure. Assumes nothing.
-use Prim.Native.Nat.{ℕ, _+_, _-_, _*_, _≤_, _<_}
+use Prim.Native.Nat.{ℕ, _+_, _-_, _*_}
 use native.Mathlib.Omega.{arith}
 use mathlib.Core.Path.{_≡_, refl, sym, ap, _∙_}
 use mathlib.Core.Bool.{Bool, true, false, cond}
-use mathlib.Core.Option.{Option, none, some}
+use mathlib.Core.Option.{none, some}
 use mathlib.Core.List.{List, [], _∷_, _++_}
 use lib.ListN.{length, getD, set, length-append, length-set}
 use lib.Dec.{eqb}
 use borrow.Author.Tests.{eqb-true}
 use Rattle.words.specs.Areas.{methodsArea, Patched}
-use Rattle.definition.specs.Uses.{Limits, limitOf}
-use Rattle.definition.specs.Book.{Method, Book, noted, withContext, withMethods, sameMethod, insertMethod, addMethods}
+use Rattle.definition.specs.Uses.{Limits}
+use Rattle.definition.specs.Book.{Method, Book, sameMethod, insertMethod, addMethods}
 use Rattle.definition.specs.Program.{entriesFrom, methodEntry}
 use Rattle.definition.proofs.Cells.{single-length}
 use Rattle.building.specs.declared.scopes.Found.{Found}
 use Rattle.building.specs.declared.scopes.Found.the-variants.{At, Nothing}
 use Rattle.building.specs.declared.taking.Taken.{Taken}
-use Rattle.building.specs.Found.{foundOf, firstFrom}
-use Rattle.building.specs.Taking.{Took, taken}
+use Rattle.building.specs.Found.{foundOf}
+use Rattle.building.specs.Taking.{Took}
 use Rattle.building.specs.Held.{Filled}
 use Rattle.building.proofs.ContextLaws.{took-law}
 use Rattle.books.specs.declared.documents.Book as struct
-use Rattle.books.specs.Shelf.{Shelf, shelf, Stock, Fitted, Keeping}
+use Rattle.books.specs.Shelf.{shelf, Stock, Keeping}
 use Rattle.books.specs.Modelling.{isPair, findPairC, withMethodCount, InsertsMethod, noMethod}
 use Rattle.books.proofs.ModelCalm.{calm-methods}
 use Rattle.books.proofs.Shelving.{full-deeds}
@@ -45,13 +45,17 @@ module _ (model name function : ℕ) where
   found-in {t} {xs} {n} f =
       let many : n - 0 ≡ length xs = omega (arith, rows-count methodWords [] xs noMethod (omega arith) f) in
       rw many (inserting noMethod (λ x. sameMethod x (methodOf model name function)) (methodOf model name function) (isPair 3 model name t) xs 0
-      (λ j h. rw (row-word methodWords [] xs noMethod (omega arith) f j 0 h (omega arith), row-word methodWords [] xs noMethod (omega arith) f j 1 h (omega arith))))
+      (λ j h. rw (
+        row-word methodWords [] xs noMethod (omega arith) f j 0 h (omega arith),
+        row-word methodWords [] xs noMethod (omega arith) f j 1 h (omega arith),
+      )))
 
   -- the words of the one that is there
   pair-of : (x : Method) → sameMethod x (methodOf model name function) ≡ true → set (methodWords x) 2 function ≡ methodWords (methodOf model name function)
   pair-of x q = go (eqb (x .model) model) refl q
     where
-      go : (b : Bool) → eqb (x .model) model ≡ b → cond b (eqb (x .name) name) false ≡ true → set (methodWords x) 2 function ≡ methodWords (methodOf model name function)
+      go : (b : Bool) → eqb (x .model) model ≡ b → cond b (eqb (x .name) name) false ≡ true
+          → set (methodWords x) 2 function ≡ methodWords (methodOf model name function)
       go true p r = rw (eqb-true (x .model) model p, eqb-true (x .name) name r)
       go false p r = absurd (let z : _≡_ {A = ℕ} 0 1 = cc in omega arith)
 
@@ -75,7 +79,8 @@ module _ (model name function : ℕ) where
         go c k f m p l u n b e κ ps w H S (there j q h r set-is first) =
             let xs = w .context .methods in
             let words : t′ ≡ set t (i * 3 + 2) function =
-            patch-there i 2 function (omega arith) (omega (arith, rows-count methodWords [] xs noMethod (omega arith) (S .methods))) (omega arith) (S .methods) P in
+            patch-there i 2 function (omega arith) (omega (arith, rows-count methodWords [] xs noMethod (omega arith) (S .methods))) (omega arith)
+            (S .methods) P in
             let place : 0 + j ≡ i = sym q in
             let filled : Filled 3 t′ (entriesFrom methodEntry 0 (insertMethod (methodOf model name function) xs)) (s .methods) =
             rw (words, insert-by (methodOf model name function) xs, set-is, ← place)
@@ -115,5 +120,6 @@ module _ (model name function : ℕ) where
             ap (λ (y : List Method). entriesFrom methodEntry 0 y) is ∙ rows-more methodWords 0 xs (methodOf model name function) in
             keeping-grown H z methodsArea (length (insertMethod (methodOf model name function) xs)) _ refl (took-law T z (S .methods)) (omega arith) refl
             (H .fitted .methods)
-            (ap length is ∙ length-append xs (methodOf model name function ∷ []) ∙ omega (arith, rows-count methodWords [] xs noMethod (omega arith) (S .methods)))
+            (ap length is ∙ length-append xs (methodOf model name function ∷ [])
+            ∙ omega (arith, rows-count methodWords [] xs noMethod (omega arith) (S .methods)))
             refl (λ e. fitted-methods e (H .fitted)) (λ f q. rw q (stock-methods S (rw entries f)))

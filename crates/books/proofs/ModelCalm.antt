@@ -1,6 +1,6 @@
 -- What no deed changes of a book, of models, methods and public names. By cases over each deed. Assumes nothing.
 use Prim.Native.Nat.{ℕ, _+_}
-use mathlib.Core.Path.{_≡_, refl}
+use mathlib.Core.Path.{refl}
 use mathlib.Core.Bool.{Bool, true, false, cond}
 use mathlib.Core.Option.{Option, none, some}
 use mathlib.Core.List.{List, [], _∷_, _++_}
@@ -9,8 +9,8 @@ use Rattle.words.specs.Areas.{propertiesArea}
 use Rattle.words.specs.Ast.{Token}
 use Rattle.words.specs.Object.{constantOf, modelKind}
 use Rattle.definition.specs.FunctionState.{Entry, findName}
-use Rattle.definition.specs.Book.{Book, Placed, hasText, pushBookError, addBookConstant, defineContextLocal, addMethods, publish, addProperty, compileProperties}
-use Rattle.definition.specs.Book.{addModel, compileModelDefinition, modelOf, getLocalValue, findModelBy, findModelIn, findModelIndexByLocalName, methodsOf}
+use Rattle.definition.specs.Book.{Placed, hasText, pushBookError, addBookConstant, defineContextLocal, addMethods, publish, addProperty}
+use Rattle.definition.specs.Book.{compileProperties, addModel, compileModelDefinition, modelOf, getLocalValue, findModelBy, findModelIn, findModelIndexByLocalName, methodsOf}
 use Rattle.definition.specs.Book.{compileApplyDefinition, Properties, propertiesOf, noted}
 use Rattle.definition.proofs.Steady.{same, more}
 use Rattle.books.specs.Modelling.{placeModel}

@@ -1,30 +1,28 @@
 -- One lemma for each way through `place_model` and `model_definition`, over what their calls ensure; and what stands between definitions. Assumes
 -- nothing.
-use Prim.Native.Nat.{ℕ, suc, _+_, _-_, _≤_, _<_}
+use Prim.Native.Nat.{ℕ, _+_, _-_, _≤_}
 use native.Mathlib.Nat.{zero-add}
 use native.Mathlib.Omega.{arith}
 use mathlib.Core.Path.{_≡_, refl, sym, ap, _∙_}
-use mathlib.Core.Bool.{Bool, true, false}
 use mathlib.Core.List.{List, [], _∷_, _++_, append-nil}
-use lib.ListN.{length, length-append}
+use lib.ListN.{length}
 use Rattle.words.specs.Ast.{Token}
 use Rattle.words.specs.Areas.{modelsArea}
 use Rattle.words.specs.Object.{constantOf, modelKind}
-use Rattle.words.specs.Record.{tokenAt, valueAt}
+use Rattle.words.specs.Record.{valueAt}
 use Rattle.definition.specs.Uses.{Limits}
 use Rattle.definition.specs.Book.{Book, Placed, Deed, Model, compileProperties, addModel, addBookConstant, defineContextLocal, compileModelDefinition, publish}
-use Rattle.definition.specs.Program.{Entries, entriesFrom, modelEntry, modelProperties, propertyEntries}
-use Rattle.tree.specs.At.{RunAt, runSize, NameAt, single}
+use Rattle.definition.specs.Program.{entriesFrom, modelEntry, modelProperties, propertyEntries}
 use Rattle.building.specs.declared.scopes.Found.{Found}
 use Rattle.building.specs.declared.taking.Taken.{Taken}
 use Rattle.building.specs.Taking.{Took}
 use Rattle.building.proofs.ContextLaws.{took-law}
 use Rattle.building.proofs.PoolLaws.{entries-more}
 use Rattle.books.specs.declared.documents.Book as struct
-use Rattle.books.specs.Shelf.{Shelf, shelf, Stock, Keeping, Deeds, Places}
+use Rattle.books.specs.Shelf.{Shelf, shelf, Keeping, Deeds, Places}
 use Rattle.books.specs.Deeds.{ConstantsPlace, LocalsSeek, LocalsValue, Valuable}
-use Rattle.books.specs.Modelling.{withModelCount, Publishes, ModelsProperties, DeedsAlone, PlacesAlone, placeModel, PlacesModel, DefinesModel}
-use Rattle.books.proofs.Calm.{calm-constant, calm-local}
+use Rattle.books.specs.Modelling.{withModelCount, Publishes, ModelsProperties, DeedsAlone, PlacesAlone, PlacesModel, DefinesModel}
+use Rattle.books.proofs.Calm.{calm-local}
 use Rattle.books.proofs.ModelCalm.{calm-place-model}
 use Rattle.books.proofs.Shelving.{keeping-longer, unfilled}
 use Rattle.books.proofs.DeedWays.{defined-below}

@@ -6,12 +6,12 @@ use native.Mathlib.Omega.{arith}
 use mathlib.Core.Path.{_≡_, refl, sym, ap, _∙_}
 use mathlib.Core.Bool.{Bool, true, false, cond}
 use mathlib.Core.Option.{Option, none, some}
-use mathlib.Core.List.{List, [], _∷_, _++_, append-assoc}
+use mathlib.Core.List.{List, [], _∷_, _++_}
 use lib.ListN.{length, getD, set, replicate, length-append}
 use lib.Seq.{getD-append-add}
 use lib.Dec.{eqb}
 use borrow.Author.Tests.{eq-eqb, ne-eqb, lt-ltb, le-leb}
-use Rattle.words.specs.Areas.{entryField, entriesIn, wordFits, Patched}
+use Rattle.words.specs.Areas.{entryField, Patched}
 use Rattle.definition.specs.Program.{Entries, flat, entriesFrom}
 use Rattle.words.proofs.Entries.{field-in}
 use Rattle.definition.proofs.Cells.{single-length, single-at}

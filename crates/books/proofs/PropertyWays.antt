@@ -5,29 +5,29 @@ use mathlib.Core.Path.{_≡_, refl, sym, ap, _∙_}
 use mathlib.Core.Bool.{Bool, true, false, cond}
 use mathlib.Core.Option.{Option, none, some}
 use mathlib.Core.List.{List, [], _∷_, _++_, append-assoc}
-use lib.ListN.{length, getD, length-append}
+use lib.ListN.{length, getD}
 use lib.Dec.{eqb}
-use borrow.Author.Tests.{eqb-true, eq-eqb}
+use borrow.Author.Tests.{eq-eqb}
 use Rattle.words.specs.Ast.{Token}
 use Rattle.words.specs.Record.{tokenAt, valueAt}
 use Rattle.words.specs.Areas.{propertiesArea}
-use Rattle.definition.specs.Uses.{Limits, limitOf}
+use Rattle.definition.specs.Uses.{Limits}
 use Rattle.definition.specs.Book.{Book, Context, Model, Properties, noted, hasText, propertiesOf, pushBookError, addProperty, compileProperties}
-use Rattle.definition.specs.Program.{Entries, entriesFrom, propertyEntries, modelProperties, modelEntry}
+use Rattle.definition.specs.Program.{Entries, entriesFrom, propertyEntries, modelProperties}
 use Rattle.definition.proofs.Cells.{all-any, entries-length, single-length}
 use Rattle.tree.specs.At.{RunAt, runSize, NameAt, single}
 use Rattle.building.specs.declared.scopes.Found.{Found}
 use Rattle.building.specs.declared.scopes.Found.the-variants.{At, Nothing}
 use Rattle.building.specs.declared.taking.Taken.{Taken}
 use Rattle.building.specs.Found.{foundOf, firstFrom}
-use Rattle.building.specs.Taking.{Took, taken}
+use Rattle.building.specs.Taking.{Took}
 use Rattle.building.specs.Held.{Filled}
 use Rattle.building.proofs.ContextLaws.{took-law}
 use Rattle.books.specs.declared.documents.Book as struct
-use Rattle.books.specs.Shelf.{Shelf, shelf, Stock, Fitted, Keeping}
+use Rattle.books.specs.Shelf.{Shelf, shelf, Stock, Keeping}
 use Rattle.books.specs.Deeds.{ErrorsDo}
 use Rattle.books.specs.Modelling.{isPair, findPairC, withPropertyCount, AddsProperty, AddsProperties, ModelsProperties}
-use Rattle.books.proofs.ModelCalm.{calm-property, calm-properties}
+use Rattle.books.proofs.ModelCalm.{calm-property}
 use Rattle.books.proofs.Shelving.{keeping-longer, unfilled}
 use Rattle.books.proofs.Pairs.{found-at, found-none, rowsFrom, rows-count, rows-more, row-word}
 use Rattle.books.proofs.Stocking.{keeping-grown, stock-properties, fitted-properties}
@@ -76,8 +76,11 @@ module _ (i name : ℕ) (front : Entries) (ps : List ℕ) {p : List ℕ} {n : �
   has-in {from} q =
       let many : n - from ≡ length ps = omega (arith, property-count) in
       rw (many, q) (has-text name (isPair 2 i name p) ps (length front)
-      (λ j h. rw (row-word (propertyWords i) front ps 0 (omega arith) rows j 0 h (omega arith),
-      row-word (propertyWords i) front ps 0 (omega arith) rows j 1 h (omega arith), eq-eqb i i refl)))
+      (λ j h. rw (
+        row-word (propertyWords i) front ps 0 (omega arith) rows j 0 h (omega arith),
+        row-word (propertyWords i) front ps 0 (omega arith) rows j 1 h (omega arith),
+        eq-eqb i i refl,
+      )))
 
 more-in : (i name : ℕ) (front : Entries) (ps : List ℕ)
     → (front ++ propertyEntries i ps) ++ ((i ∷ name ∷ []) ∷ []) ≡ front ++ propertyEntries i (ps ++ (name ∷ []))

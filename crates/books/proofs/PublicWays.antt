@@ -1,28 +1,28 @@
 -- One lemma for each way through `publish`, over what its calls ensure; and a constant that is placed and then published. Assumes nothing.
-use Prim.Native.Nat.{ℕ, suc, _+_, _-_, _*_, _≤_, _<_}
+use Prim.Native.Nat.{ℕ, suc, _+_, _-_, _*_, _<_}
 use native.Mathlib.Omega.{arith}
 use mathlib.Core.Path.{_≡_, refl, sym, ap, _∙_}
-use mathlib.Core.Bool.{Bool, true, false, cond}
-use mathlib.Core.Option.{Option, none, some}
+use mathlib.Core.Bool.{Bool, true, cond}
+use mathlib.Core.Option.{none, some}
 use mathlib.Core.List.{List, [], _∷_, _++_, append-assoc}
 use lib.ListN.{length, getD, set, length-append, length-set}
 use lib.Dec.{eqb}
 use borrow.Author.Tests.{eqb-true, eq-eqb}
 use Rattle.words.specs.Areas.{publicNamesArea, Patched}
 use Rattle.definition.specs.FunctionState.{Entry}
-use Rattle.definition.specs.Uses.{Limits, limitOf}
-use Rattle.definition.specs.Book.{Assembly, Book, Placed, noted, withPublics, insertEntry, publicsOf, publish}
+use Rattle.definition.specs.Uses.{Limits}
+use Rattle.definition.specs.Book.{Assembly, Book, Placed, insertEntry, publicsOf, publish}
 use Rattle.definition.specs.Program.{Entries, entriesFrom, publicEntries, assemblyPublics}
 use Rattle.definition.proofs.Cells.{all-any, entries-length}
 use Rattle.building.specs.declared.scopes.Found.{Found}
 use Rattle.building.specs.declared.scopes.Found.the-variants.{At, Nothing}
 use Rattle.building.specs.declared.taking.Taken.{Taken}
-use Rattle.building.specs.Found.{foundOf, firstFrom}
+use Rattle.building.specs.Found.{foundOf}
 use Rattle.building.specs.Taking.{Took, taken}
 use Rattle.building.specs.Held.{Filled}
 use Rattle.building.proofs.ContextLaws.{took-law}
 use Rattle.books.specs.declared.documents.Book as struct
-use Rattle.books.specs.Shelf.{Shelf, shelf, Stock, Fitted, Keeping, Deeds, Places}
+use Rattle.books.specs.Shelf.{Shelf, shelf, Stock, Keeping, Deeds, Places}
 use Rattle.books.specs.Modelling.{isPair, findPairC, withPublicCount, Publishes}
 use Rattle.books.proofs.ModelCalm.{calm-publish}
 use Rattle.books.proofs.Shelving.{keeping-longer}
@@ -74,7 +74,8 @@ module _ (file name place : ℕ) (front : Entries) (xs : List Entry) {u : List �
         eq-eqb file file refl,
       )))
 
-  set-in : (j : ℕ) {u′ : List ℕ} → j < length xs → eqb (getD xs j noEntry .name) name ≡ true → insertBy (λ x. eqb (x .name) name) (entryOf name place) xs ≡ set xs j (entryOf name place)
+  set-in : (j : ℕ) {u′ : List ℕ} → j < length xs → eqb (getD xs j noEntry .name) name ≡ true
+      → insertBy (λ x. eqb (x .name) name) (entryOf name place) xs ≡ set xs j (entryOf name place)
       → u′ ≡ set u ((length front + j) * 3 + 2) place → Filled 3 u′ (front ++ publicEntries file (insertEntry (entryOf name place) xs)) n
   set-in j h r set-is words =
       let words′ : set (publicWords file (getD xs j noEntry)) 2 place ≡ publicWords file (entryOf name place) =

@@ -1,7 +1,7 @@
 -- An entry more of one area, or one anew: the rest of the stock stays, and the note fits or is the first that does not. Assumes nothing.
 use Prim.Native.Nat.{ℕ, _+_, _≤_, _<_}
 use native.Mathlib.Omega.{arith}
-use mathlib.Core.Path.{_≡_, refl, sym, ap, _∙_}
+use mathlib.Core.Path.{_≡_, refl}
 use mathlib.Core.List.{List, [], _∷_, _++_}
 use lib.ListN.{length}
 use Rattle.words.specs.Areas.{widthOf, entriesIn}
@@ -99,7 +99,12 @@ pub stock-publics : {ps : List ℕ} {m : Shelf} {b : Book} {l : List Entry} {us 
     → Filled 3 u′ (entriesFrom assemblyPublics 0 (b .context .assemblies) ++ publicEntries (b .assembly .index) l) n
     → Stock ps (shelf (withPublicCount (taken full n) (m .book)) (m .code) (m .constants) (m .functions) (m .models) (m .properties) (m .methods)
     (m .locals) u′ (m .names) (m .breaks) (m .errors))
-    (record { compiler = b .compiler; assembly = record { filename = b .assembly .filename; index = b .assembly .index; publics = l }; context = b .context; uses = us })
+    (record {
+      compiler = b .compiler;
+      assembly = record { filename = b .assembly .filename; index = b .assembly .index; publics = l };
+      context = b .context;
+      uses = us;
+    })
 stock-publics S f = record {
   code = S .code;
   sized = S .sized;

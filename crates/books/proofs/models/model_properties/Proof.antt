@@ -13,8 +13,8 @@ use borrow.Author.Needs.{needs}
 use native.Mathlib.Omega.{arith}
 
 abbrev Inv-loop : tie.InvT-loop
-Inv-loop tree at end properties₀ errors₀ first i₀ b₀ properties errors i b = (length properties ≡ length properties₀) × (length errors ≡ length errors₀) ×
-    ((s′ : Book) (p′ e′ : List ℕ) → AddsProperties tree i end first b properties errors s′ p′ e′
+Inv-loop tree at end properties₀ errors₀ first i₀ b₀ properties errors i b = (length properties ≡ length properties₀) × (length errors ≡ length errors₀)
+    × ((s′ : Book) (p′ e′ : List ℕ) → AddsProperties tree i end first b properties errors s′ p′ e′
     → AddsProperties tree at end first b₀ properties₀ errors₀ s′ p′ e′)
 
 abbrev μ-loop : tie.MeasureT-loop
