@@ -20,3 +20,6 @@ pub mod ModelWays
 pub mod Resuming
 pub mod LocalEntries
 pub mod DeedWays
+pub mod LocalWays
+pub mod PublicNames
+pub mod IncludeWays

@@ -3,3 +3,4 @@ pub mod Members
 pub mod Shelf
 pub mod Modelling
 pub mod Deeds
+pub mod Including
