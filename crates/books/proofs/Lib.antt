@@ -17,6 +17,7 @@ pub mod FindWays
 pub mod Copying
 pub mod ApplyWays
 pub mod ModelWays
+pub mod MethodOrder
 pub mod Resuming
 pub mod LocalEntries
 pub mod DeedWays
