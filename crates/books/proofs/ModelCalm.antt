@@ -10,8 +10,8 @@ use Rattle.words.specs.Ast.{Token}
 use Rattle.words.specs.Object.{constantOf, modelKind}
 use Rattle.definition.specs.FunctionState.{Entry, findName}
 use Rattle.definition.specs.Book.{Placed, hasText, pushBookError, addBookConstant, defineContextLocal, addMethods, publish, addProperty}
-use Rattle.definition.specs.Book.{compileProperties, addModel, compileModelDefinition, modelOf, getLocalValue, findModelBy, findModelIn, findModelIndexByLocalName}
-use Rattle.definition.specs.Book.{methodsOf, compileApplyDefinition, Properties, propertiesOf, noted}
+use Rattle.definition.specs.Book.{compileProperties, addModel, compileModelDefinition, modelOf, getLocalValue, findModelBy, findModelIn}
+use Rattle.definition.specs.Book.{findModelIndexByLocalName, methodsOf, compileApplyDefinition, Properties, propertiesOf, noted}
 use Rattle.definition.proofs.Steady.{same, more}
 use Rattle.books.specs.Modelling.{placeModel}
 use Rattle.books.proofs.Calm.{Calm, Calms, calm-refl, calm-trans, calm-error, calm-constant, calm-local, calm-value}
