@@ -29,6 +29,17 @@ pub mod VariableWays
 pub mod InfixWays
 pub mod IfWays
 pub mod LoopWays
+pub mod ModelCalm
+pub mod Pairs
+pub mod Stocking
+pub mod MethodWays
+pub mod PublicWays
+pub mod PropertyWays
+pub mod FindWays
+pub mod Copying
+pub mod ApplyWays
+pub mod ModelWays
+pub mod MethodOrder
 pub mod Resuming
 pub mod LocalEntries
 pub mod DeedWays

@@ -7,5 +7,6 @@ pub mod Driving
 pub mod Sets
 pub mod Solving
 pub mod Looping
+pub mod Modelling
 pub mod Deeds
 pub mod Including

@@ -70,7 +70,7 @@ fn resumed(book: Book, state: FunctionState) -> Book
 }
 
 // An error at the token that a record is.
-fn fault(tree: &[u64], at: usize, errors: &mut [u64], book: Book, number: u64) -> Book
+pub(crate) fn fault(tree: &[u64], at: usize, errors: &mut [u64], book: Book, number: u64) -> Book
     ensures { λ r. ⌜ ErrorsDo book (now (errors .entry)) r (now (errors .exit)) (pushBookError number (tokenAt (now (tree .entry)) at)) ⌝ }
 {
     let before = working(book);
@@ -78,7 +78,7 @@ fn fault(tree: &[u64], at: usize, errors: &mut [u64], book: Book, number: u64) -
     resumed(book, state)
 }
 
-fn add_constant(constants: &mut [u64], book: Book, kind: u64, value: u64) -> Placed
+pub(crate) fn add_constant(constants: &mut [u64], book: Book, kind: u64, value: u64) -> Placed
     ensures { λ r. ⌜ ConstantsPlace book (now (constants .entry)) (r .book) (now (constants .exit)) (r .place) (addBookConstant (constantOf kind value)) ⌝ }
 {
     let before = working(book);
@@ -89,7 +89,7 @@ fn add_constant(constants: &mut [u64], book: Book, kind: u64, value: u64) -> Pla
 }
 
 // `define_local` of the compiler's state; nothing is found with the mark set.
-fn define_local(locals: &mut [u64], book: Book, name: u64) -> Sought
+pub(crate) fn define_local(locals: &mut [u64], book: Book, name: u64) -> Sought
     ensures { λ r. ⌜ LocalsSeek book (now (locals .entry)) (r .book) (now (locals .exit)) (r .found) (defineContextLocal name) ⌝ }
 {
     if book.full != 0 {
@@ -114,7 +114,7 @@ fn define_local(locals: &mut [u64], book: Book, name: u64) -> Sought
 }
 
 // `local_values.insert`, where there is a local.
-fn set_value(locals: &mut [u64], book: Book, found: Found, constant: u64)
+pub(crate) fn set_value(locals: &mut [u64], book: Book, found: Found, constant: u64)
     ensures { λ _. ⌜ LocalsValue book (now (locals .entry)) (now (locals .exit)) found constant ⌝ }
 {
     if book.full != 0 {

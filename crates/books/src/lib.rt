@@ -4,3 +4,4 @@ pub mod documents;
 pub mod driver;
 pub mod functions;
 mod solver;
+pub mod models;
