@@ -552,27 +552,47 @@ expression-expression-requires t c κs =
 expression-same-length-11 : (t : ℕ) → expression-lts.Need-same-length-11 (expression-calls t) (expression-at t) expression.Post
 expression-same-length-11 t c =
     let c17 = c .before .before .before .before .before .before .before .before .before .before .before .before .before .before .before .before .before in
-    omega (arith, c .before .before .before .before .prefix .kept, c17 .expression .kept)
+    omega (
+      arith,
+      c .before .before .before .before .prefix .kept,
+      c17 .expression .kept,
+    )
 
 expression-same-length-12 : (t : ℕ) → expression-lts.Need-same-length-12 (expression-calls t) (expression-at t) expression.Post
 expression-same-length-12 t c =
     let c17 = c .before .before .before .before .before .before .before .before .before .before .before .before .before .before .before .before .before in
-    omega (arith, c .before .before .before .before .prefix .kept, c17 .expression .kept)
+    omega (
+      arith,
+      c .before .before .before .before .prefix .kept,
+      c17 .expression .kept,
+    )
 
 expression-same-length-13 : (t : ℕ) → expression-lts.Need-same-length-13 (expression-calls t) (expression-at t) expression.Post
 expression-same-length-13 t c =
     let c17 = c .before .before .before .before .before .before .before .before .before .before .before .before .before .before .before .before .before in
-    omega (arith, c .before .before .before .before .prefix .kept, c17 .expression .kept)
+    omega (
+      arith,
+      c .before .before .before .before .prefix .kept,
+      c17 .expression .kept,
+    )
 
 expression-same-length-14 : (t : ℕ) → expression-lts.Need-same-length-14 (expression-calls t) (expression-at t) expression.Post
 expression-same-length-14 t c =
     let c17 = c .before .before .before .before .before .before .before .before .before .before .before .before .before .before .before .before .before in
-    omega (arith, c .before .before .before .before .prefix .kept, c17 .expression .kept)
+    omega (
+      arith,
+      c .before .before .before .before .prefix .kept,
+      c17 .expression .kept,
+    )
 
 expression-same-length-15 : (t : ℕ) → expression-lts.Need-same-length-15 (expression-calls t) (expression-at t) expression.Post
 expression-same-length-15 t c =
     let c17 = c .before .before .before .before .before .before .before .before .before .before .before .before .before .before .before .before .before in
-    omega (arith, c .before .before .before .before .prefix .kept, c17 .expression .kept)
+    omega (
+      arith,
+      c .before .before .before .before .prefix .kept,
+      c17 .expression .kept,
+    )
 
 expression-returns-4 : (t : ℕ) → expression-lts.Need-returns-4 (expression-calls t) (expression-at t) expression.Post
 expression-returns-4 t c =
@@ -632,54 +652,71 @@ expression-expression-requires-2 t c κs =
     let c6 = c .before .before .before .before .before .before in
     let c14 = c6 .before .before .before .before .before .before .before .before in
     let c24 = c14 .before .before .before .before .before .before .before .before .before .before in
-    let m = skip-inside (c24 .args .tree .now) (c24 .args .at + 1) (c24 .args .end) (omega (arith, c14 .if2 .taken)) (c6 .skip .ensures) in omega (
-      arith,
-      m,
-      c14 .if2,
-      c24 .pre,
-    )
+    let m = skip-inside (c24 .args .tree .now) (c24 .args .at + 1) (c24 .args .end) (omega (arith, c14 .if2 .taken)) (c6 .skip .ensures) in
+    omega (arith, m, c14 .if2, c24 .pre)
 
 expression-expressions-requires-2 : (t : ℕ) → expression-lts.Need-expressions-requires-2 (expression-calls t) (expression-at t) expression.Post
 expression-expressions-requires-2 t c κs =
     let c22 = c .before .before .before .before .before .before .before .before .before .before .before .before .before .before .before .before .before .before .before .before .before .before in
     let c30 = c22 .before .before .before .before .before .before .before .before in
     let c40 = c30 .before .before .before .before .before .before .before .before .before .before in
-    let m = skip-inside (c40 .args .tree .now) (c40 .args .at + 1) (c40 .args .end) (omega (arith, c30 .if2 .taken)) (c22 .skip .ensures) in omega (
-      arith,
-      m,
-      c30 .if2,
-      c40 .pre,
-    )
+    let m = skip-inside (c40 .args .tree .now) (c40 .args .at + 1) (c40 .args .end) (omega (arith, c30 .if2 .taken)) (c22 .skip .ensures) in
+    omega (arith, m, c30 .if2, c40 .pre)
 
 expression-same-length-21 : (t : ℕ) → expression-lts.Need-same-length-21 (expression-calls t) (expression-at t) expression.Post
 expression-same-length-21 t c =
     let c15 = c .before .before .before .before .before .before .before .before .before .before .before .before .before .before .before in
     let c31 = c15 .before .before .before .before .before .before .before .before .before .before .before .before .before .before .before .before in
-    omega (arith, c .before .before .emit2 .kept, c31 .expression2 .kept, c15 .expressions2 .kept)
+    omega (
+      arith,
+      c .before .before .emit2 .kept,
+      c31 .expression2 .kept,
+      c15 .expressions2 .kept,
+    )
 
 expression-same-length-22 : (t : ℕ) → expression-lts.Need-same-length-22 (expression-calls t) (expression-at t) expression.Post
 expression-same-length-22 t c =
     let c15 = c .before .before .before .before .before .before .before .before .before .before .before .before .before .before .before in
     let c31 = c15 .before .before .before .before .before .before .before .before .before .before .before .before .before .before .before .before in
-    omega (arith, c .before .before .emit2 .kept, c31 .expression2 .kept, c15 .expressions2 .kept)
+    omega (
+      arith,
+      c .before .before .emit2 .kept,
+      c31 .expression2 .kept,
+      c15 .expressions2 .kept,
+    )
 
 expression-same-length-23 : (t : ℕ) → expression-lts.Need-same-length-23 (expression-calls t) (expression-at t) expression.Post
 expression-same-length-23 t c =
     let c15 = c .before .before .before .before .before .before .before .before .before .before .before .before .before .before .before in
     let c31 = c15 .before .before .before .before .before .before .before .before .before .before .before .before .before .before .before .before in
-    omega (arith, c .before .before .emit2 .kept, c31 .expression2 .kept, c15 .expressions2 .kept)
+    omega (
+      arith,
+      c .before .before .emit2 .kept,
+      c31 .expression2 .kept,
+      c15 .expressions2 .kept,
+    )
 
 expression-same-length-24 : (t : ℕ) → expression-lts.Need-same-length-24 (expression-calls t) (expression-at t) expression.Post
 expression-same-length-24 t c =
     let c15 = c .before .before .before .before .before .before .before .before .before .before .before .before .before .before .before in
     let c31 = c15 .before .before .before .before .before .before .before .before .before .before .before .before .before .before .before .before in
-    omega (arith, c .before .before .emit2 .kept, c31 .expression2 .kept, c15 .expressions2 .kept)
+    omega (
+      arith,
+      c .before .before .emit2 .kept,
+      c31 .expression2 .kept,
+      c15 .expressions2 .kept,
+    )
 
 expression-same-length-25 : (t : ℕ) → expression-lts.Need-same-length-25 (expression-calls t) (expression-at t) expression.Post
 expression-same-length-25 t c =
     let c15 = c .before .before .before .before .before .before .before .before .before .before .before .before .before .before .before in
     let c31 = c15 .before .before .before .before .before .before .before .before .before .before .before .before .before .before .before .before in
-    omega (arith, c .before .before .emit2 .kept, c31 .expression2 .kept, c15 .expressions2 .kept)
+    omega (
+      arith,
+      c .before .before .emit2 .kept,
+      c31 .expression2 .kept,
+      c15 .expressions2 .kept,
+    )
 
 expression-returns-6 : (t : ℕ) → expression-lts.Need-returns-6 (expression-calls t) (expression-at t) expression.Post
 expression-returns-6 t c =
@@ -821,13 +858,8 @@ expressions-expression-requires t c κs =
     let c6 = c5 .before in
     let c7 = c6 .before in
     let c15 = c7 .before .before .before .before .before .before .before .before in
-    let m = skip-more (c15 .args .tree .now) (c7 .loop .i) (c15 .args .end) (c6 .loop-test .taken) (c5 .skip .ensures) in omega (
-      arith,
-      m,
-      c7 .loop .inv .0,
-      c6 .loop-test .taken,
-      c15 .pre,
-    )
+    let m = skip-more (c15 .args .tree .now) (c7 .loop .i) (c15 .args .end) (c6 .loop-test .taken) (c5 .skip .ensures) in
+    omega (arith, m, c7 .loop .inv .0, c6 .loop-test .taken, c15 .pre)
 
 expressions-loop-less : (t : ℕ) → expressions-lts.Need-loop-less (expressions-calls t) (expressions-at t) expressions.Post expressions-Inv-loop expressions-μ-loop
 expressions-loop-less t c =
@@ -928,24 +960,16 @@ for-part-expression-requires t c κs =
     let c6 = c .before .before .before .before .before .before in
     let c7 = c6 .before in
     let c16 = c7 .before .before .before .before .before .before .before .before .before in
-    let b = skip-inside (c16 .args .tree .now) (c16 .args .at + 2) (c16 .args .end) (omega (arith, c7 .if2 .taken)) (c6 .skip .ensures) in omega (
-      arith,
-      b,
-      c7 .if2,
-      c16 .pre,
-    )
+    let b = skip-inside (c16 .args .tree .now) (c16 .args .at + 2) (c16 .args .end) (omega (arith, c7 .if2 .taken)) (c6 .skip .ensures) in
+    omega (arith, b, c7 .if2, c16 .pre)
 
 for-part-statements-requires : (t : ℕ) → for-part-lts.Need-statements-requires (for-part-calls t) (for-part-at t) for-part.Post
 for-part-statements-requires t c κs =
     let c37 = c .before .before .before .before .before .before .before .before .before .before .before .before .before .before .before .before .before .before .before .before .before .before .before .before .before .before .before .before .before .before .before .before .before .before .before .before .before in
     let c38 = c37 .before in
     let c47 = c38 .before .before .before .before .before .before .before .before .before in
-    let b = skip-inside (c47 .args .tree .now) (c47 .args .at + 2) (c47 .args .end) (omega (arith, c38 .if2 .taken)) (c37 .skip .ensures) in omega (
-      arith,
-      b,
-      c38 .if2,
-      c47 .pre,
-    )
+    let b = skip-inside (c47 .args .tree .now) (c47 .args .at + 2) (c47 .args .end) (omega (arith, c38 .if2 .taken)) (c37 .skip .ensures) in
+    omega (arith, b, c38 .if2, c47 .pre)
 
 for-part-same-length : (t : ℕ) → for-part-lts.Need-same-length (for-part-calls t) (for-part-at t) for-part.Post
 for-part-same-length t c =
@@ -1015,12 +1039,8 @@ if-part-expression-requires t c κs =
     let c6 = c .before .before .before .before .before .before in
     let c7 = c6 .before in
     let c15 = c7 .before .before .before .before .before .before .before .before in
-    let y = skip-inside (c15 .args .tree .now) (c15 .args .at + 1) (c15 .args .end) (omega (arith, c7 .if1 .taken)) (c6 .skip .ensures) in omega (
-      arith,
-      y,
-      c7 .if1,
-      c15 .pre,
-    )
+    let y = skip-inside (c15 .args .tree .now) (c15 .args .at + 1) (c15 .args .end) (omega (arith, c7 .if1 .taken)) (c6 .skip .ensures) in
+    omega (arith, y, c7 .if1, c15 .pre)
 
 if-part-false-part-requires : (t : ℕ) → if-part-lts.Need-false-part-requires (if-part-calls t) (if-part-at t) if-part.Post
 if-part-false-part-requires t c κs =
@@ -1028,8 +1048,8 @@ if-part-false-part-requires t c κs =
     let c27 = c26 .before in
     let c28 = c27 .before in
     let c36 = c28 .before .before .before .before .before .before .before .before in
-    let y = skip-inside (c36 .args .tree .now) (c36 .args .at + 1) (c36 .args .end) (omega (arith, c28 .if1 .taken)) (c27 .skip .ensures) in let n = skip-inside
-    (c36 .args .tree .now) (c27 .skip .result) (c36 .args .end) (y .1) (c26 .skip2 .ensures) in omega (arith, y, n, c28 .if1, c36 .pre)
+    let y = skip-inside (c36 .args .tree .now) (c36 .args .at + 1) (c36 .args .end) (omega (arith, c28 .if1 .taken)) (c27 .skip .ensures) in
+    let n = skip-inside (c36 .args .tree .now) (c27 .skip .result) (c36 .args .end) (y .1) (c26 .skip2 .ensures) in omega (arith, y, n, c28 .if1, c36 .pre)
 
 if-part-block-requires : (t : ℕ) → if-part-lts.Need-block-requires (if-part-calls t) (if-part-at t) if-part.Post
 if-part-block-requires t c κs =
@@ -1037,8 +1057,8 @@ if-part-block-requires t c κs =
     let c54 = c53 .before in
     let c55 = c54 .before in
     let c63 = c55 .before .before .before .before .before .before .before .before in
-    let y = skip-inside (c63 .args .tree .now) (c63 .args .at + 1) (c63 .args .end) (omega (arith, c55 .if1 .taken)) (c54 .skip .ensures) in let n = skip-inside
-    (c63 .args .tree .now) (c54 .skip .result) (c63 .args .end) (y .1) (c53 .skip2 .ensures) in omega (arith, y, n, c55 .if1, c63 .pre)
+    let y = skip-inside (c63 .args .tree .now) (c63 .args .at + 1) (c63 .args .end) (omega (arith, c55 .if1 .taken)) (c54 .skip .ensures) in
+    let n = skip-inside (c63 .args .tree .now) (c54 .skip .result) (c63 .args .end) (y .1) (c53 .skip2 .ensures) in omega (arith, y, n, c55 .if1, c63 .pre)
 
 if-part-same-length : (t : ℕ) → if-part-lts.Need-same-length (if-part-calls t) (if-part-at t) if-part.Post
 if-part-same-length t c =
@@ -1169,12 +1189,8 @@ infix-part-expression-requires t c κs =
     let c6 = c .before .before .before .before .before .before in
     let c9 = c6 .before .before .before in
     let c17 = c9 .before .before .before .before .before .before .before .before in
-    let m = skip-inside (c17 .args .tree .now) (c17 .args .at + 1) (c17 .args .end) (omega (arith, c9 .if1 .taken)) (c6 .skip .ensures) in omega (
-      arith,
-      m,
-      c9 .if1,
-      c17 .pre,
-    )
+    let m = skip-inside (c17 .args .tree .now) (c17 .args .at + 1) (c17 .args .end) (omega (arith, c9 .if1 .taken)) (c6 .skip .ensures) in
+    omega (arith, m, c9 .if1, c17 .pre)
 
 infix-part-add-target : (t : ℕ) → infix-part-lts.Need-add-target (infix-part-calls t) (infix-part-at t) infix-part.Post
 infix-part-add-target t c =
@@ -1187,12 +1203,8 @@ infix-part-target-requires t c κs =
     let c22 = c .before .before .before .before .before .before .before .before .before .before .before .before .before .before .before .before .before .before .before .before .before .before in
     let c25 = c22 .before .before .before in
     let c33 = c25 .before .before .before .before .before .before .before .before in
-    let m = skip-inside (c33 .args .tree .now) (c33 .args .at + 1) (c33 .args .end) (omega (arith, c25 .if1 .taken)) (c22 .skip .ensures) in omega (
-      arith,
-      m,
-      c25 .if1,
-      c33 .pre,
-    )
+    let m = skip-inside (c33 .args .tree .now) (c33 .args .at + 1) (c33 .args .end) (omega (arith, c25 .if1 .taken)) (c22 .skip .ensures) in
+    omega (arith, m, c25 .if1, c33 .pre)
 
 infix-part-same-length : (t : ℕ) → infix-part-lts.Need-same-length (infix-part-calls t) (infix-part-at t) infix-part.Post
 infix-part-same-length t c =
@@ -1266,12 +1278,8 @@ infix-part-target-requires-2 t c κs =
     let c29 = c .before .before .before .before .before .before .before .before .before .before .before .before .before .before .before .before .before .before .before .before .before .before .before .before .before .before .before .before .before in
     let c32 = c29 .before .before .before in
     let c40 = c32 .before .before .before .before .before .before .before .before in
-    let m = skip-inside (c40 .args .tree .now) (c40 .args .at + 1) (c40 .args .end) (omega (arith, c32 .if1 .taken)) (c29 .skip .ensures) in omega (
-      arith,
-      m,
-      c32 .if1,
-      c40 .pre,
-    )
+    let m = skip-inside (c40 .args .tree .now) (c40 .args .at + 1) (c40 .args .end) (omega (arith, c32 .if1 .taken)) (c29 .skip .ensures) in
+    omega (arith, m, c32 .if1, c40 .pre)
 
 infix-part-same-length-7 : (t : ℕ) → infix-part-lts.Need-same-length-7 (infix-part-calls t) (infix-part-at t) infix-part.Post
 infix-part-same-length-7 t c =
@@ -1321,7 +1329,8 @@ infix-part-returns-3 t c =
     let c41 = c40 .before in
     let c42 = c41 .before in
     i.infix-compound (c42 .field .ensures) (c41 .field2 .ensures) (c40 .skip .ensures) (c39 .if2 .left) (c38 .if3 .left) (c32 .two .ensures)
-    (c20 .operation .ensures) (c17 .if4 .taken) (c16 .if5 .taken)
+    (c20 .operation .ensures) (c17 .if4 .taken)
+    (c16 .if5 .taken)
     (c10 .target2 .ensures)
 
 infix-part-same-length-12 : (t : ℕ) → infix-part-lts.Need-same-length-12 (infix-part-calls t) (infix-part-at t) infix-part.Post
@@ -1531,10 +1540,16 @@ inner-returns-4 t c =
     s.inner-break (c12 .field .ensures) (c11 .field2 .ensures) (c7 .if5 .taken) (c .before .before .before .before .emit-break .ensures)
 
 inner-same-length-18 : (t : ℕ) → inner-lts.Need-same-length-18 (inner-calls t) (inner-at t) inner.Post
-inner-same-length-18 t c = omega (arith, c .before .before .before .before .rescue .kept)
+inner-same-length-18 t c = omega (
+  arith,
+  c .before .before .before .before .rescue .kept,
+)
 
 inner-same-length-19 : (t : ℕ) → inner-lts.Need-same-length-19 (inner-calls t) (inner-at t) inner.Post
-inner-same-length-19 t c = omega (arith, c .before .before .before .before .rescue .kept)
+inner-same-length-19 t c = omega (
+  arith,
+  c .before .before .before .before .rescue .kept,
+)
 
 inner-returns-5 : (t : ℕ) → inner-lts.Need-returns-5 (inner-calls t) (inner-at t) inner.Post
 inner-returns-5 t c =
@@ -1612,13 +1627,8 @@ statements-statement-requires t c κs =
     let c6 = c5 .before in
     let c7 = c6 .before in
     let c15 = c7 .before .before .before .before .before .before .before .before in
-    let m = skip-more (c15 .args .tree .now) (c7 .loop .i) (c15 .args .end) (c6 .loop-test .taken) (c5 .skip .ensures) in omega (
-      arith,
-      m,
-      c7 .loop .inv .0,
-      c6 .loop-test .taken,
-      c15 .pre,
-    )
+    let m = skip-more (c15 .args .tree .now) (c7 .loop .i) (c15 .args .end) (c6 .loop-test .taken) (c5 .skip .ensures) in
+    omega (arith, m, c7 .loop .inv .0, c6 .loop-test .taken, c15 .pre)
 
 statements-loop-less : (t : ℕ) → statements-lts.Need-loop-less (statements-calls t) (statements-at t) statements.Post statements-Inv-loop statements-μ-loop
 statements-loop-less t c =
@@ -1926,13 +1936,8 @@ variables-variable-requires t c κs =
     let c6 = c5 .before in
     let c7 = c6 .before in
     let c15 = c7 .before .before .before .before .before .before .before .before in
-    let m = skip-inside (c15 .args .tree .now) (c7 .loop .i + 1) (c15 .args .end) (omega (arith, c6 .loop-test .taken)) (c5 .skip .ensures) in omega (
-      arith,
-      m,
-      c7 .loop .inv .0,
-      c6 .loop-test .taken,
-      c15 .pre,
-    )
+    let m = skip-inside (c15 .args .tree .now) (c7 .loop .i + 1) (c15 .args .end) (omega (arith, c6 .loop-test .taken)) (c5 .skip .ensures) in
+    omega (arith, m, c7 .loop .inv .0, c6 .loop-test .taken, c15 .pre)
 
 variables-loop-less : (t : ℕ) → variables-lts.Need-loop-less (variables-calls t) (variables-at t) variables.Post variables-Inv-loop variables-μ-loop
 variables-loop-less t c =
@@ -1940,11 +1945,8 @@ variables-loop-less t c =
     let c17 = c16 .before in
     let c18 = c17 .before in
     let c26 = c18 .before .before .before .before .before .before .before .before in
-    let m = skip-inside (c26 .args .tree .now) (c18 .loop .i + 1) (c26 .args .end) (omega (arith, c17 .loop-test .taken)) (c16 .skip .ensures) in omega (
-      arith,
-      m,
-      c17 .loop-test .taken,
-    )
+    let m = skip-inside (c26 .args .tree .now) (c18 .loop .i + 1) (c26 .args .end) (omega (arith, c17 .loop-test .taken)) (c16 .skip .ensures) in
+    omega (arith, m, c17 .loop-test .taken)
 
 variables-loop-again : (t : ℕ) → variables-lts.Need-loop-again (variables-calls t) (variables-at t) variables.Post variables-Inv-loop variables-μ-loop
 variables-loop-again t c =
