@@ -46,3 +46,4 @@ pub mod DeedWays
 pub mod LocalWays
 pub mod PublicNames
 pub mod IncludeWays
+pub mod DefinitionWays
