@@ -185,8 +185,12 @@ module _ {tree set : List ℕ} {c k f m p t l u n b e o : List ℕ} {x r : Taken
         go : Dec (length numbers ≤ entriesIn 1 (length o)) → (r ≡ taken 0 (length numbers)) × (o₁ ≡ booksOf (root ∷ others) [] numbers (drop (length numbers) o))
         go (yes h) =
             B .fits (root ∷ others) numbers (A .bundle) (needed-ascends root others) (needed-below root others (A .bundle .numbers)) (A .chosen) (no-mark z) h
-        go (no h) = absurd (omega (arith, z, B .over (root ∷ others) numbers (A .bundle) (needed-ascends root others)
-            (needed-below root others (A .bundle .numbers)) (A .chosen) (no-mark z) (omega arith)))
+        go (no h) = absurd (omega (
+          arith,
+          z,
+          B .over (root ∷ others) numbers (A .bundle) (needed-ascends root others)
+              (needed-below root others (A .bundle .numbers)) (A .chosen) (no-mark z) (omega arith),
+        ))
 
     resting : r .full ≡ 0 → Resting κ (begunBook r (x .count)) c k₁ f m p t l u n b e newContext (begunUses (length numbers))
     resting z = record {
@@ -255,11 +259,17 @@ module _ {tree set : List ℕ} {c k f m p t l u n b e o : List ℕ} {x r : Taken
     pub work-full : (r .full ≡ 0 → ⊥) → (row place : ℕ)
         → Works tree set c k f m p t l u n b e o (begunBook r (x .count)) c k₁ f m p t l u n b e o₁ row place
     work-full ne row place = record {
-      works = λ root others A zeros κ lent. ([], (refl, record {
-        full = rw (as-work A zeros κ lent) (over-longer κ (drive-longer calm (length (needed [] root others)) (root ∷ others) [] (needed [] root others) newContext
-            (begunUses (length (needed [] root others)))) (marks A zeros κ lent) ne);
-        came = λ z. absurd (ne z);
-      }));
+      works = λ root others A zeros κ lent. (
+        [],
+        (
+          refl,
+          record {
+            full = rw (as-work A zeros κ lent) (over-longer κ (drive-longer calm (length (needed [] root others)) (root ∷ others) [] (needed [] root others) newContext
+                (begunUses (length (needed [] root others)))) (marks A zeros κ lent) ne);
+            came = λ z. absurd (ne z);
+          },
+        ),
+      );
     }
 
     pub work-on : r .full ≡ 0 → {set₀ : List ℕ} → set₀ ≡ replicate 16384 0 → {s′ : struct.Book} {c′ k′ f′ m′ p′ t′ l′ u′ n′ b′ e′ o′ : List ℕ} {row place : ℕ}
@@ -267,7 +277,12 @@ module _ {tree set : List ℕ} {c k f m p t l u n b e o : List ℕ} {x r : Taken
         → Works tree set c k f m p t l u n b e o s′ c′ k′ f′ m′ p′ t′ l′ u′ n′ b′ e′ o′ row place
     work-on z empty D = record {
       works = λ root others A zeros κ lent.
-          let numbers = needed [] root others in
-          (drop (length numbers) o, (zero-drop (length numbers) o (zeros .books), rw (as-work A zeros κ lent)
-          (D .drives (root ∷ others) numbers (drop (length numbers) o) [] κ newContext (begunUses (length numbers)) (driving A zeros κ lent z empty))));
+          let numbers = needed [] root others in (
+            drop (length numbers) o,
+            (
+              zero-drop (length numbers) o (zeros .books),
+              rw (as-work A zeros κ lent)
+                  (D .drives (root ∷ others) numbers (drop (length numbers) o) [] κ newContext (begunUses (length numbers)) (driving A zeros κ lent z empty)),
+            ),
+          );
     }

@@ -1,9 +1,11 @@
 -- The call's ways to its end: refused before the work, an area too short, a book with errors or a ring, and a delivery. The areas' lengths stay, so that the
 -- limits are those of the areas lent. Assumes nothing.
-use Prim.Native.Nat.{ℕ, _+_, _-_, _<_}
+use Prim.Native.Nat.{ℕ, suc, _+_, _-_, _≤_, _<_}
 use native.Mathlib.Nat.{sub-zero}
 use native.Mathlib.Omega.{arith}
 use mathlib.Core.Path.{_≡_, refl, sym, ap, subst, _∙_}
+use mathlib.Core.Bool.{Bool, true, false, cond}
+use lib.Dec.{eqb}
 use mathlib.Core.Option.{Option, none, some}
 use mathlib.Core.List.{List, [], _∷_, _++_}
 use lib.ListN.{length, getD, replicate, length-replicate, length-append}
@@ -24,7 +26,7 @@ use Rattle.building.proofs.Filling.{filled-field}
 use Rattle.building.specs.Held.{Filled, Marks, unmarked, marked}
 use Rattle.books.specs.declared.documents.Book as book
 use Rattle.books.specs.Shelf.{shelf}
-use Rattle.books.specs.Driving.{Zero, Cleared, Lent, Resting, Came, came-delivered, came-faulty, came-ring, Outcome, Accepted, Fronts, Works, MarkedFrom}
+use Rattle.books.specs.Driving.{Zero, Cleared, Lent, Resting, Came, came-delivered, came-faulty, came-ring, Outcome, Accepted, Fronts, Works, MarkedFrom, markOf}
 use Rattle.books.specs.Promise.{areas, lengthsOf, saying, answering, Compiles}
 use Rattle.books.proofs.Whole.{filled-is, totals, delivered-words, delivered-reply}
 use Rattle.books.proofs.Delivering.{compiles}
@@ -43,10 +45,20 @@ refused-words : {c k f m p t l u n b e o : List ℕ} {errors : ℕ} (row place :
     → areas c k f m p t l u n b e o ≡ areasOf (lengthsOf (areas c k f m p t l u n b e o)) (Refusal row place es)
 unfolding areasOf errorTables
 refused-words row place es zc zk zf zm zp zt zl zu zn zb fe zo =
-    rw (← filled-is (zero-filled {width = 2} zc), ← filled-is (zero-filled {width = 3} zk), ← filled-is (zero-filled {width = 8} zf),
-    ← filled-is (zero-filled {width = 2} zm), ← filled-is (zero-filled {width = 2} zp), ← filled-is (zero-filled {width = 3} zt),
-    ← filled-is (zero-filled {width = 4} zl), ← filled-is (zero-filled {width = 3} zu), ← filled-is (zero-filled {width = 2} zn),
-    ← filled-is (zero-filled {width = 1} zb), ← filled-is fe, ← filled-is (zero-filled {width = 1} zo))
+    rw (
+      ← filled-is (zero-filled {width = 2} zc),
+      ← filled-is (zero-filled {width = 3} zk),
+      ← filled-is (zero-filled {width = 8} zf),
+      ← filled-is (zero-filled {width = 2} zm),
+      ← filled-is (zero-filled {width = 2} zp),
+      ← filled-is (zero-filled {width = 3} zt),
+      ← filled-is (zero-filled {width = 4} zl),
+      ← filled-is (zero-filled {width = 3} zu),
+      ← filled-is (zero-filled {width = 2} zn),
+      ← filled-is (zero-filled {width = 1} zb),
+      ← filled-is fe,
+      ← filled-is (zero-filled {width = 1} zo),
+    )
 
 -- the reply of a refusal
 refused-reply : (row place : ℕ) (es : List Error) → saying (refusal row place) ≡ replyOf (Refusal row place es)
@@ -158,20 +170,20 @@ module _ (tree : List ℕ) (before : Areas) where
 
     -- an area is too short
     module _ {c″ k″ f″ m″ p″ t″ l″ u″ n″ b″ e″ o″ : List ℕ} {r : struct.Reply} (long″ : lengthsOf before ≡ lengthsOf (areas c″ k″ f″ m″ p″ t″ l″ u″ n″ b″ e″ o″))
-        where
-      pub compile-full : (s′ .full ≡ 0 → ⊥) → Cleared c″ k″ f″ m″ p″ t″ l″ u″ n″ b″ e″ o″ → r ≡ refusal 9 (s′ .full)
-          → Compiles tree before (areas c″ k″ f″ m″ p″ t″ l″ u″ n″ b″ e″ o″) r
-      compile-full ne y says =
-          let X = work in
-          let at : firstOver (limitsOf (lengthsOf before)) (X .worked .uses) ≡ some (s′ .full) = marked-is (X .outcome .full) ne in
-          let q : answering tree before ≡ Refusal 9 (s′ .full) [] = X .answers ∙ rw at in
-          subst (λ (x : struct.Reply). Compiles tree before (areas c″ k″ f″ m″ p″ t″ l″ u″ n″ b″ e″ o″) x) (sym says)
-          (refuses 9 (s′ .full) [] thirteen long″ q (y .code) (y .constants) (y .functions) (y .models) (y .properties) (y .methods) (y .locals) (y .publics)
-          (y .names) (y .breaks) (zero-filled (y .errors)) (y .books))
-        where
-          marked-is : {x : Option ℕ} {a : ℕ} → Marks x a → (a ≡ 0 → ⊥) → x ≡ some a
-          marked-is unmarked h = absurd (h refl)
-          marked-is (marked h) g = refl
+      where
+        pub compile-full : (s′ .full ≡ 0 → ⊥) → Cleared c″ k″ f″ m″ p″ t″ l″ u″ n″ b″ e″ o″ → r ≡ refusal 9 (s′ .full)
+            → Compiles tree before (areas c″ k″ f″ m″ p″ t″ l″ u″ n″ b″ e″ o″) r
+        compile-full ne y says =
+            let X = work in
+            let at : firstOver (limitsOf (lengthsOf before)) (X .worked .uses) ≡ some (s′ .full) = marked-is (X .outcome .full) ne in
+            let q : answering tree before ≡ Refusal 9 (s′ .full) [] = X .answers ∙ rw at in
+            subst (λ (x : struct.Reply). Compiles tree before (areas c″ k″ f″ m″ p″ t″ l″ u″ n″ b″ e″ o″) x) (sym says)
+            (refuses 9 (s′ .full) [] thirteen long″ q (y .code) (y .constants) (y .functions) (y .models) (y .properties) (y .methods) (y .locals) (y .publics)
+            (y .names) (y .breaks) (zero-filled (y .errors)) (y .books))
+          where
+            marked-is : {x : Option ℕ} {a : ℕ} → Marks x a → (a ≡ 0 → ⊥) → x ≡ some a
+            marked-is unmarked h = absurd (h refl)
+            marked-is (marked h) g = refl
 
     unmarked-is : s′ .full ≡ 0 → firstOver (limitsOf (lengthsOf before)) (work .worked .uses) ≡ none
     unmarked-is y = go (subst (λ (a : ℕ). Marks (firstOver (limitsOf (lengthsOf before)) (work .worked .uses)) a) y (work .outcome .full))
@@ -185,23 +197,23 @@ module _ (tree : List ℕ) (before : Areas) where
 
     -- a book with errors, or a ring: the errors stay
     module _ {c″ k″ f″ m″ p″ t″ l″ u″ n″ b″ o″ : List ℕ} {r : struct.Reply} (long″ : lengthsOf before ≡ lengthsOf (areas c″ k″ f″ m″ p″ t″ l″ u″ n″ b″ e′ o″))
-        where
-      pub compile-errors : s′ .full ≡ 0 → (row ≡ 0 → ⊥) → Zero c″ → Zero k″ → Zero f″ → Zero m″ → Zero p″ → Zero t″ → Zero l″ → Zero u″ → Zero n″ → Zero b″
-          → Zero o″ → r ≡ refusal row place → Compiles tree before (areas c″ k″ f″ m″ p″ t″ l″ u″ n″ b″ e′ o″) r
-      compile-errors y ne zc zk zf zm zp zt zl zu zn zb zo says =
-          subst (λ (x : struct.Reply). Compiles tree before (areas c″ k″ f″ m″ p″ t″ l″ u″ n″ b″ e′ o″) x) (sym says)
-          (go (work .outcome .came y) (ended y))
-        where
-          by : (a i : ℕ) (es : List Error) {j : ℕ} → row ≡ a → place ≡ i → answering tree before ≡ Refusal a i es → Filled 4 e′ (entriesFrom errorEntry 0 es) j
-              → Compiles tree before (areas c″ k″ f″ m″ p″ t″ l″ u″ n″ b″ e′ o″) (refusal row place)
-          by a i es h g q F =
-              refuses row place es thirteen long″ (q ∙ rw (h, g)) zc zk zf zm zp zt zl zu zn zb F zo
+      where
+        pub compile-errors : s′ .full ≡ 0 → (row ≡ 0 → ⊥) → Zero c″ → Zero k″ → Zero f″ → Zero m″ → Zero p″ → Zero t″ → Zero l″ → Zero u″ → Zero n″ → Zero b″
+            → Zero o″ → r ≡ refusal row place → Compiles tree before (areas c″ k″ f″ m″ p″ t″ l″ u″ n″ b″ e′ o″) r
+        compile-errors y ne zc zk zf zm zp zt zl zu zn zb zo says =
+            subst (λ (x : struct.Reply). Compiles tree before (areas c″ k″ f″ m″ p″ t″ l″ u″ n″ b″ e′ o″) x) (sym says)
+            (go (work .outcome .came y) (ended y))
+          where
+            by : (a i : ℕ) (es : List Error) {j : ℕ} → row ≡ a → place ≡ i → answering tree before ≡ Refusal a i es → Filled 4 e′ (entriesFrom errorEntry 0 es) j
+                → Compiles tree before (areas c″ k″ f″ m″ p″ t″ l″ u″ n″ b″ e′ o″) (refusal row place)
+            by a i es h g q F =
+                refuses row place es thirteen long″ (q ∙ rw (h, g)) zc zk zf zm zp zt zl zu zn zb F zo
 
-          go : {rest : List ℕ} {us : List Use} {x : Ending} → Came (limitsOf (lengthsOf before)) s′ c′ k′ f′ m′ p′ t′ l′ u′ n′ b′ e′ o′ rest row place us x
-              → answering tree before ≡ answerEnding x → Compiles tree before (areas c″ k″ f″ m″ p″ t″ l″ u″ n″ b″ e′ o″) (refusal row place)
-          go (came-delivered h i R w) q = absurd (ne h)
-          go (came-faulty {file = file} {es = es} h i F) q = by 7 file es h i q F
-          go (came-ring {left = left} h i F) q = by 8 (length left) (ringErrors left) h i q F
+            go : {rest : List ℕ} {us : List Use} {x : Ending} → Came (limitsOf (lengthsOf before)) s′ c′ k′ f′ m′ p′ t′ l′ u′ n′ b′ e′ o′ rest row place us x
+                → answering tree before ≡ answerEnding x → Compiles tree before (areas c″ k″ f″ m″ p″ t″ l″ u″ n″ b″ e′ o″) (refusal row place)
+            go (came-delivered h i R w) q = absurd (ne h)
+            go (came-faulty {file = file} {es = es} h i F) q = by 7 file es h i q F
+            go (came-ring {left = left} h i F) q = by 8 (length left) (ringErrors left) h i q F
 
     -- a delivery
     pub compile-delivered : {globals : ℕ} {r : struct.Reply} → lengthsOf before ≡ lengthsOf (areas c′ k′ f′ m′ p′ t′ l′ u′ n′ b′ e′ o′) → s′ .full ≡ 0 → row ≡ 0
@@ -235,3 +247,42 @@ module _ (tree : List ℕ) (before : Areas) where
         go rest zr (came-delivered {context = context} h i R w) q = by context _ rest zr i R w q
         go rest zr (came-faulty h i F) q = absurd (omega (arith, h, zero-row))
         go rest zr (came-ring h i F) q = absurd (omega (arith, h, zero-row))
+
+-- `count_marked`
+pub marked-end : {k : List ℕ} {i count n : ℕ} → count ≤ i → MarkedFrom k i count n n
+marked-end {k} {i} {count} {n} past = record { marked = go }
+  where
+    go : (gs : List ℕ) (cs : List Constant) → ((j : ℕ) → j < length cs → entryField 3 (i + j) 2 k ≡ bit (hasText (i + j) gs)) → i + length cs ≡ count
+        → n ≡ n + globalDependencies gs i cs
+    go gs [] h q = omega arith
+    go gs (c ∷ cs) h q = absurd (omega arith)
+
+pub marked-more : {k : List ℕ} {i count n r word one : ℕ} → i < count → word ≡ entryField 3 i 2 k → one ≡ markOf word → MarkedFrom k (i + 1) count (n + one) r
+    → MarkedFrom k i count n r
+marked-more {k} {i} {count} {n} {r} {word} {one} inside word-is one-is M = record { marked = go }
+  where
+    bit-mark : (x : Bool) → markOf (bit x) ≡ bit x
+    bit-mark true = refl
+    bit-mark false = refl
+
+    go : (gs : List ℕ) (cs : List Constant) → ((j : ℕ) → j < length cs → entryField 3 (i + j) 2 k ≡ bit (hasText (i + j) gs)) → i + length cs ≡ count
+        → r ≡ n + globalDependencies gs i cs
+    go gs [] h q = absurd (omega arith)
+    go gs (c ∷ cs) h q =
+        let here : i + 0 ≡ i = omega arith in
+        let first : word ≡ bit (hasText i gs) = word-is ∙ rw here at (h 0 (omega arith)) in
+        let mark : one ≡ bit (hasText i gs) = one-is ∙ ap markOf first ∙ bit-mark (hasText i gs) in
+        let rest : r ≡ n + one + globalDependencies gs (i + 1) cs = M .marked gs cs (later gs c cs h) (omega arith) in
+        omega (arith, mark, rest)
+      where
+        later : (gs : List ℕ) (c : Constant) (cs : List Constant)
+            → ((j : ℕ) → j < length (c ∷ cs) → entryField 3 (i + j) 2 k ≡ bit (hasText (i + j) gs)) → (j : ℕ) → j < length cs
+            → entryField 3 (i + 1 + j) 2 k ≡ bit (hasText (i + 1 + j) gs)
+        later gs c cs h j l = let next : i + suc j ≡ i + 1 + j = omega arith in rw next at (h (suc j) (omega arith))
+
+pub mark-small : (word : ℕ) {one : ℕ} → one ≡ markOf word → one ≤ 1
+mark-small word q = go (eqb word 1) q
+  where
+    go : {one : ℕ} (x : Bool) → one ≡ cond x 1 0 → one ≤ 1
+    go true q = omega arith
+    go false q = omega arith

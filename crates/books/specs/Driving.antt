@@ -2,6 +2,8 @@
 use Prim.Native.Nat.{ℕ, _+_, _/_, _≤_, _<_}
 use mathlib.Core.Path.{_≡_}
 use mathlib.Core.Option.{none}
+use mathlib.Core.Bool.{cond}
+use lib.Dec.{eqb}
 use mathlib.Core.List.{List, [], _∷_, _++_}
 use lib.ListN.{length, replicate}
 use Rattle.words.specs.Ast.{Definition, Document}
@@ -175,3 +177,21 @@ pub record Works (tree set : List ℕ) (c k f m p t l u n b e o : List ℕ) (s�
 pub record MarkedFrom (k : List ℕ) (i count n r : ℕ) : Type 0 where
   pub marked : (gs : List ℕ) (cs : List Constant) → ((j : ℕ) → j < length cs → entryField 3 (i + j) 2 k ≡ bit (hasText (i + j) gs)) → i + length cs ≡ count
       → r ≡ n + globalDependencies gs i cs
+
+-- `one_if`: a mark of 1
+abbrev pub markOf : ℕ → ℕ
+markOf word = cond (eqb word 1) 1 0
+
+-- `clear_program`: zeros in every area but that of the errors
+pub record Emptied (c k f m p t l u n b o : List ℕ) : Type 0 where
+  pub code : Zero c
+  pub constants : Zero k
+  pub functions : Zero f
+  pub models : Zero m
+  pub properties : Zero p
+  pub methods : Zero t
+  pub locals : Zero l
+  pub publics : Zero u
+  pub names : Zero n
+  pub breaks : Zero b
+  pub books : Zero o

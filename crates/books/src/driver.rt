@@ -2,7 +2,7 @@
 ghost use mathlib.Core.Path.{_≡_};
 ghost use lib.ListN.{replicate};
 ghost use Rattle.building.specs.Taking.{taken};
-ghost use Rattle.books.specs.Driving.{Rings, Fronts, FirstConstants};
+ghost use Rattle.books.specs.Driving.{Rings, Fronts, FirstConstants, markOf, MarkedFrom, Emptied};
 use crate::solver;
 use building::scopes::Found;
 use building::taking;
@@ -84,4 +84,59 @@ fn first_constants(constants: &mut [u64]) -> Taken
     let a = taking::take3(constants, areas::CONSTANTS, 0, 0, 0, 0, 0);
     let b = taking::take3(constants, areas::CONSTANTS, a.full, a.count, 1, 1, 0);
     taking::take3(constants, areas::CONSTANTS, b.full, b.count, 1, 0, 0)
+}
+
+// A mark of 1.
+fn one_if(word: u64) -> u64
+    ensures { λ r. ⌜ r ≡ markOf word ⌝ }
+{
+    if word == 1 {
+        return 1;
+    }
+    0
+}
+
+// The constants that are marked.
+fn count_marked(constants: &[u64], count: usize) -> u64
+    ensures { λ r. ⌜ MarkedFrom (now (constants .entry)) 0 count 0 r ⌝ }
+{
+    let mut i: usize = 0;
+    let mut n: u64 = 0;
+    while i < count {
+        let word = areas::entry_word(constants, areas::CONSTANT_WORDS, i, 2);
+        let one = one_if(word);
+        n += one;
+        i += 1;
+    }
+    n
+}
+
+// Zeros in every area but that of the errors.
+fn clear_program(
+    code: &mut [u64],
+    constants: &mut [u64],
+    functions: &mut [u64],
+    models: &mut [u64],
+    properties: &mut [u64],
+    methods: &mut [u64],
+    locals: &mut [u64],
+    publics: &mut [u64],
+    names: &mut [u64],
+    breaks: &mut [u64],
+    books: &mut [u64],
+)
+    ensures { λ _. ⌜ Emptied (now (code .exit)) (now (constants .exit)) (now (functions .exit)) (now (models .exit)) (now (properties .exit))
+        (now (methods .exit)) (now (locals .exit)) (now (publics .exit)) (now (names .exit)) (now (breaks .exit)) (now (books .exit)) ⌝ }
+{
+    areas::clear_from(code, 0);
+    areas::clear_from(constants, 0);
+    areas::clear_from(functions, 0);
+    areas::clear_from(models, 0);
+    areas::clear_from(properties, 0);
+    areas::clear_from(methods, 0);
+    areas::clear_from(locals, 0);
+    areas::clear_from(publics, 0);
+    areas::clear_from(names, 0);
+    areas::clear_from(breaks, 0);
+    areas::clear_from(books, 0);
 }

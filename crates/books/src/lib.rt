@@ -3,5 +3,5 @@ pub mod body;
 pub mod documents;
 pub mod driver;
 pub mod functions;
-mod solver;
 pub mod models;
+mod solver;
