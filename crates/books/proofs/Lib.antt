@@ -8,3 +8,6 @@ pub mod StatementWays
 pub mod Calm
 pub mod Shelving
 pub mod FunctionWays
+pub mod Resuming
+pub mod LocalEntries
+pub mod DeedWays

@@ -2,3 +2,4 @@ pub mod Meets
 pub mod Members
 pub mod Shelf
 pub mod Making
+pub mod Deeds
