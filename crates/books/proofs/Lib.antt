@@ -11,3 +11,4 @@ pub mod FunctionWays
 pub mod Resuming
 pub mod LocalEntries
 pub mod DeedWays
+pub mod MakingWays

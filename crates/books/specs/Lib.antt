@@ -3,3 +3,4 @@ pub mod Members
 pub mod Shelf
 pub mod Making
 pub mod Deeds
+pub mod Adding
