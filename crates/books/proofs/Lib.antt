@@ -12,3 +12,4 @@ pub mod Resuming
 pub mod LocalEntries
 pub mod DeedWays
 pub mod MakingWays
+pub mod FunctionDeeds

@@ -122,6 +122,25 @@ module _ {κ : Limits} {ps : List ℕ} {s : struct.Book} {c₀ k₀ n₀ b₀ e�
   abbrev made : ℕ → Function
   made name = record { state = baseOf f x .function; name = name; file = x .assembly .index }
 
+  -- the areas that functions are built in are as long as before
+  pub added-fitted : {s′ : struct.Book} {g′ : List ℕ} → length g′ ≡ length g → Fitted κ (shelf s′ c k g′ m p t l u n b e)
+  added-fitted long =
+      let F = B .book .fitted in
+      let K = capped (B .function) in
+      record {
+        code = K .code;
+        constants = K .constants;
+        functions = ap (λ (w : ℕ). entriesIn 8 w) long ∙ F .functions;
+        models = F .models;
+        properties = F .properties;
+        methods = F .methods;
+        locals = F .locals;
+        publics = F .publics;
+        names = K .names;
+        breaks = K .breaks;
+        errors = K .errors;
+      }
+
   module _ (l′ : Bounded f) (name : ℕ) where
     -- the entry is the definition's
     added-words : r .full ≡ 0 → functionWords r (s .file) name ≡ functionEntry (codeOf (x .context .functions)) (made name)
@@ -163,24 +182,6 @@ module _ {κ : Limits} {ps : List ℕ} {s : struct.Book} {c₀ k₀ n₀ b₀ e�
           names = A .filled-names;
           breaks = A .filled-breaks;
           errors = A .filled-errors;
-        }
-
-    added-fitted : {s′ : struct.Book} {g′ : List ℕ} → length g′ ≡ length g → Fitted κ (shelf s′ c k g′ m p t l u n b e)
-    added-fitted long =
-        let F = B .book .fitted in
-        let K = capped (B .function) in
-        record {
-          code = K .code;
-          constants = K .constants;
-          functions = ap (λ (w : ℕ). entriesIn 8 w) long ∙ F .functions;
-          models = F .models;
-          properties = F .properties;
-          methods = F .methods;
-          locals = F .locals;
-          publics = F .publics;
-          names = K .names;
-          breaks = K .breaks;
-          errors = K .errors;
         }
 
     added-grown : r .full ≡ 0 → {T : Taken} {g′ : List ℕ}
