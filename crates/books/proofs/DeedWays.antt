@@ -1,6 +1,6 @@
 -- One lemma for each way through a routine of the document level that compiles no part: what its calls ensure is the definition's deed. By the laws of
 -- the routines it calls. Assumes nothing.
-use Prim.Native.Nat.{ℕ, _+_, _*_, _≤_, _<_}
+use Prim.Native.Nat.{ℕ, _+_, _*_, _<_}
 use native.Mathlib.Nat.{zero-add}
 use native.Mathlib.Omega.{arith}
 use mathlib.Core.Path.{_≡_, refl, sym, ap, _∙_, subst}
@@ -13,14 +13,14 @@ use Rattle.words.specs.Ast.{Token}
 use Rattle.words.specs.Areas.{entriesIn, wordFits, contextLocalsArea}
 use Rattle.words.specs.Object.{Constant, constantOf}
 use Rattle.definition.specs.FunctionState.{Entry, newFunctionState, findName}
-use Rattle.definition.specs.Uses.{Limits, limitOf}
-use Rattle.definition.specs.Compiler.{Work, Added, pushError, addConstant}
-use Rattle.definition.specs.Book.{Book, MaybePlaced, working, pushBookError, addBookConstant, defineContextLocalBy, defineContextLocal, setLocalValue}
+use Rattle.definition.specs.Uses.{Limits}
+use Rattle.definition.specs.Compiler.{Added, pushError, addConstant}
+use Rattle.definition.specs.Book.{Book, working, pushBookError, addBookConstant, defineContextLocalBy, defineContextLocal, setLocalValue}
 use Rattle.definition.specs.Program.{Entries, localWords, localEntry, entriesFrom}
 use Rattle.definition.proofs.Lists.{cond-case}
 use Rattle.definition.proofs.Cells.{single-length}
 use Rattle.definition.proofs.Program.{added-case}
-use Rattle.definition.proofs.Steady.{Longer, same, more, steady-constant}
+use Rattle.definition.proofs.Steady.{same, more, steady-constant}
 use Rattle.building.specs.declared.function_state.FunctionState.{FunctionState}
 use Rattle.building.specs.declared.scopes.Found.{Found}
 use Rattle.building.specs.declared.scopes.Found.the-variants.{At, Nothing}
@@ -36,8 +36,8 @@ use Rattle.building.proofs.PoolLaws.{add-constant-law, add-constant-index}
 use Rattle.building.proofs.ContextLaws.{Grown, grown, over, Defines, there, new, withLocal, define-context-law, set-value-law, set-value-locals}
 use Rattle.books.specs.declared.documents.Book as struct
 use Rattle.books.specs.Meets.{OnErrors}
-use Rattle.books.specs.Shelf.{Shelf, shelf, Stock, Fitted, Keeping, Deeds, Places, Seeks}
-use Rattle.books.specs.Deeds.{resumedBook, withLocals, ErrorsDo, ConstantsPlace, LocalsSeek, Below, Valuable, LocalsValue}
+use Rattle.books.specs.Shelf.{Shelf, shelf, Stock, Fitted, Keeping}
+use Rattle.books.specs.Deeds.{resumedBook, withLocals, ErrorsDo, ConstantsPlace, LocalsSeek, Below, LocalsValue}
 use Rattle.books.proofs.Calm.{calm-local, calm-value}
 use Rattle.books.proofs.Shelving.{keeping-longer}
 use Rattle.books.proofs.Resuming.{codeSoFar, held-working, keeping-held}

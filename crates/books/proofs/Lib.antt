@@ -13,3 +13,17 @@ pub mod LocalEntries
 pub mod DeedWays
 pub mod MakingWays
 pub mod FunctionDeeds
+pub mod ModelCalm
+pub mod Pairs
+pub mod Stocking
+pub mod MethodWays
+pub mod PublicWays
+pub mod PropertyWays
+pub mod FindWays
+pub mod Copying
+pub mod ApplyWays
+pub mod ModelWays
+pub mod MethodOrder
+pub mod LocalWays
+pub mod PublicNames
+pub mod IncludeWays

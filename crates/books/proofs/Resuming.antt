@@ -1,12 +1,10 @@
 -- A book between its definitions as the state that functions, constants and errors work on, and back. By the laws of a function's begin; the areas that
 -- such a step does not have stay. Assumes nothing.
-use Prim.Native.Nat.{ℕ, _+_}
+use Prim.Native.Nat.{ℕ}
 use native.Mathlib.Omega.{arith}
-use mathlib.Core.Path.{_≡_, refl, sym, ap, _∙_}
-use mathlib.Core.Bool.{Bool, true, false}
-use mathlib.Core.List.{List, [], _∷_, _++_, append-nil}
+use mathlib.Core.Path.{_≡_, refl, sym, _∙_}
+use mathlib.Core.List.{List, [], append-nil}
 use lib.ListN.{length}
-use lib.Dec.{eqb}
 use Rattle.definition.specs.FunctionState.{newFunctionState}
 use Rattle.definition.specs.Uses.{Limits, firstOver}
 use Rattle.definition.specs.Compiler.{Work, CompilerState}
@@ -22,7 +20,7 @@ use Rattle.building.proofs.Filling.{Capped, capped, code-length}
 use Rattle.building.proofs.FunctionLaws.{Between, begin-law}
 use Rattle.building.proofs.Notes.{back}
 use Rattle.books.specs.declared.documents.Book as struct
-use Rattle.books.specs.Shelf.{shelf, Stock, Fitted, Keeping}
+use Rattle.books.specs.Shelf.{shelf, Keeping}
 use Rattle.books.specs.Deeds.{resumedBook}
 
 -- the code of the functions so far

@@ -4,3 +4,5 @@ pub mod Shelf
 pub mod Making
 pub mod Deeds
 pub mod Adding
+pub mod Modelling
+pub mod Including

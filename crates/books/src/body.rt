@@ -21,9 +21,9 @@ use words::record::field;
 use words::reply;
 
 // Kinds of constants (01, 'Emission').
-const INTEGER_KIND: u64 = 2;
+pub(crate) const INTEGER_KIND: u64 = 2;
 
-const FLOAT_KIND: u64 = 3;
+pub(crate) const FLOAT_KIND: u64 = 3;
 
 const TEXT_KIND: u64 = 4;
 
@@ -151,7 +151,7 @@ fn set_name(
 }
 
 // The constant that null and the booleans are.
-fn standing(kind: u64, value: u64) -> u64
+pub(crate) fn standing(kind: u64, value: u64) -> u64
     ensures { λ r. ⌜ r ≡ standingOf kind value ⌝ }
 {
     if kind == record::BOOLEAN {

@@ -2,3 +2,4 @@
 pub mod body;
 pub mod documents;
 pub mod functions;
+pub mod models;
