@@ -3,6 +3,7 @@ pub mod Steps
 pub mod Leaves
 pub mod Tokens
 pub mod Runs
+pub mod Loops
 pub mod ExpressionWays
 pub mod StatementWays
 pub mod Calm
@@ -27,3 +28,7 @@ pub mod MethodOrder
 pub mod LocalWays
 pub mod PublicNames
 pub mod IncludeWays
+pub mod VariableWays
+pub mod InfixWays
+pub mod IfWays
+pub mod LoopWays

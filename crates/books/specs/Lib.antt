@@ -6,3 +6,4 @@ pub mod Deeds
 pub mod Adding
 pub mod Modelling
 pub mod Including
+pub mod Looping
