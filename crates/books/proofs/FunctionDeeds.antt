@@ -209,9 +209,10 @@ module _ {name : ℕ} {found : Found} {s s₁ s₂ : struct.Book} {r : FunctionS
   pub plain-main : name ≡ 1 → AddsPlain name found s r k g l (entering index s₂) k′ g′ l′ place
   unfolding addPlainFunction compileBase
   plain-main q = record {
-    adds = λ z f bounded c₀ k₀ n₀ b₀ e₀ c n b e m p t u κ ps x o same below B.
-        (rw (eq-eqb name 1 q, many z f bounded o same below B) (keeping-entry (length (x .context .functions)) (plain-keeping z f bounded o same below B)),
-        plain-placed z f bounded o same below B);
+    adds = λ z f bounded c₀ k₀ n₀ b₀ e₀ c n b e m p t u κ ps x o same below B. (
+      rw (eq-eqb name 1 q, many z f bounded o same below B) (keeping-entry (length (x .context .functions)) (plain-keeping z f bounded o same below B)),
+      plain-placed z f bounded o same below B,
+    );
   }
 
 -- `function_definition`

@@ -198,18 +198,18 @@ module _ {tree : List ℕ} {at end start count : ℕ} {locals : List ℕ} where
   unfolding compileFunctionDefinitionBase
   base-meets parameters {first} {position} {s} {s₁} {s₂} {s₃} {s₄} {c} {k} {n} {b} {e} {n₁} {e₁} {c₃} {k₃} {n₃} {b₃} {e₃} {c₄} P Q many s₂-is M
       position-is d = record {
-    meets = λ kind f h q κ E w L H.
-        let ts = f .parameters in
-        let ends : first ≡ at + 1 + length ts = P .ends ts (f .body) (h .parameters) (h .body) (omega arith) in
-        let w₀ = withFunction newFunctionState w in
-        let w₁ = compileParameters ts w₀ in
-        let H₁ = Q .meets ts (h .parameters) (sym ends) c k b κ E w₀ refl H in
-        let w₂ = doing (λ f. method.withParameters (f .isInstance) (length ts) f) w₁ in
-        let H₂ : Held κ E (machine s₂ c k n₁ b e₁) w₂ = subst (λ (x : FunctionState). Held κ E (machine x c k n₁ b e₁) w₂) (sym s₂-is)
-        (parameters-law H₁ (s₁ .«is_instance») (w₁ .function .isInstance) parameters (length ts) (λ z. H₁ .rest z .is-instance) (λ z. omega arith)) in
-        let S = steady-parameters ts w₀ in
-        let I : Inside start count locals w₂ = record { is-open = stay-open ts w₀ refl; named = same-locals (S .locals) L } in
-        let H₃ = M .meets (f .body) (rw (← ends) at (h .body)) (omega arith) .meets κ E w₂ I H₂ in
-        let w₃ = compileStatements (f .body) w₂ in
-        held-coded s₄ c₄ d (return-law position (getLastPosition (w₃ .function)) (λ z. position-is ∙ last-position-law H₃ z) H₃);
-  }
+        meets = λ kind f h q κ E w L H.
+            let ts = f .parameters in
+            let ends : first ≡ at + 1 + length ts = P .ends ts (f .body) (h .parameters) (h .body) (omega arith) in
+            let w₀ = withFunction newFunctionState w in
+            let w₁ = compileParameters ts w₀ in
+            let H₁ = Q .meets ts (h .parameters) (sym ends) c k b κ E w₀ refl H in
+            let w₂ = doing (λ f. method.withParameters (f .isInstance) (length ts) f) w₁ in
+            let H₂ : Held κ E (machine s₂ c k n₁ b e₁) w₂ = subst (λ (x : FunctionState). Held κ E (machine x c k n₁ b e₁) w₂) (sym s₂-is)
+            (parameters-law H₁ (s₁ .«is_instance») (w₁ .function .isInstance) parameters (length ts) (λ z. H₁ .rest z .is-instance) (λ z. omega arith)) in
+            let S = steady-parameters ts w₀ in
+            let I : Inside start count locals w₂ = record { is-open = stay-open ts w₀ refl; named = same-locals (S .locals) L } in
+            let H₃ = M .meets (f .body) (rw (← ends) at (h .body)) (omega arith) .meets κ E w₂ I H₂ in
+            let w₃ = compileStatements (f .body) w₂ in
+            held-coded s₄ c₄ d (return-law position (getLastPosition (w₃ .function)) (λ z. position-is ∙ last-position-law H₃ z) H₃);
+      }

@@ -32,3 +32,4 @@ pub mod VariableWays
 pub mod InfixWays
 pub mod IfWays
 pub mod LoopWays
+pub mod ImplementWays

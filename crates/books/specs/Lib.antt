@@ -7,3 +7,4 @@ pub mod Adding
 pub mod Modelling
 pub mod Including
 pub mod Looping
+pub mod Implementing
