@@ -1,42 +1,42 @@
 -- A function definition: one lemma for each way through its routines. By the function compiled to its end, which is dropped or added. Assumes nothing.
 use Prim.Native.Nat.{ℕ, _+_}
-use native.Mathlib.Omega.{arith}
 use mathlib.Core.Path.{_≡_, refl, sym, ap, _∙_, subst}
 use mathlib.Core.Bool.{Bool, true, false, cond}
-use mathlib.Core.Option.{Option, none, some}
-use mathlib.Core.List.{List, [], _∷_}
+use mathlib.Core.Option.{Option}
+use mathlib.Core.List.{List}
 use lib.ListN.{length}
 use lib.Seq.{length-sets}
 use lib.Dec.{eqb}
-use borrow.Author.Tests.{eqb-true, eqb-false, eq-eqb, ne-eqb}
+use borrow.Author.Tests.{eq-eqb, ne-eqb}
 use Rattle.words.specs.Ast.{Token, FunctionDefinition}
 use Rattle.words.specs.Areas.{entriesIn}
 use Rattle.words.specs.Object.{constantOf, functionKind}
 use Rattle.words.specs.Record.{tokenAt, valueAt}
 use Rattle.tree.specs.At.{FunctionAt, sizeF}
 use Rattle.definition.specs.Uses.{Limits}
-use Rattle.definition.specs.Book.{Book, Placed, MaybePlaced, Made, withContext, withEntryPoint, pushBookError, addBookConstant, setLocalValue, defineContextLocal}
+use Rattle.definition.specs.Book.{Book, Placed, MaybePlaced, Made, withContext}
+use Rattle.definition.specs.Book.{withEntryPoint, pushBookError, addBookConstant, setLocalValue, defineContextLocal}
 use Rattle.definition.specs.Book.{working, compileBase, addFunction, addPlainFunction, compileFunctionDefinition}
 use Rattle.definition.proofs.Lists.{cond-case}
 use Rattle.definition.proofs.Good.{function-moves}
-use Rattle.definition.proofs.Steady.{Longer, same, more, longer-trans}
+use Rattle.definition.proofs.Steady.{same, more}
 use Rattle.building.specs.declared.function_state.FunctionState.{FunctionState}
 use Rattle.building.specs.declared.scopes.Found.{Found}
 use Rattle.building.specs.Emission.{Coded, coded, dropC}
 use Rattle.building.specs.State.{withCodeCount}
 use Rattle.building.specs.Taking.{givenUp}
 use Rattle.building.specs.Found.{foundOf}
-use Rattle.building.specs.Held.{machine, Held}
+use Rattle.building.specs.Held.{machine}
 use Rattle.building.proofs.Filling.{capped}
 use Rattle.building.proofs.BreakLaws.{drop-law}
 use Rattle.building.proofs.Notes.{over-longer}
 use Rattle.books.specs.declared.documents.Book as struct
-use Rattle.books.specs.Shelf.{shelf, Stock, Keeping}
+use Rattle.books.specs.Shelf.{shelf, Keeping}
 use Rattle.books.specs.Deeds.{resumedBook, ErrorsDo, ConstantsPlace, LocalsSeek, LocalsValue, Below}
 use Rattle.books.specs.Adding.{entering, Bounded, ended, baseOf, Built, Makes, AddsFunction, DropsFunction, AddsPlain, DefinesFunction}
-use Rattle.books.proofs.Calm.{Calm, Calms, calm-refl, calm-trans, calm-error, calm-constant, calm-local, calm-value}
+use Rattle.books.proofs.Calm.{Calm, Calms, calm-trans, calm-error, calm-constant, calm-local, calm-value}
 use Rattle.books.proofs.Shelving.{unfilled}
-use Rattle.books.proofs.Resuming.{codeSoFar, keeping-resumed}
+use Rattle.books.proofs.Resuming.{keeping-resumed}
 use Rattle.books.proofs.DeedWays.{defined-below}
 use Rattle.books.proofs.MakingWays.{base-steady, calm-base, functions-length, built-back, built-between, added-fitted}
 

@@ -3,36 +3,31 @@
 use Prim.Native.Nat.{ℕ, _+_, _≤_, _<_}
 use native.Mathlib.Omega.{arith}
 use mathlib.Core.Path.{_≡_, refl, sym, ap, _∙_, subst}
-use mathlib.Core.Bool.{Bool, true, false, cond}
 use mathlib.Core.Option.{Option, none, some}
-use mathlib.Core.List.{List, [], _∷_, _++_}
+use mathlib.Core.List.{List, [], _∷_}
 use lib.ListN.{length, length-append}
-use lib.Dec.{eqb}
-use borrow.Author.Tests.{eqb-true, eqb-false}
 use Rattle.words.specs.Ast.{Token, FunctionDefinition}
-use Rattle.words.specs.Object.{modelKind}
-use Rattle.words.specs.Record.{tokenAt, valueAt}
+use Rattle.words.specs.Record.{valueAt}
 use Rattle.tree.specs.At.{Headed, RunAt, runSize, FunctionAt, sizeF}
 use Rattle.definition.specs.FunctionState.{Entry, findName}
 use Rattle.definition.specs.Uses.{Limits}
-use Rattle.definition.specs.Within.{All, none as nil, _&_}
+use Rattle.definition.specs.Within.{All, _&_}
 use Rattle.definition.specs.Book.{Context, Book, Method, Methods, MaybePlaced, modelOf, getLocalValue, insertEntry, insertMethods, addMethods}
-use Rattle.definition.specs.Book.{compileBase, addFunction, compileMethods, findModelBy, findModelIn, findModelIndexByLocalName, compileImplementDefinition}
+use Rattle.definition.specs.Book.{compileBase, compileMethods, findModelBy, findModelIn, findModelIndexByLocalName, compileImplementDefinition}
 use Rattle.building.specs.declared.function_state.FunctionState.{FunctionState}
 use Rattle.building.specs.declared.scopes.Found.{Found}
 use Rattle.building.specs.declared.scopes.Found.the-variants.{At, Nothing}
 use Rattle.building.specs.Found.{foundOf}
-use Rattle.building.specs.Held.{machine}
 use Rattle.books.specs.declared.documents.Book as struct
 use Rattle.books.specs.Meets.{skipC}
 use Rattle.books.specs.Shelf.{shelf, Keeping, Deeds, Seeks}
 use Rattle.books.specs.Adding.{Bounded, Makes, AddsFunction}
 use Rattle.books.specs.Modelling.{InsertsMethod, FindsModel}
 use Rattle.books.specs.Implementing.{implementing, implementingAll, numbered, ImplementsOne, ImplementsAll, ImplementsMethods, Implements}
-use Rattle.books.proofs.Calm.{Calm, Calms, calm-refl, calm-trans}
+use Rattle.books.proofs.Calm.{Calms, calm-refl, calm-trans}
 use Rattle.books.proofs.ModelCalm.{calm-methods, calm-find-model}
 use Rattle.books.proofs.Shelving.{keeping-longer, full-deeds}
-use Rattle.books.proofs.Tokens.{skip-law, skip-more}
+use Rattle.books.proofs.Tokens.{skip-law}
 use Rattle.books.proofs.Pairs.{found-at, found-none}
 use Rattle.books.proofs.MakingWays.{functions-length}
 use Rattle.books.proofs.FunctionDeeds.{calm-added}
@@ -227,7 +222,9 @@ module _ {tree : List ℕ} {at end : ℕ} {l : List ℕ} {s : struct.Book} {c k 
 
       -- with the mark set
       full-keeping : (s₂ .full ≡ 0 → ⊥) → Keeping κ ps (shelf s₂ c₁ k₁ g₁ m p t l u n₁ b₁ e₂) (compileImplementDefinition model fs x)
-      full-keeping ne = rw (by-parts model fs x) (keeping-longer (calm-methods (sought model fs x .place) (collected rows []) (sought model fs x .book) .uses) ne looked-for)
+      full-keeping ne =
+          rw (by-parts model fs x)
+          (keeping-longer (calm-methods (sought model fs x .place) (collected rows []) (sought model fs x .book) .uses) ne looked-for)
 
       module _ (z : s₂ .full ≡ 0) where
         answer : found ≡ foundOf (sought model fs x .place)

@@ -1,37 +1,38 @@
 -- A function of a book compiled to its end, and added to the book or dropped: one lemma for each way. By the laws of a function's begin and end, and by
 -- what a function leaves as it was. Assumes nothing.
-use Prim.Native.Nat.{ℕ, zero, suc, _+_, _^_, _≤_, _<_}
+use Prim.Native.Nat.{ℕ, suc, _+_, _^_, _<_}
 use native.Mathlib.Nat.{zero-add}
 use native.Mathlib.Omega.{arith}
-use mathlib.Core.Path.{_≡_, refl, sym, ap, _∙_, subst}
-use mathlib.Core.Bool.{Bool, true, false, cond}
+use mathlib.Core.Path.{_≡_, refl, sym, ap, _∙_}
+use mathlib.Core.Bool.{Bool, true, false}
 use mathlib.Core.List.{List, [], _∷_, _++_}
-use lib.ListN.{length, length-append}
+use lib.ListN.{length}
 use lib.Dec.{eqb}
 use borrow.Author.Tests.{eqb-true, eqb-false}
-use Rattle.words.specs.Ast.{Token, FunctionDefinition, Statements}
-use Rattle.words.specs.Areas.{functionsArea, constantsArea, entriesIn}
+use Rattle.words.specs.Ast.{FunctionDefinition}
+use Rattle.words.specs.Areas.{functionsArea, entriesIn}
 use Rattle.words.specs.Record.{mostRecords}
-use Rattle.tree.specs.At.{FunctionAt, sizeF, sizeSs, depthSs}
-use Rattle.definition.specs.FunctionState.{newFunctionState, getLastPosition, pushBreaks}
+use Rattle.definition.specs.FunctionState.{newFunctionState, getLastPosition}
 use Rattle.definition.specs.FunctionState as method
-use Rattle.definition.specs.Uses.{Limits, firstOver, total}
+use Rattle.definition.specs.Uses.{Limits, total}
 use Rattle.definition.specs.Within.{All, none as nil, _&_}
 use Rattle.definition.specs.Compiler.{Work, doing, withFunction, compileParameters, compileStatements, compileFunctionDefinitionBase}
-use Rattle.definition.specs.Book.{Function, Book, working, resumed, codeOf, compileBase, addFunction}
-use Rattle.definition.specs.Program.{Entries, entriesFrom, codeEntries, functionCode, functionEntry, functionEntries}
-use Rattle.definition.proofs.Lists.{all-append}
-use Rattle.definition.proofs.Steady.{Longer, same, more, longer-trans, Steady, steady-trans, steady-function, steady-return, steady-parameters, steady-statements}
+use Rattle.definition.specs.Book.{Function, Book, working, codeOf, compileBase, addFunction}
+use Rattle.definition.specs.Program.{Entries, codeEntries, functionCode, functionEntry, functionEntries}
+use Rattle.definition.proofs.Lists.{all-append, all-map}
+use Rattle.definition.proofs.Limits.{LimitedFunction}
+use Rattle.definition.proofs.Steady.{Longer, same, more, longer-trans, Steady}
+use Rattle.definition.proofs.Steady.{steady-trans, steady-function, steady-return, steady-parameters, steady-statements}
 use Rattle.definition.proofs.Good.{function-moves}
 use Rattle.definition.proofs.Room.{room, room-limited}
-use Rattle.definition.proofs.Operands.{Kept, function-kept}
+use Rattle.definition.proofs.Operands.{function-kept}
 use Rattle.building.specs.declared.function_state.FunctionState.{FunctionState}
 use Rattle.building.specs.declared.taking.Taken.{Taken}
 use Rattle.building.specs.State.{begun}
 use Rattle.building.specs.Scopes.{naming, endFunctionC}
 use Rattle.building.specs.Taking.{Took, taken}
 use Rattle.building.specs.Context.{functionWords}
-use Rattle.building.specs.Held.{machine, Filled, Contents, Held}
+use Rattle.building.specs.Held.{machine, Filled, Held}
 use Rattle.building.proofs.Filling.{capped, over-fits, over-here}
 use Rattle.building.proofs.Notes.{held-longer, over-longer, back}
 use Rattle.building.proofs.PoolLaws.{entries-more}
@@ -76,6 +77,12 @@ few-locals f l w =
     let k = function-kept mostRecords (λ (area : ℕ). n) (f .parameters) (f .body) (omega arith) (omega (arith, l .records)) w
     (record { known = omega arith }) in
     omega (arith, k .body .few, room-limited f (record { records = l .records; levels = l .levels }))
+
+pub bounded : {f : FunctionDefinition} → LimitedFunction f → Bounded f
+bounded l = record { records = l .records; levels = l .levels }
+
+pub all-bounded : {fs : List FunctionDefinition} → All LimitedFunction fs → All Bounded fs
+all-bounded l = all-map (λ f h. bounded h) l
 
 -- `make`
 module _ {tree : List ℕ} {at end : ℕ} {s : struct.Book} {l c k n b e : List ℕ} {r : FunctionState}

@@ -4,13 +4,13 @@ use mathlib.Core.Path.{_≡_}
 use mathlib.Core.Option.{Option}
 use mathlib.Core.List.{List, [], _∷_}
 use lib.ListN.{length}
-use Rattle.words.specs.Ast.{Token, FunctionDefinition}
+use Rattle.words.specs.Ast.{FunctionDefinition}
 use Rattle.words.specs.Record.{mostRecords, mostLevels, tokenAt}
 use Rattle.tree.specs.At.{FunctionAt, sizeF, depthF}
 use Rattle.definition.specs.FunctionState as Emission
 use Rattle.definition.specs.Uses.{Limits}
 use Rattle.definition.specs.Compiler.{Work, compileFunctionDefinitionBase}
-use Rattle.definition.specs.Book.{Book, Placed, working, pushBookError, compileBase, addFunction, addPlainFunction, compileFunctionDefinition}
+use Rattle.definition.specs.Book.{Book, working, pushBookError, compileBase, addFunction, addPlainFunction, compileFunctionDefinition}
 use Rattle.definition.specs.Program.{entriesFrom, functionCode}
 use Rattle.building.specs.declared.function_state.FunctionState.{FunctionState}
 use Rattle.building.specs.declared.scopes.Found.{Found}
