@@ -48,8 +48,7 @@ returns c =
     let c27 = c22 .before .before .before .before .before in
     let c30 = c27 .before .before .before in
     base-meets _ (c30 .parameters-end .ensures) (c27 .parameters .ensures) (omega (arith, c30 .parameters-end .ensures .from)) (c22 .with-parameters .ensures)
-    (c16 .statements .ensures)
-    (c .before .before .before .before .get-last-position .ensures) (c .before .before .emit-return .ensures)
+    (c16 .statements .ensures) (c .before .before .before .before .get-last-position .ensures) (c .before .before .emit-return .ensures)
 
 returns-2 : tie.Need-returns-2
 returns-2 c = base-past (c .if1 .left)
