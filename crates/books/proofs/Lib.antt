@@ -29,6 +29,11 @@ pub mod VariableWays
 pub mod InfixWays
 pub mod IfWays
 pub mod LoopWays
+pub mod Resuming
+pub mod LocalEntries
+pub mod DeedWays
+pub mod MakingWays
+pub mod FunctionDeeds
 pub mod ModelCalm
 pub mod Pairs
 pub mod Stocking
@@ -40,10 +45,8 @@ pub mod Copying
 pub mod ApplyWays
 pub mod ModelWays
 pub mod MethodOrder
-pub mod Resuming
-pub mod LocalEntries
-pub mod DeedWays
 pub mod LocalWays
 pub mod PublicNames
 pub mod IncludeWays
 pub mod DefinitionWays
+pub mod ImplementWays

@@ -9,4 +9,6 @@ pub mod Solving
 pub mod Looping
 pub mod Modelling
 pub mod Deeds
+pub mod Adding
 pub mod Including
+pub mod Implementing

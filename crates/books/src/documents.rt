@@ -52,13 +52,13 @@ pub struct Sought {
 }
 
 // The state that functions, constants and errors work on, and back.
-fn working(book: Book) -> FunctionState
+pub(crate) fn working(book: Book) -> FunctionState
     ensures { λ r. ⌜ r ≡ begun (book .full) (book .code) (book .constants) (book .errors) ⌝ }
 {
     function_state::new(book.full, book.code, book.constants, book.errors)
 }
 
-fn resumed(book: Book, state: FunctionState) -> Book
+pub(crate) fn resumed(book: Book, state: FunctionState) -> Book
     ensures { λ r. ⌜ r ≡ resumedBook book state ⌝ }
 {
     let mut b = book;

@@ -28,7 +28,8 @@ returns-3 c =
     let c14 = c13 .before in
     let c15 = c14 .before in
     parameter-there (c15 .if1 .left) (c14 .field .ensures) (c13 .field2 .ensures) (c12 .instance-by .ensures) (c11 .with-parameters .ensures)
-    (c9 .define-local .ensures) (c .before .before .before .before .enum-told2 .given .1) (c .before .before .fault .ensures)
+    (c9 .define-local .ensures) (c .before .before .before .before .enum-told2 .given .1)
+    (c .before .before .fault .ensures)
 
 pub parameter-spec : {M : Type 1} → statement M
 parameter-spec =
