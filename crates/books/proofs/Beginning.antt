@@ -11,6 +11,7 @@ use borrow.Author.Tests.{eqb-true, eqb-false}
 use Rattle.words.specs.Ast.{Definition, Document}
 use Rattle.words.specs.Areas.{entriesIn, constantsArea, booksArea}
 use Rattle.words.specs.Object.{defaultConstants}
+use Rattle.words.specs.Record.{mostRecords}
 use Rattle.definition.specs.Uses.{Use, using′, Limits, firstOver}
 use Rattle.definition.specs.Book.{newContext, compileDefinition}
 use Rattle.definition.proofs.Limits.{fine-limited}
@@ -26,7 +27,7 @@ use Rattle.books.specs.Sets.{SetIs, Ascends, Below}
 use Rattle.books.specs.Solving.{Bundle, booksOf, TakesBooks}
 use Rattle.building.proofs.ContextLaws.{Grown, grown, over, took-law, took-full}
 use Rattle.books.specs.declared.documents.Book as struct
-use Rattle.books.specs.Driving.{Zero, FirstConstants, Accepted, Cleared, Lent, Resting, Driving, Drives, Works}
+use Rattle.books.specs.Driving.{Zero, begunBook, FirstConstants, Accepted, Cleared, Lent, Resting, Driving, Drives, Works}
 use Rattle.books.proofs.Calm.{Calms}
 use Rattle.books.proofs.Steadfast.{drive-longer}
 use Rattle.books.proofs.BundleRange.{fine-limit}
@@ -127,25 +128,6 @@ zero-drop : (i : ℕ) (a : List ℕ) → Zero a → Zero (drop i a)
 zero-drop i a z =
     let zs : drop i a ≡ replicate (length a - i) 0 = ap (λ (y : List ℕ). drop i y) z ∙ drop-zeros i (length a) in
     zs ∙ ap (λ (y : ℕ). replicate y 0) (sym (ap (λ (y : List ℕ). length y) zs ∙ length-replicate {A = ℕ} (length a - i) 0))
-
--- the counts of the beginning
-abbrev pub begunBook : Taken → ℕ → struct.Book
-begunBook t constants = record {
-  full = t .full;
-  code = 0;
-  constants = constants;
-  functions = 0;
-  models = 0;
-  properties = 0;
-  methods = 0;
-  locals = 0;
-  publics = 0;
-  errors = 0;
-  file = 0;
-  «first_local» = 0;
-  «first_public» = 0;
-  «entry_point» = 0;
-}
 
 module _ {tree set : List ℕ} {c k f m p t l u n b e o : List ℕ} {x r : Taken} {k₁ o₁ : List ℕ} (C : FirstConstants k x k₁)
     (B : TakesBooks tree (length tree / 4) set (x .full) o r o₁) (same : length k₁ ≡ length k) where
@@ -286,3 +268,8 @@ module _ {tree set : List ℕ} {c k f m p t l u n b e o : List ℕ} {x r : Taken
             ),
           );
     }
+
+-- more records than row 2 lets pass
+pub work-huge : {tree set c k f m p t l u n b e o : List ℕ} {s′ : struct.Book} {c′ k′ f′ m′ p′ t′ l′ u′ n′ b′ e′ o′ : List ℕ} {row place : ℕ}
+    → mostRecords < length tree / 4 → Works tree set c k f m p t l u n b e o s′ c′ k′ f′ m′ p′ t′ l′ u′ n′ b′ e′ o′ row place
+work-huge {tree} h = record { works = λ root others A zeros κ lent. absurd (omega (arith, fine-limit tree (A .fine))) }

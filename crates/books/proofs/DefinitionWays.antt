@@ -3,22 +3,30 @@ use Prim.Native.Nat.{ℕ, _+_}
 use native.Mathlib.Omega.{arith}
 use mathlib.Core.Path.{_≡_, refl, sym, ap, subst, _∙_}
 use mathlib.Core.List.{List, []}
-use Rattle.words.specs.Ast.{Token, Definition, FunctionDefinition}
+use Rattle.words.specs.Ast.{Token, Definition, LocalDefinition, IncludeDefinition, ModelDefinition, PublicModelDefinition, PlainFunction, PublicFunction}
+use Rattle.words.specs.Ast.{ImplementDefinition, ApplyDefinition}
 use Rattle.words.specs.Record.{kindAt, valueAt, tokenAt}
 use Rattle.tree.specs.At.{DefinitionAt, sizeD, kindD}
 use Rattle.tree.proofs.View.{ViewD, v-LocalDefinition, v-IncludeDefinition, v-ModelDefinition, v-PublicModelDefinition, v-ApplyDefinition, viewD, headD, seeD}
 use Rattle.tree.proofs.View.{v-PlainFunction, v-PublicFunction, v-ImplementDefinition}
 use Rattle.definition.specs.Uses.{Limits}
-use Rattle.definition.specs.Book.{Book, compileDefinition}
-use Rattle.definition.specs.Within.{All}
+use Rattle.definition.specs.Book.{Book, compileDefinition, compileModelDefinition, compileFunctionDefinition}
+use Rattle.definition.specs.Within.{All, none, _&_}
 use Rattle.definition.proofs.Limits.{LimitedFunction, functionsIn}
 use Rattle.books.specs.declared.documents.Book as struct
 use Rattle.books.specs.Shelf.{Shelf, shelf, Keeping, Shelved}
 use Rattle.books.specs.Deeds.{DefinesLocals}
 use Rattle.books.specs.Including.{TakesNames}
 use Rattle.books.specs.Modelling.{DefinesModel, Publishes, Applies}
+use Rattle.books.specs.Adding.{DefinesFunction}
+use Rattle.books.specs.Implementing.{Implements}
 use Rattle.books.specs.Driving.{MeetsDefinition}
-use Rattle.books.proofs.ModelWays.{alone-book, alone-publish}
+use Rattle.books.proofs.ModelWays.{alone-book, alone-publish, places-alone}
+use Rattle.books.proofs.MakingWays.{bounded, all-bounded}
+use Rattle.books.proofs.Calm.{Calms, calm-trans, calm-local-definition, calm-include}
+use Rattle.books.proofs.ModelCalm.{calm-model-definition, calm-publish, calm-apply}
+use Rattle.books.proofs.FunctionDeeds.{calm-function}
+use Rattle.books.proofs.ImplementWays.{calm-implement}
 
 module _ {tree : List ℕ} {at end kind : ℕ} {books : List ℕ} (kind-is : kind ≡ kindAt tree at) {s : struct.Book} {c k f m p t l u n b e : List ℕ} where
   pub definition-local : {s′ : struct.Book} {k′ l′ e′ : List ℕ} → kind ≡ 10 → DefinesLocals tree (at + 1) end s k l e s′ k′ l′ e′
@@ -82,3 +90,51 @@ module _ {tree : List ℕ} {at end kind : ℕ} {books : List ℕ} (kind-is : kin
       go _ v-PublicFunction i j h q κ x H = absurd (n15 j)
       go _ v-ImplementDefinition i j h q κ x H = absurd (n16 j)
       go _ (v-ApplyDefinition {s = source} {t = target}) i j h q κ x H = D .deeds c f m p u n b source target h q .meets κ [] x H
+
+-- functions and implements, which are within the limits
+module _ {tree : List ℕ} {at end kind : ℕ} {books : List ℕ} (kind-is : kind ≡ kindAt tree at) {s : struct.Book} {c k f m p t l u n b e : List ℕ} where
+  module _ {place : ℕ} {s₁ : struct.Book} {c₁ k₁ f₁ l₁ n₁ b₁ e₁ : List ℕ} (D : DefinesFunction tree at end s c k f l n b e s₁ c₁ k₁ f₁ l₁ n₁ b₁ e₁ place) where
+    pub definition-function : kind ≡ 14 → MeetsDefinition tree at end books (shelf s c k f m p t l u n b e) (shelf s₁ c₁ k₁ f₁ m p t l₁ u n₁ b₁ e₁)
+    unfolding compileDefinition DefinitionAt sizeD
+    definition-function is = record { meets = λ d h q limited κ x shelved H. go d (seeD d tree at h kind-is is) h q limited κ x H }
+      where
+        go : (d : Definition) → ViewD 14 d → DefinitionAt d tree at → at + sizeD d ≡ end → All LimitedFunction (functionsIn d) → (κ : Limits) (x : Book)
+            → Keeping κ [] (shelf s c k f m p t l u n b e) x → Keeping κ [] (shelf s₁ c₁ k₁ f₁ m p t l₁ u n₁ b₁ e₁) (compileDefinition d x)
+        go _ (v-PlainFunction {f = g}) h q (limited & none) κ x H = D .places 14 g h q (bounded limited) m p t u .meets κ [] x H
+
+    pub definition-public-function : {name : ℕ} {s′ : struct.Book} {u′ : List ℕ} → kind ≡ 15 → name ≡ valueAt tree at → Publishes place name s₁ u s′ u′
+        → MeetsDefinition tree at end books (shelf s c k f m p t l u n b e) (shelf s′ c₁ k₁ f₁ m p t l₁ u′ n₁ b₁ e₁)
+    unfolding compileDefinition DefinitionAt sizeD
+    definition-public-function {name} {s′} {u′} is name-is P = record {
+      meets = λ d h q limited κ x shelved H. go d (seeD d tree at h kind-is is) h q limited κ x H;
+    }
+      where
+        go : (d : Definition) → ViewD 15 d → DefinitionAt d tree at → at + sizeD d ≡ end → All LimitedFunction (functionsIn d) → (κ : Limits) (x : Book)
+            → Keeping κ [] (shelf s c k f m p t l u n b e) x → Keeping κ [] (shelf s′ c₁ k₁ f₁ m p t l₁ u′ n₁ b₁ e₁) (compileDefinition d x)
+        go _ (v-PublicFunction {f = g}) h q (limited & none) κ x H =
+            let same : name ≡ g .name .value = name-is ∙ sym (ap (λ (y : Token). y .value) (h .headed .token)) in
+            alone-publish (places-alone (D .places 15 g h q (bounded limited) m p t u)) (subst (λ (y : ℕ). Publishes place y s₁ u s′ u′) same P) .meets κ x H
+
+  pub definition-implement : {s′ : struct.Book} {c′ k′ f′ t′ n′ b′ e′ : List ℕ} → kind ≡ 16 → Implements tree at end l s c k f t n b e s′ c′ k′ f′ t′ n′ b′ e′
+      → MeetsDefinition tree at end books (shelf s c k f m p t l u n b e) (shelf s′ c′ k′ f′ m p t′ l u n′ b′ e′)
+  unfolding compileDefinition DefinitionAt sizeD
+  definition-implement {s′} {c′} {k′} {f′} {t′} {n′} {b′} {e′} is D = record {
+    meets = λ d h q limited κ x shelved H. go d (seeD d tree at h kind-is is) h q limited κ x H;
+  }
+    where
+      go : (d : Definition) → ViewD 16 d → DefinitionAt d tree at → at + sizeD d ≡ end → All LimitedFunction (functionsIn d) → (κ : Limits) (x : Book)
+          → Keeping κ [] (shelf s c k f m p t l u n b e) x → Keeping κ [] (shelf s′ c′ k′ f′ m p t′ l u n′ b′ e′) (compileDefinition d x)
+      go _ (v-ImplementDefinition {t = model} {fs = fs}) h q limited κ x H =
+          D .deeds model fs (h .0) (h .1) q (all-bounded limited) m p u .meets κ [] x H
+
+-- no definition changes the books put away
+pub calm-definition : (d : Definition) → Calms (compileDefinition d)
+unfolding compileDefinition
+calm-definition (LocalDefinition bs) b = calm-local-definition bs b
+calm-definition (IncludeDefinition file as′) b = calm-include (file .value) as′ b
+calm-definition (ModelDefinition n ps) b = calm-model-definition n ps b
+calm-definition (PublicModelDefinition n ps) b = calm-trans (calm-model-definition n ps b) (calm-publish (n .value) (compileModelDefinition n ps b))
+calm-definition (PlainFunction f) b = calm-function f b
+calm-definition (PublicFunction f) b = calm-trans (calm-function f b) (calm-publish (f .name .value) (compileFunctionDefinition f b))
+calm-definition (ImplementDefinition m fs) b = calm-implement m fs b
+calm-definition (ApplyDefinition s t) b = calm-apply s t b

@@ -68,6 +68,10 @@ document-meets {s = s} {c} {k} {f} {m} {p} {t} {l} {u} {n} {b} {e} M = record {
       (subst (λ (x : ℕ). Keeping κ [] (shelf (openedBook s x) c k f m p t l u n b e) (opened d context uses)) (sym i) (named d (R .ready)));
 }
 
+pub document-past : {tree : List ℕ} {at end index : ℕ} {books : List ℕ} {s : struct.Book} {c k f m p t l u n b e : List ℕ} {m′ : Shelf} → end ≤ at
+    → MeetsDocument tree at end index books s c k f m p t l u n b e m′
+document-past past = record { meets = λ d h q limited κ context uses i shelved R. absurd (omega arith) }
+
 -- public names are as many as their entries
 publics-length : (file : ℕ) (es : List Entry) → length (publicEntries file es) ≡ length es
 publics-length file [] = refl

@@ -195,3 +195,22 @@ pub record Emptied (c k f m p t l u n b o : List ℕ) : Type 0 where
   pub names : Zero n
   pub breaks : Zero b
   pub books : Zero o
+
+-- the counts of the beginning
+abbrev pub begunBook : Taken → ℕ → struct.Book
+begunBook t constants = record {
+  full = t .full;
+  code = 0;
+  constants = constants;
+  functions = 0;
+  models = 0;
+  properties = 0;
+  methods = 0;
+  locals = 0;
+  publics = 0;
+  errors = 0;
+  file = 0;
+  «first_local» = 0;
+  «first_public» = 0;
+  «entry_point» = 0;
+}

@@ -208,7 +208,7 @@ fn binding(
 }
 
 // `compile_local_definition`: its pairs.
-fn local_definition(
+pub(crate) fn local_definition(
     tree: &[u64],
     at: usize,
     end: usize,
@@ -321,7 +321,7 @@ fn alias(
 }
 
 // `compile_include_definition`: its pairs.
-fn include_definition(
+pub(crate) fn include_definition(
     tree: &[u64],
     at: usize,
     end: usize,

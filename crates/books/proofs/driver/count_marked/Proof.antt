@@ -20,11 +20,18 @@ loop-holds c = (omega arith, λ r h. h)
 add-n : tie.Need-add-n Inv-loop μ-loop
 add-n c =
     let c5 = c .before .before .before .before .before in
-    omega (arith, c .before .before .before .loop .inv .0, c .before .before .loop-test .taken, c5 .fits, mark-small (c .one-if .ensures))
+    omega (
+      arith,
+      c .before .before .before .loop .inv .0,
+      c .before .before .loop-test .taken,
+      c5 .fits,
+      mark-small (c .before .entry-word .result)
+          (c .one-if .ensures),
+    )
 
 loop-again : tie.Need-loop-again Inv-loop μ-loop
 loop-again c = (
-  omega (arith, c .before .before .before .loop .inv .0, mark-small (c .one-if .ensures)),
+  omega (arith, c .before .before .before .loop .inv .0, mark-small (c .before .entry-word .result) (c .one-if .ensures)),
   λ r h. c .before .before .before .loop .inv .1 r (marked-more (c .before .before .loop-test .taken) (c .before .entry-word .ensures)
       (c .one-if .ensures) h),
 )
