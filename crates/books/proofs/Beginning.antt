@@ -238,9 +238,9 @@ module _ {tree set : List ℕ} {c k f m p t l u n b e o : List ℕ} {x r : Taken
 
   module _ (calm : (d : Definition) → Calms (compileDefinition d)) where
     -- the constants or the books do not fit
-    pub work-full : (r .full ≡ 0 → ⊥) → (row place : ℕ)
+    not-begun : (r .full ≡ 0 → ⊥) → (row place : ℕ)
         → Works tree set c k f m p t l u n b e o (begunBook r (x .count)) c k₁ f m p t l u n b e o₁ row place
-    work-full ne row place = record {
+    not-begun ne row place = record {
       works = λ root others A zeros κ lent. (
         [],
         (
@@ -254,17 +254,22 @@ module _ {tree set : List ℕ} {c k f m p t l u n b e o : List ℕ} {x r : Taken
       );
     }
 
-    pub work-on : r .full ≡ 0 → {set₀ : List ℕ} → set₀ ≡ replicate 16384 0 → {s′ : struct.Book} {c′ k′ f′ m′ p′ t′ l′ u′ n′ b′ e′ o′ : List ℕ} {row place : ℕ}
-        → Drives tree (length tree / 4) 0 (r .count) set₀ o₁ (begunBook r (x .count)) c k₁ f m p t l u n b e s′ c′ k′ f′ m′ p′ t′ l′ u′ n′ b′ e′ o′ row place
+    pub work-full : {s : struct.Book} → s ≡ begunBook r (x .count) → (r .full ≡ 0 → ⊥) → (row place : ℕ)
+        → Works tree set c k f m p t l u n b e o s c k₁ f m p t l u n b e o₁ row place
+    work-full s-is ne row place = rw s-is (not-begun ne row place)
+
+    pub work-on : {s : struct.Book} → s ≡ begunBook r (x .count) → r .full ≡ 0 → {set₀ : List ℕ} → set₀ ≡ replicate 16384 0 → {s′ : struct.Book} {c′ k′ f′ m′ p′ t′ l′ u′ n′ b′ e′ o′ : List ℕ} {row place : ℕ}
+        → Drives tree (length tree / 4) 0 (r .count) set₀ o₁ s c k₁ f m p t l u n b e s′ c′ k′ f′ m′ p′ t′ l′ u′ n′ b′ e′ o′ row place
         → Works tree set c k f m p t l u n b e o s′ c′ k′ f′ m′ p′ t′ l′ u′ n′ b′ e′ o′ row place
-    work-on z empty D = record {
+    work-on s-is z empty D = record {
       works = λ root others A zeros κ lent.
           let numbers = needed [] root others in (
             drop (length numbers) o,
             (
               zero-drop (length numbers) o (zeros .books),
               rw (as-work A zeros κ lent)
-                  (D .drives (root ∷ others) numbers (drop (length numbers) o) [] κ newContext (begunUses (length numbers)) (driving A zeros κ lent z empty)),
+                  (D .drives (root ∷ others) numbers (drop (length numbers) o) [] κ newContext (begunUses (length numbers))
+                  (rw s-is (driving A zeros κ lent z empty))),
             ),
           );
     }

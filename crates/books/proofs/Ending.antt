@@ -26,7 +26,7 @@ use Rattle.building.proofs.Filling.{filled-field}
 use Rattle.building.specs.Held.{Filled, Marks, unmarked, marked}
 use Rattle.books.specs.declared.documents.Book as book
 use Rattle.books.specs.Shelf.{shelf}
-use Rattle.books.specs.Driving.{Zero, Cleared, Lent, Resting, Came, came-delivered, came-faulty, came-ring, Outcome, Accepted, Fronts, Works, MarkedFrom, markOf}
+use Rattle.books.specs.Driving.{Zero, Cleared, Lent, Resting, Came, came-delivered, came-faulty, came-ring, Outcome, Accepted, Fronts, Works, MarkedFrom, markOf, Emptied}
 use Rattle.books.specs.Promise.{areas, lengthsOf, saying, answering, Compiles}
 use Rattle.books.proofs.Whole.{filled-is, totals, delivered-words, delivered-reply}
 use Rattle.books.proofs.Delivering.{compiles}
@@ -286,3 +286,69 @@ mark-small word q = go (eqb word 1) q
     go : {one : ℕ} (x : Bool) → one ≡ cond x 1 0 → one ≤ 1
     go true q = omega arith
     go false q = omega arith
+
+-- the areas are as long as they were
+pub record SameLengths (c₀ k₀ f₀ m₀ p₀ t₀ l₀ u₀ n₀ b₀ e₀ o₀ c k f m p t l u n b e o : List ℕ) : Type 0 where
+  pub code : length c ≡ length c₀
+  pub constants : length k ≡ length k₀
+  pub functions : length f ≡ length f₀
+  pub models : length m ≡ length m₀
+  pub properties : length p ≡ length p₀
+  pub methods : length t ≡ length t₀
+  pub locals : length l ≡ length l₀
+  pub publics : length u ≡ length u₀
+  pub names : length n ≡ length n₀
+  pub breaks : length b ≡ length b₀
+  pub errors : length e ≡ length e₀
+  pub books : length o ≡ length o₀
+
+same-lengths : {c₀ k₀ f₀ m₀ p₀ t₀ l₀ u₀ n₀ b₀ e₀ o₀ c k f m p t l u n b e o : List ℕ} → SameLengths c₀ k₀ f₀ m₀ p₀ t₀ l₀ u₀ n₀ b₀ e₀ o₀ c k f m p t l u n b e o
+    → lengthsOf (areas c₀ k₀ f₀ m₀ p₀ t₀ l₀ u₀ n₀ b₀ e₀ o₀) ≡ lengthsOf (areas c k f m p t l u n b e o)
+same-lengths S = rw (S .code, S .constants, S .functions, S .models, S .properties, S .methods, S .locals, S .publics, S .names, S .breaks, S .errors, S .books)
+
+-- zeros in all areas
+pub all-cleared : {c k f m p t l u n b e o : List ℕ} → Emptied c k f m p t l u n b o → Zero e → Cleared c k f m p t l u n b e o
+all-cleared E z = record {
+  code = E .code;
+  constants = E .constants;
+  functions = E .functions;
+  models = E .models;
+  properties = E .properties;
+  methods = E .methods;
+  locals = E .locals;
+  publics = E .publics;
+  names = E .names;
+  breaks = E .breaks;
+  errors = z;
+  books = E .books;
+}
+
+-- the ways of `compile`, over the areas that were lent
+module _ (tree c₀ k₀ f₀ m₀ p₀ t₀ l₀ u₀ n₀ b₀ e₀ o₀ : List ℕ) where
+  abbrev lent : Areas
+  lent = areas c₀ k₀ f₀ m₀ p₀ t₀ l₀ u₀ n₀ b₀ e₀ o₀
+
+  pub compile-row : {set c k f m p t l u n b e o : List ℕ} {row place : ℕ} {r : struct.Reply} → SameLengths c₀ k₀ f₀ m₀ p₀ t₀ l₀ u₀ n₀ b₀ e₀ o₀ c k f m p t l u n b e o
+      → Emptied c k f m p t l u n b o → Zero e → Fronts tree row place set → (row ≡ 0 → ⊥) → r ≡ refusal row place
+      → Compiles tree lent (areas c k f m p t l u n b e o) r
+  compile-row S E ze F ne says = compile-refused tree lent refl (same-lengths S) (all-cleared E ze) F ne says
+
+  module _ {set c k f m p t l u n b e o : List ℕ} {s′ : book.Book} {c′ k′ f′ m′ p′ t′ l′ u′ n′ b′ e′ o′ : List ℕ} {row place number at : ℕ}
+      (S : SameLengths c₀ k₀ f₀ m₀ p₀ t₀ l₀ u₀ n₀ b₀ e₀ o₀ c k f m p t l u n b e o) (E : Emptied c k f m p t l u n b o) (ze : Zero e)
+      (F : Fronts tree number at set) (went : number ≡ 0)
+      (W : Works tree set c k f m p t l u n b e o s′ c′ k′ f′ m′ p′ t′ l′ u′ n′ b′ e′ o′ row place) where
+    pub compile-short : {c″ k″ f″ m″ p″ t″ l″ u″ n″ b″ e″ o″ : List ℕ} {r : struct.Reply} → (s′ .full ≡ 0 → ⊥) → SameLengths c₀ k₀ f₀ m₀ p₀ t₀ l₀ u₀ n₀ b₀ e₀ o₀ c″ k″ f″ m″ p″ t″ l″ u″ n″ b″ e″ o″
+        → Emptied c″ k″ f″ m″ p″ t″ l″ u″ n″ b″ o″ → Zero e″ → r ≡ refusal 9 (s′ .full) → Compiles tree lent (areas c″ k″ f″ m″ p″ t″ l″ u″ n″ b″ e″ o″) r
+    compile-short ne S″ E″ ze″ says =
+        compile-full tree lent refl (same-lengths S) (all-cleared E ze) F went W (same-lengths S″) ne (all-cleared E″ ze″) says
+
+    pub compile-faulty : {c″ k″ f″ m″ p″ t″ l″ u″ n″ b″ o″ : List ℕ} {r : struct.Reply} → s′ .full ≡ 0 → (row ≡ 0 → ⊥)
+        → SameLengths c₀ k₀ f₀ m₀ p₀ t₀ l₀ u₀ n₀ b₀ e₀ o₀ c″ k″ f″ m″ p″ t″ l″ u″ n″ b″ e′ o″ → Emptied c″ k″ f″ m″ p″ t″ l″ u″ n″ b″ o″
+        → r ≡ refusal row place → Compiles tree lent (areas c″ k″ f″ m″ p″ t″ l″ u″ n″ b″ e′ o″) r
+    compile-faulty y ne S″ E″ says =
+        compile-errors tree lent refl (same-lengths S) (all-cleared E ze) F went W (same-lengths S″) y ne (E″ .code) (E″ .constants) (E″ .functions) (E″ .models)
+        (E″ .properties) (E″ .methods) (E″ .locals) (E″ .publics) (E″ .names) (E″ .breaks) (E″ .books) says
+
+    pub compile-whole : {globals : ℕ} {r : struct.Reply} → s′ .full ≡ 0 → row ≡ 0 → SameLengths c₀ k₀ f₀ m₀ p₀ t₀ l₀ u₀ n₀ b₀ e₀ o₀ c′ k′ f′ m′ p′ t′ l′ u′ n′ b′ e′ o′
+        → MarkedFrom k′ 0 (s′ .constants) 0 globals → r ≡ delivery (totals s′ place globals) → Compiles tree lent (areas c′ k′ f′ m′ p′ t′ l′ u′ n′ b′ e′ o′) r
+    compile-whole y h S′ M says = compile-delivered tree lent refl (same-lengths S) (all-cleared E ze) F went W (same-lengths S′) y h M says
