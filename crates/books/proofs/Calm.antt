@@ -3,11 +3,13 @@ use Prim.Native.Nat.{ℕ}
 use mathlib.Core.Path.{_≡_, refl, _∙_}
 use mathlib.Core.Bool.{Bool, true, false, cond}
 use mathlib.Core.Option.{Option, none, some}
-use mathlib.Core.List.{List}
-use Rattle.words.specs.Ast.{Token}
+use mathlib.Core.List.{List, [], _∷_}
+use Rattle.words.specs.Ast.{Token, Binding, Alias}
 use Rattle.words.specs.Object.{Constant}
 use Rattle.definition.specs.FunctionState.{findName}
-use Rattle.definition.specs.Book.{Book, Deed, working, pushBookError, addBookConstant, noted, defineContextLocalBy, defineContextLocal, setLocalValue, giveValue}
+use Rattle.definition.specs.Book.{Book, Deed, working, pushBookError, addBookConstant, noted, defineContextLocalBy, defineContextLocal, setLocalValue}
+use Rattle.definition.specs.Book.{giveValue, includedName, compileAlias, compileIncludeDefinition, Value, Standing, Adding, NoConstant, valueOf, compileValue}
+use Rattle.definition.specs.Book.{compileBindingBy, compileBinding, compileLocalDefinition}
 use Rattle.definition.proofs.Steady.{Longer, same, more, longer-trans, steady-constant}
 
 pub record Calm (b b′ : Book) : Type 0 where
@@ -54,3 +56,35 @@ calm-value (some i) c b = record { uses = same; assemblies = refl; filename = re
 pub calm-give : (o p : Option ℕ) → Calms (giveValue o p)
 calm-give o none b = calm-refl b
 calm-give o (some c) b = calm-value o c b
+
+pub calm-alias : (file : ℕ) (a : Alias) → Calms (compileAlias file a)
+unfolding compileAlias
+calm-alias file a b =
+    let d = defineContextLocal (a .alias .value) b in
+    calm-trans (calm-local (a .alias .value) b) (calm-give (d .place) (includedName file (a .publicName .value) (b .context)) (d .book))
+
+pub calm-include : (file : ℕ) (as′ : List Alias) → Calms (compileIncludeDefinition file as′)
+unfolding compileIncludeDefinition
+calm-include file [] b = calm-refl b
+calm-include file (a ∷ as′) b = calm-trans (calm-alias file a b) (calm-include file as′ (compileAlias file a b))
+
+pub calm-compile-value : (v : Value) (t : Token) (o : Option ℕ) → Calms (compileValue v t o)
+calm-compile-value (Standing c) t o b = calm-value o c b
+calm-compile-value (Adding c) t o b = let a = addBookConstant c b in calm-trans (calm-constant c b) (calm-value o (a .place) (a .book))
+calm-compile-value NoConstant t o b = calm-error 5 t b
+
+pub calm-binding-by : (o : Option ℕ) (v : Option Token) → Calms (compileBindingBy o v)
+calm-binding-by none v b = calm-refl b
+calm-binding-by (some i) none b = calm-refl b
+calm-binding-by (some i) (some t) b = calm-compile-value (valueOf t) t (some i) b
+
+pub calm-binding : (x : Binding) → Calms (compileBinding x)
+unfolding compileBinding
+calm-binding x b =
+    let d = defineContextLocal (x .variable .value) b in
+    calm-trans (calm-local (x .variable .value) b) (calm-binding-by (d .place) (x .value) (d .book))
+
+pub calm-local-definition : (xs : List Binding) → Calms (compileLocalDefinition xs)
+unfolding compileLocalDefinition
+calm-local-definition [] b = calm-refl b
+calm-local-definition (x ∷ xs) b = calm-trans (calm-binding x b) (calm-local-definition xs (compileBinding x b))
