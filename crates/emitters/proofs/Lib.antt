@@ -1,0 +1,2 @@
+pub mod InARow
+mod LentState
