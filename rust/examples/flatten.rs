@@ -1,6 +1,6 @@
 //! A front end's small syntax tree, flattened into records and compiled; prints the program.
 //!
-//!     cargo run --offline --features compile --example flatten
+//!     cargo run --offline --example flatten
 
 use clover_back_end::records::{infix, kind, Records, MAIN};
 use clover_back_end::{compile, Areas, Position, Program, Refusal};

@@ -119,7 +119,7 @@ impl Areas {
         &self.words[area.index()]
     }
 
-    #[cfg_attr(not(feature = "compile"), allow(dead_code))]
+    #[cfg_attr(not(feature = "link"), allow(dead_code))]
     pub(crate) fn words_mut(&mut self) -> &mut [Vec<u64>; AREAS] {
         &mut self.words
     }

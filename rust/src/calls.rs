@@ -1,8 +1,6 @@
 //! The library's calls (docs/FORMAT.md, 'The static library'), each safe over slices.
 
-#[cfg(feature = "compile")]
 use crate::areas::{Area, Areas};
-#[cfg(feature = "compile")]
 use crate::program::{Program, Totals};
 use crate::records::RECORD_WORDS;
 use crate::refusal::Refusal;
@@ -60,7 +58,6 @@ pub fn records_to_columns(tree: &[u64]) -> Result<Vec<u8>, Refusal> {
     Ok(out)
 }
 
-#[cfg(feature = "compile")]
 #[repr(C)]
 struct Reply {
     number: u64,
@@ -68,7 +65,6 @@ struct Reply {
     totals: Totals,
 }
 
-#[cfg(feature = "compile")]
 #[rustfmt::skip]
 extern "C" {
     fn clover_compile(
@@ -90,7 +86,6 @@ extern "C" {
 
 /// Compiles a bundle; the program lies in the areas. After a refusal they hold nothing but the listed
 /// errors, which the refusal has too.
-#[cfg(feature = "compile")]
 pub fn compile<'a>(tree: &[u64], areas: &'a mut Areas) -> Result<Program<'a>, Refusal> {
     let lent = areas.words_mut().each_mut().map(|words| (words.as_mut_ptr(), words.len()));
     // The slices outlive the call, and no two of them overlap: each is a vector of its own.

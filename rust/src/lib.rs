@@ -6,7 +6,7 @@
 //! throughout: what they say is the caller's own.
 //!
 //! ```
-//! # #[cfg(feature = "compile")]
+//! # #[cfg(feature = "link")]
 //! # fn main() {
 //! use clover_back_end::records::{kind, Records};
 //! use clover_back_end::{compile, Areas, Constant, OpCode};
@@ -25,7 +25,7 @@
 //! assert_eq!((first.opcode(), first.operand()), (OpCode::PushConstant, 3));
 //! assert_eq!(program.constant(3), Some(Constant::Integer(7)));
 //! # }
-//! # #[cfg(not(feature = "compile"))]
+//! # #[cfg(not(feature = "link"))]
 //! # fn main() {}
 //! ```
 //!
@@ -41,10 +41,8 @@ pub mod records;
 mod refusal;
 
 pub use areas::{Area, Areas, AREAS};
-#[cfg(feature = "compile")]
-pub use calls::compile;
 #[cfg(feature = "link")]
-pub use calls::{check, columns_to_records, records_to_columns};
+pub use calls::{check, columns_to_records, compile, records_to_columns};
 pub use instruction::{Instruction, OpCode, Position};
 pub use program::{Constant, ContextLocal, Function, Method, Model, Program, PublicName, Totals};
 pub use refusal::{Error, Refusal, Row, Token};

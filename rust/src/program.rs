@@ -55,7 +55,7 @@ pub struct Program<'a> {
 
 impl<'a> Program<'a> {
     /// The areas must hold a delivery with these totals.
-    #[cfg_attr(not(feature = "compile"), allow(dead_code))]
+    #[cfg_attr(not(feature = "link"), allow(dead_code))]
     pub(crate) fn new(areas: &'a Areas, totals: Totals) -> Program<'a> {
         let used = |area: Area| &areas.words(area)[..totals.of(area) as usize * area.entry_words()];
         Program { areas: Area::ALL.map(used), totals }

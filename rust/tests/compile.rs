@@ -1,5 +1,5 @@
 //! The compile call of the linked library: 01's example, each row, and the rule books of `examples/`.
-#![cfg(feature = "compile")]
+#![cfg(feature = "link")]
 
 use clover_back_end::records::{infix, kind, Records, MAX_LEVEL};
 use clover_back_end::{
