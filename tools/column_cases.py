@@ -1,4 +1,4 @@
-# Writes the stored cases of column_cases, records and columns, by a reading of 01 of its own. Run at the root of the repository.
+# Writes the stored cases of column_cases, and those of records and columns, by a reading of 01 of its own. Run at the root of the repository.
 import random, os
 W=[4,8,6,6,21]
 def line(k,s,l,c,v): return ''.join(str(x).rjust(w) for x,w in zip([k,s,l,c,v],W))+'\n'
@@ -51,3 +51,7 @@ open('crates/records/stdout','w').write('0 0 8\n'+''.join(str(w).rjust(21)+'\n' 
 f=const(33,-2**63)
 open('crates/columns/stdin','w').write(''.join(str(w).rjust(21)+'\n' for w in words(f)))
 open('crates/columns/stdout','w').write('0 0 4\n'+f)
+# one record more than the buffers hold: `long_records` and `long_columns` are the programs `records` and `columns`
+open('crates/long_records/stdin','w').write(D(1,2)*1425)
+open('crates/long_columns/stdin','w').write(''.join(str(w).rjust(21)+'\n' for w in words(D(1,2)*745)))
+for name in ('long_records','long_columns'): open(f'crates/{name}/stdout','w').write('9 0 0\n')

@@ -3,7 +3,7 @@
 
 use crate::random::Random;
 use crate::records::{kind, records, MAX_RECORDS, RECORD_WORDS};
-use crate::shape::check;
+use crate::shape::{check, Refusal};
 
 /// Kind, span, line, column, value.
 pub const WIDTHS: [usize; 5] = [4, 8, 6, 6, 21];
@@ -16,25 +16,30 @@ const OUTPUT_SHORT: u64 = 9;
 /// Lines and columns of a position.
 const MAX_PLACE: u64 = 65_535;
 
-/// Row, place and the output in its full length.
+/// The reply and the output in its full length.
 #[derive(Clone, Debug, PartialEq, Eq)]
 pub struct Converted<T> {
     pub row: u64,
     pub place: u64,
+    /// Records.
+    pub total: u64,
     pub out: Vec<T>,
 }
 
-impl<T: Copy + Default> Converted<T> {
-    fn refused(row: u64, place: u64, length: usize) -> Converted<T> {
-        Converted { row, place, out: vec![T::default(); length] }
-    }
+/// What is to be written, with the number of records, or rows 1 to 4.
+pub type Answer<T> = Result<(Vec<T>, u64), Refusal>;
 
-    fn delivered(mut out: Vec<T>, length: usize) -> Converted<T> {
-        if out.len() > length {
-            return Converted::refused(OUTPUT_SHORT, 0, length);
+/// An answer in an output of a length: zeros after it, row 9 where it is too short.
+pub fn fitted<T: Copy + Default>(answer: &Answer<T>, length: usize) -> Converted<T> {
+    let zeros = vec![T::default(); length];
+    match answer {
+        Err((row, place)) => Converted { row: *row, place: *place, total: 0, out: zeros },
+        Ok((made, _)) if made.len() > length => Converted { row: OUTPUT_SHORT, place: 0, total: 0, out: zeros },
+        Ok((made, total)) => {
+            let mut out = made.clone();
+            out.resize(length, T::default());
+            Converted { row: 0, place: 0, total: *total, out }
         }
-        out.resize(length, T::default());
-        Converted { row: 0, place: 0, out }
     }
 }
 
@@ -83,22 +88,22 @@ fn line(text: &[u8]) -> Option<[u64; 4]> {
     (row <= MAX_PLACE && column <= MAX_PLACE).then_some([kind, span, row << 16 | column, value])
 }
 
-/// Column file to words, into an output of `length` words.
-pub fn column_to_records(bytes: &[u8], length: usize) -> Converted<u64> {
+/// Column file to words.
+pub fn read_column(bytes: &[u8]) -> Answer<u64> {
     let mut words = Vec::new();
     for (number, text) in (1..).zip(bytes.split_inclusive(|&byte| byte == b'\n')) {
-        let Some(read) = text.strip_suffix(b"\n").and_then(line) else {
-            return Converted::refused(BAD_LINE, number, length);
-        };
-        words.extend(read);
+        words.extend(text.strip_suffix(b"\n").and_then(line).ok_or((BAD_LINE, number))?);
     }
     if words.len() / RECORD_WORDS > MAX_RECORDS {
-        return Converted::refused(BAD_LENGTH, 0, length);
+        return Err((BAD_LENGTH, 0));
     }
-    match check(&words) {
-        Err((row, place)) => Converted::refused(row, place, length),
-        Ok(_) => Converted::delivered(words, length),
-    }
+    let total = check(&words)?.len() as u64;
+    Ok((words, total))
+}
+
+/// Column file to words, into an output of `length` words.
+pub fn column_to_records(bytes: &[u8], length: usize) -> Converted<u64> {
+    fitted(&read_column(bytes), length)
 }
 
 /// The lines of records, whatever they say; every number fits its width where the tree rules hold.
@@ -112,18 +117,21 @@ pub fn lines(words: &[u64]) -> Vec<u8> {
     out.into_bytes()
 }
 
+/// Words to a column file.
+pub fn write_column(words: &[u64]) -> Answer<u8> {
+    let total = check(words)?.len() as u64;
+    Ok((lines(words), total))
+}
+
 /// Words to a column file, into an output of `length` bytes.
 pub fn records_to_column(words: &[u64], length: usize) -> Converted<u8> {
-    match check(words) {
-        Err((row, place)) => Converted::refused(row, place, length),
-        Ok(_) => Converted::delivered(lines(words), length),
-    }
+    fitted(&write_column(words), length)
 }
 
 /// A column file broken on purpose, in its lines or as a whole.
 pub fn damaged(random: &mut Random, whole: &[u8]) -> Vec<u8> {
     let mut bytes = whole.to_vec();
-    if bytes.is_empty() {
+    if bytes.len() < LINE_BYTES {
         return random.pick(&[&b"\n"[..], b" ", b"1", b"\n\n"]).to_vec();
     }
     let count = bytes.len() / LINE_BYTES;
@@ -175,7 +183,7 @@ mod tests {
 
     #[test]
     fn a_document_comes_through() {
-        assert_eq!(one("2"), Converted { row: 0, place: 0, out: vec![1, 1, 0, 2] });
+        assert_eq!(one("2"), Converted { row: 0, place: 0, total: 1, out: vec![1, 1, 0, 2] });
         assert_eq!(one("-2").row, BAD_LINE);
         assert_eq!(one("02").row, BAD_LINE);
         assert_eq!(one("18446744073709551616").row, BAD_LINE);
@@ -196,11 +204,11 @@ mod tests {
 
     #[test]
     fn empty_and_short() {
-        assert_eq!(column_to_records(b"", 4), Converted { row: 3, place: 0, out: vec![0; 4] });
+        assert_eq!(column_to_records(b"", 4), Converted { row: 3, place: 0, total: 0, out: vec![0; 4] });
         assert_eq!(column_to_records(b"\n", 0).row, BAD_LINE);
         let file = lines(&[1, 1, 0, 2]);
-        assert_eq!(column_to_records(&file, 3), Converted { row: 9, place: 0, out: vec![0; 3] });
-        assert_eq!(records_to_column(&[1, 1, 0, 2], 45), Converted { row: 9, place: 0, out: vec![0; 45] });
+        assert_eq!(column_to_records(&file, 3), Converted { row: 9, place: 0, total: 0, out: vec![0; 3] });
+        assert_eq!(records_to_column(&[1, 1, 0, 2], 45), Converted { row: 9, place: 0, total: 0, out: vec![0; 45] });
         let cut = column_to_records(&file[..45], 4);
         assert_eq!((cut.row, cut.place), (BAD_LINE, 1));
     }
@@ -213,7 +221,8 @@ mod tests {
             let there = records_to_column(&made.words, length);
             if there.row == 0 {
                 let back = column_to_records(&there.out, made.words.len());
-                assert_eq!(back, Converted { row: 0, place: 0, out: made.words });
+                let total = made.words.len() as u64 / 4;
+                assert_eq!(back, Converted { row: 0, place: 0, total, out: made.words });
             }
         }
     }

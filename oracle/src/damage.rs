@@ -26,6 +26,17 @@ pub fn damage(random: &mut Random, documents: Vec<Node>) -> Case {
     }
 }
 
+/// Words that kept the tree rules, broken one way or another.
+pub fn damaged_words(random: &mut Random, whole: &[u64]) -> Vec<u64> {
+    let made = match random.below(5) {
+        0 => cut(random, whole.to_vec()),
+        1 => shuffled(random, whole),
+        2 => bits(random, whole.to_vec()),
+        _ => field(random, whole),
+    };
+    made.words
+}
+
 /// A record of any kind that is there, rare kinds as likely as common ones.
 fn some_record(random: &mut Random, list: &[Record]) -> usize {
     let kinds: Vec<u64> = list.iter().map(|r| r.kind).collect::<BTreeSet<_>>().into_iter().collect();

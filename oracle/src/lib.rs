@@ -3,9 +3,12 @@
 
 pub mod alive;
 pub mod areas;
+#[cfg(feature = "link")]
+pub mod bench;
 pub mod books;
 pub mod columns;
 pub mod compare;
+pub mod convert;
 pub mod damage;
 pub mod documents;
 pub mod generate;
@@ -15,6 +18,7 @@ pub mod model;
 #[cfg(feature = "link")]
 pub mod ours;
 pub mod pieces;
+pub mod plain;
 pub mod random;
 pub mod real;
 pub mod records;

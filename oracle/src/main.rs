@@ -1,8 +1,9 @@
 //! Commands of the oracle; see README.md.
 
 use oracle::compare::{compare, judge_side, Difference, Model, Plan, Side};
+use oracle::convert::Converters;
 use oracle::generate::{case, Sizes};
-use oracle::{columns, hostile, listing, sample};
+use oracle::{columns, convert, hostile, listing, sample};
 use std::io::{Read, Write};
 use std::path::Path;
 use std::process::ExitCode;
@@ -17,6 +18,11 @@ oracle listing
     a column file on standard input, its listing out
 oracle hostile [--ours]
     bundles at the limits, with seconds; --ours compares the library with the model
+oracle convert [--seed S] [--count N] [--large] [--limits]
+    the library's converters and shape check and the reading over N column files and N word lists,
+    or over those at the limits
+oracle bench [--runs R]
+    the library's converters and shape check beside plain Rust on 1,000,000 records
 oracle sample
     writes the files of sample/ anew
 ";
@@ -41,14 +47,24 @@ fn sizes(arguments: &[String]) -> Sizes {
     }
 }
 
-#[cfg(feature = "link")]
+#[cfg(feature = "link-compile")]
 fn library() -> Box<dyn Side> {
     Box::new(oracle::ours::Library)
 }
 
-#[cfg(not(feature = "link"))]
+#[cfg(not(feature = "link-compile"))]
 fn library() -> Box<dyn Side> {
-    panic!("--ours needs --features link");
+    panic!("--ours needs --features link-compile");
+}
+
+#[cfg(feature = "link")]
+fn converters() -> Box<dyn Converters> {
+    Box::new(oracle::ours::Library)
+}
+
+#[cfg(not(feature = "link"))]
+fn converters() -> Box<dyn Converters> {
+    panic!("the library is there with --features link");
 }
 
 fn report(first: &Difference) {
@@ -115,6 +131,37 @@ fn run_hostile(arguments: &[String]) -> ExitCode {
     code
 }
 
+fn run_convert(arguments: &[String]) -> ExitCode {
+    let (seed, count) = (number(arguments, "--seed", 1), number(arguments, "--count", 1000));
+    let mut side = converters();
+    let start = Instant::now();
+    let seen = if has(arguments, "--limits") {
+        convert::compare_limits(&mut *side)
+    } else {
+        convert::compare(&mut *side, seed, count, sizes(arguments))
+    };
+    seen.to_records.print("column files to records", "bytes");
+    seen.to_columns.print("records to column files", "words");
+    println!("shape checks: {}", seen.checks);
+    println!("seconds {:.1}", start.elapsed().as_secs_f64());
+    let Some(first) = &seen.first else {
+        return ExitCode::SUCCESS;
+    };
+    println!("first difference: {}: {}\n{}", first.name, first.message, first.shrunk);
+    ExitCode::FAILURE
+}
+
+#[cfg(feature = "link")]
+fn run_bench(arguments: &[String]) -> ExitCode {
+    oracle::bench::run(number(arguments, "--runs", 15) as usize);
+    ExitCode::SUCCESS
+}
+
+#[cfg(not(feature = "link"))]
+fn run_bench(_: &[String]) -> ExitCode {
+    panic!("the library is there with --features link");
+}
+
 fn run_sample() -> ExitCode {
     let folder = Path::new(env!("CARGO_MANIFEST_DIR")).join("sample");
     std::fs::create_dir_all(&folder).expect("the folder can be made");
@@ -133,6 +180,8 @@ fn main() -> ExitCode {
         Some("case") => run_case(&arguments),
         Some("listing") => run_listing(),
         Some("hostile") => run_hostile(&arguments),
+        Some("convert") => run_convert(&arguments),
+        Some("bench") => run_bench(&arguments),
         Some("sample") => run_sample(),
         _ => {
             print!("{USAGE}");

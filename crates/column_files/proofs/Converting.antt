@@ -19,9 +19,9 @@ use Rattle.column_lines.specs.declared.line.Line.{Line}
 use Rattle.column_lines.specs.declared.line.Line.the-variants.{Record, Bad}
 use Rattle.column_lines.proofs.Lines.{Begun, begun-more, line-size}
 use Rattle.column_files.specs.declared.Converted.{Converted}
-use Rattle.column_files.specs.Files.{linesIn, wordsIn, wordsBy, wordsOf, firstBad, linesBy, columnsOf, Lent}
+use Rattle.column_files.specs.Files.{linesIn, wordsIn, wordsBy, wordsOf, badBy, firstBad, linesBy, columnsOf, Lent, LinesRead}
 use Rattle.column_files.specs.Convert.{Conversion, refusal, success, refuse, shortReply, answerBy, columnsToRecords, recordsToColumns, Converts}
-use Rattle.column_files.proofs.Files.{lineOf, words-in, words-length, words-more, lines-more, lines-length}
+use Rattle.column_files.proofs.Files.{lineOf, words-in, words-length, words-more, lines-more, lines-length, bad-here, bad-none, bad-rest}
 
 pub short-refused : (s : Shape) {r p : ℕ} → s ≡ Refused r p → refusal r p ≡ shortReply s
 unfolding shortReply
@@ -85,8 +85,18 @@ lines-next file before out after i b l =
 pub records-all : (tree before out : List ℕ) (i n : ℕ) → Begun (linesBy i tree) before out (i * 46) → i ≡ n → out ≡ linesBy n tree ++ drop (n * 46) before
 records-all tree before out i n b e = b .rest ∙ ap (λ (k : ℕ). linesBy k tree ++ drop (k * 46) before) e
 
-pub lines-all : (file before out : List ℕ) (i n : ℕ) → Begun (wordsBy i file) before out (i * 4) → i ≡ n → out ≡ wordsBy n file ++ drop (n * 4) before
-lines-all file before out i n b e = b .rest ∙ ap (λ (k : ℕ). wordsBy k file ++ drop (k * 4) before) e
+-- reading ends at a bad line, after the last, or at a rest of a line
+module _ (file before out : List ℕ) (i : ℕ) (B : firstBad file ≡ badBy (linesIn file - i) (i + 1) (drop (i * 46) file)) where
+  pub lines-bad : {l : Line} → i < linesIn file → l ≡ readLine (lineOf i file) → l ≡ Bad → LinesRead file before out (i + 1)
+  lines-bad h L e = record { first = sym (B ∙ bad-here file i h L e); words = λ z. absurd (omega (arith, z)) }
+
+  pub lines-good : Begun (wordsBy i file) before out (i * 4) → linesIn file ≤ i → i ≤ linesIn file → length file % 46 ≡ 0 → LinesRead file before out 0
+  lines-good b h l z =
+      let e : i ≡ linesIn file = omega arith in
+      record { first = sym (B ∙ bad-none file i h l z); words = λ _. b .rest ∙ ap (λ (k : ℕ). wordsBy k file ++ drop (k * 4) before) e }
+
+  pub lines-rest : linesIn file ≤ i → i ≤ linesIn file → (length file % 46 ≡ 0 → ⊥) → LinesRead file before out (linesIn file + 1)
+  lines-rest h l z = record { first = sym (B ∙ bad-rest file i h l z); words = λ y. absurd (omega (arith, y)) }
 
 -- what is cleared
 
@@ -153,12 +163,12 @@ module _ (file out : List ℕ) where
   size : length (wordsOf file) ≡ linesIn file * 4
   size = words-length (linesIn file) file
 
-  pub words-bad : {after : List ℕ} {b : ℕ} → b ≡ firstBad file → (b ≡ 0 → ⊥) → after ≡ clearedFrom 0 out
-      → Converts (columnsToRecords file (length out)) after (refusal 1 b)
+  pub words-bad : (mid : List ℕ) {after : List ℕ} {b : ℕ} {r : Converted} → length mid ≡ length out → b ≡ firstBad file → (b ≡ 0 → ⊥)
+      → after ≡ clearedFrom 0 mid → r ≡ refusal 1 b → Converts (columnsToRecords file (length out)) after r
   unfolding columnsToRecords
-  words-bad {after} {b} e n a =
+  words-bad mid {after} {b} l e n a x =
       let t : eqb (firstBad file) 0 ≡ false = ne-eqb (firstBad file) 0 (λ x. n (e ∙ x)) in
-      rw t (record { reply = ap (refusal 1) e; output = a ∙ cleared-all out (length out) refl })
+      rw t (record { reply = x ∙ ap (refusal 1) e; output = a ∙ cleared-all mid (length out) l })
 
   module _ {b : ℕ} (B : b ≡ firstBad file) (none : b ≡ 0) where
     passed : {after : List ℕ} {r : Converted} → Converts (answerBy (shapeOf (wordsOf file)) (wordsOf file) (linesIn file) (length out)) after r
@@ -171,8 +181,11 @@ module _ (file out : List ℕ) where
     words-short {after} {s} h S a e =
         passed (rw (← S) (answer-short s (wordsOf file) (linesIn file) (length out) (omega (arith, size)) (a ∙ cleared-all out (length out) refl) e))
 
-    module _ (mid : List ℕ) {s : Shape} (h : linesIn file ≤ length out / 4) (n : length mid ≡ length out)
-        (m : mid ≡ wordsBy (linesIn file) file ++ drop (linesIn file * 4) out) (S : s ≡ shapeOf (take (linesIn file * 4) mid)) where
+    module _ (mid : List ℕ) {s : Shape} (h : linesIn file ≤ length out / 4) (n : length mid ≡ length out) (R : LinesRead file out mid b)
+        (S : s ≡ shapeOf (take (linesIn file * 4) mid)) where
+      m : mid ≡ wordsOf file ++ drop (linesIn file * 4) out
+      m = R .words none
+
       checked : s ≡ shapeOf (wordsOf file)
       checked = S ∙ ap shapeOf (rw m (take-at (wordsOf file) (drop (linesIn file * 4) out) (linesIn file * 4) size))
 

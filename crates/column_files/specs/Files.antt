@@ -59,3 +59,8 @@ columnsOf words = linesBy (length words / 4) words
 -- what a write of a part from a place to an end leaves
 pub record Lent (part : List ℕ) (at end : ℕ) (before after : List ℕ) : Type 0 where
   pub is : after ≡ take at before ++ (part ++ drop end before)
+
+-- what reading a file's lines to words leaves: row 1, and where no line is bad the words, with the rest as it was
+pub record LinesRead (file before after : List ℕ) (bad : ℕ) : Type 0 where
+  pub first : bad ≡ firstBad file
+  pub words : bad ≡ 0 → after ≡ wordsOf file ++ drop (linesIn file * 4) before

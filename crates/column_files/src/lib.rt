@@ -1,5 +1,5 @@
-// The two converters between column files and records (01, 'The tree' and 'Replies of the compiler'). `columns_to_records` reads the whole file for
-// row 1 first. Where the output has room the words are written and checked there; where it has none, rows 2 to 4 are answered from the bytes.
+// The two converters between column files and records (01, 'The tree' and 'Replies of the compiler'). Where the output has room, `columns_to_records`
+// writes the words of the whole file there, which is row 1, and checks them there; where it has none, rows 1 to 4 are answered from the bytes.
 pub mod bytes;
 pub mod file;
 
@@ -18,8 +18,8 @@ ghost use mathlib.Core.Path.{_≡_};
 ghost use mathlib.Core.List.{_++_};
 ghost use Prim.Native.Nat.{_+_, _*_, _≤_};
 ghost use lib.ListN.{length, drop};
-ghost use Rattle.column_files.specs.Files.{Lent, lineIn, wordsIn, wordsBy, linesBy};
-ghost use Rattle.column_files.specs.Convert.{columnsToRecords, recordsToColumns, shortReply, Converts};
+ghost use Rattle.column_files.specs.Files.{Lent, linesIn, linesBy, LinesRead};
+ghost use Rattle.column_files.specs.Convert.{columnsToRecords, recordsToColumns, refusal, shortReply, Converts};
 
 const BAD_LINE: u64 = 1;
 
@@ -28,6 +28,7 @@ const AREA_FULL: u64 = 9;
 const RECORD_WORDS: usize = 4;
 
 // What a converter answers: the number of a refusal's row and its place, or 0 and 0, and how many records it converted.
+#[repr(C)]
 pub struct Converted {
     pub number: u64,
     pub place: usize,
@@ -65,31 +66,38 @@ fn write_records(tree: &[u64], records: usize, out: &mut [u8])
     }
 }
 
-// Writes the words of a line at its record's place.
-fn write_words(file: &[u8], at: usize, out: &mut [u64])
-    requires { ⌜ (at + 1) * 4 ≤ length (now out) ⌝ }
-    ensures { λ _. ⌜ Lent (wordsIn (lineIn at (now (file .entry)))) (at * 4) (at * 4 + 4) (now (out .entry)) (now (out .exit)) ⌝ }
+// Writes the words of a file's lines, up to a bad one, and answers row 1 as `first_bad` does.
+fn write_lines(file: &[u8], out: &mut [u64]) -> usize
+    requires { ⌜ linesIn (now file) * 4 ≤ length (now out) ⌝ }
+    ensures { λ r. ⌜ LinesRead (now (file .entry)) (now (out .entry)) (now (out .exit)) r ⌝ }
 {
-    let line = line_at(file, at);
-    match line {
-        Line::Record(kind, span, position, value) => {
-            write4(out, at, kind, span, position, value);
-        }
-        Line::Bad => {
-            write4(out, at, 0, 0, 0, 0);
-        }
-    }
-}
-
-// Writes the words of a number of lines.
-fn write_lines(file: &[u8], lines: usize, out: &mut [u64])
-    requires { ⌜ lines * 4 ≤ length (now out) ⌝ }
-    ensures { λ _. ⌜ now (out .exit) ≡ wordsBy lines (now (file .entry)) ++ drop (lines * 4) (now (out .entry)) ⌝ }
-{
+    let lines = file.len() / LINE_LENGTH;
     let mut i: usize = 0;
     while i < lines {
-        write_words(file, i, out);
-        i += 1;
+        let line = line_at(file, i);
+        match line {
+            Line::Record(kind, span, position, value) => {
+                write4(out, i, kind, span, position, value);
+                i += 1;
+            }
+            Line::Bad => {
+                return i + 1;
+            }
+        }
+    }
+    if file.len() % LINE_LENGTH == 0 {
+        return 0;
+    }
+    lines + 1
+}
+
+fn bad_line(line: usize) -> Converted
+    ensures { λ r. ⌜ r ≡ refusal 1 line ⌝ }
+{
+    Converted {
+        number: BAD_LINE,
+        place: line,
+        total: 0,
     }
 }
 
@@ -146,22 +154,21 @@ pub fn records_to_columns(tree: &[u64], out: &mut [u8]) -> Converted
 pub fn columns_to_records(file: &[u8], out: &mut [u64]) -> Converted
     ensures { λ r. ⌜ Converts (columnsToRecords (now (file .entry)) (length (now (out .entry)))) (now (out .exit)) r ⌝ }
 {
-    let bad = first_bad(file);
-    if bad != 0 {
-        clear_from(out, 0);
-        return Converted {
-            number: BAD_LINE,
-            place: bad,
-            total: 0,
-        };
-    }
     let lines = file.len() / LINE_LENGTH;
     if out.len() / RECORD_WORDS < lines {
-        let shape = check_file(file);
+        let bad = first_bad(file);
         clear_from(out, 0); // too short
+        if bad != 0 {
+            return bad_line(bad);
+        }
+        let shape = check_file(file);
         return short_reply(shape);
     }
-    write_lines(file, lines, out);
+    let bad = write_lines(file, out);
+    if bad != 0 {
+        clear_from(out, 0);
+        return bad_line(bad);
+    }
     let words = lines * RECORD_WORDS;
     let shape = check(&out[..words]);
     match shape {

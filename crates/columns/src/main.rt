@@ -1,6 +1,6 @@
 // Records on standard input to their column file on standard output: a word a line, unsigned, right-justified in 21, to a line with the reply, number,
-// place and total, and the file. A line that is no word answers 1 with its number. The buffers hold 2,976 words; longer input answers 9, place 0
-// (docs/FORMAT.md).
+// place and total, and the file. A line that is no word answers 1 with its number. The input is read piece by piece into a buffer of 2,976 words, and a
+// longer one answers 9, place 0 (docs/FORMAT.md).
 ghost use Prim.Native.Nat.{_*_, _≤_};
 ghost use lib.ListN.{length};
 use column_files::records_to_columns;

@@ -1,5 +1,6 @@
 // A column file on standard input to its records on standard output: a line with the reply, number, place and total, then a word a line, unsigned,
-// right-justified in 21. The buffers hold 1,424 records; longer input answers 9, place 0 (docs/FORMAT.md).
+// right-justified in 21. The input is read piece by piece into a buffer of 1,424 records, and a longer one answers 9, place 0 (docs/FORMAT.md); the
+// output is written word by word.
 use column_files::columns_to_records;
 use column_lines::number::write_number;
 use libc::STDIN_FILENO;

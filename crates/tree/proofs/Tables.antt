@@ -1,7 +1,7 @@
 -- The code's tables are those of `Rules`: each row stands at its place, and its number says what the row says, by one test of every slot and one of every
 -- rule, which antt computes. Also one law for each way through the functions that read a row. Assumes nothing.
 use mathlib.Core.Path.{_≡_, refl, sym, ap, subst, _∙_}
-use mathlib.Core.Bool.{Bool, true, false}
+use mathlib.Core.Bool.{Bool, true, false, cond}
 use mathlib.Core.List.{List, [], _∷_, map}
 use Prim.Native.Nat.{ℕ, zero, suc, _/_, _%_, _^_, _≤_, _<_}
 use native.Mathlib.Omega.{arith}
@@ -11,20 +11,6 @@ use lib.Dec.{T, eqb, leb, ltb, ltb→lt, eqb→eq}
 use borrow.Author.Tests.{le-leb, lt-leb, ne-eqb}
 use Rattle.tree.specs.Rules.{Slot, Rule, slots, rules, slotOf, ruleOf, nothing, unused, has, mayStand, goesOn, slotAfter, isDue, firstSlot, inRange}
 use Rattle.tree.specs.Rows.{slotRow, ruleRow, positionIn, mostIn}
-
--- rows by their place
-
-pub slot-row : (s : ℕ) → getD (map slotRow slots) s (slotRow nothing) ≡ slotRow (slotOf s)
-slot-row s = List·getD-map slotRow slots s nothing
-
-pub no-slot : {s : ℕ} → 24 ≤ s → slotRow nothing ≡ slotRow (slotOf s)
-no-slot h = ap slotRow (sym (List·getD-eq-default slots nothing h))
-
-pub rule-row : (k : ℕ) → getD (map ruleRow rules) k (ruleRow unused) ≡ ruleRow (ruleOf k)
-rule-row k = List·getD-map ruleRow rules k unused
-
-pub no-rule : {k : ℕ} → 50 ≤ k → ruleRow unused ≡ ruleRow (ruleOf k)
-no-rule h = ap ruleRow (sym (List·getD-eq-default rules unused h))
 
 -- a test of every entry of a list, and of every number below n
 
@@ -60,6 +46,50 @@ below-at f (suc n) t k h = go (decLt k n) (below-at f n (both-right (f n) (below
     go : Dec (k < n) → (k < n → T (f k)) → T (f k)
     go (yes l) r = r l
     go (no l) r = let e : n ≡ k = omega arith in subst (λ (j : ℕ). T (f j)) e (both-left (f n) (below f n) t)
+
+-- rows by their place: what a match that has no arm left says, that the number is none of its keys, and that every row of no key is 0
+
+abbrev pub NoneOf : Type 0 → List ℕ → ℕ → Type 0
+NoneOf N [] n = N
+NoneOf N (k ∷ ks) n = NoneOf (N × (n ≡ k → ⊥)) ks n
+
+none-before : (N : Type 0) (ks : List ℕ) (n : ℕ) → NoneOf N ks n → N
+none-before N [] n r = r
+none-before N (k ∷ ks) n r = none-before (N × (n ≡ k → ⊥)) ks n r .0
+
+none-has : (N : Type 0) (ks : List ℕ) (n : ℕ) → NoneOf N ks n → has n ks ≡ false
+none-has N [] n r = refl
+none-has N (k ∷ ks) n r = simp (ne-eqb n k (none-before (N × (n ≡ k → ⊥)) ks n r .1)) (none-has (N × (n ≡ k → ⊥)) ks n r)
+
+abbrev zero-but : List ℕ → (ℕ → ℕ) → ℕ → Bool
+zero-but ks row k = cond (has k ks) true (eqb (row k) 0)
+
+left-out : (ks : List ℕ) (row : ℕ → ℕ) (m n : ℕ) → T (below (zero-but ks row) m) → (m ≤ n → row n ≡ 0) → has n ks ≡ false → row n ≡ 0
+left-out ks row m n t high none = go (decLt n m)
+  where
+    go : Dec (n < m) → row n ≡ 0
+    go (yes l) = eqb→eq (row n) 0 (subst (λ (b : Bool). T (cond b true (eqb (row n) 0))) none (below-at (zero-but ks row) m t n l))
+    go (no l) = high (omega (arith, l))
+
+abbrev slot-keys : List ℕ
+slot-keys = 1 ∷ 2 ∷ 3 ∷ 4 ∷ 5 ∷ 6 ∷ 7 ∷ 8 ∷ 9 ∷ 10 ∷ 11 ∷ 12 ∷ 13 ∷ 14 ∷ 15 ∷ 16 ∷ 17 ∷ 18 ∷ 19 ∷ 20 ∷ 21 ∷ 22 ∷ 23 ∷ []
+
+abbrev rule-keys : List ℕ
+rule-keys =
+    1 ∷ 10 ∷ 11 ∷ 12 ∷ 13 ∷ 14 ∷ 15 ∷ 16 ∷ 17 ∷ 20 ∷ 21 ∷ 22 ∷ 23 ∷ 24 ∷ 25 ∷ 30 ∷ 31 ∷ 32 ∷ 33 ∷ 34 ∷ 35 ∷ 36 ∷ 37 ∷ 38 ∷ 39 ∷ 40 ∷ 41 ∷ 42 ∷ 43 ∷ 44
+    ∷ 45 ∷ 46 ∷ 47 ∷ []
+
+abbrev pub slotAt : ℕ → ℕ
+slotAt s = slotRow (slotOf s)
+
+abbrev pub ruleAt : ℕ → ℕ
+ruleAt k = ruleRow (ruleOf k)
+
+pub no-slot : (s : ℕ) → NoneOf (Unit {0}) slot-keys s → 0 ≡ slotAt s
+no-slot s r = sym (left-out slot-keys slotAt 24 s tt (λ h. ap slotRow (List·getD-eq-default slots nothing h)) (none-has (Unit {0}) slot-keys s r))
+
+pub no-rule : (k : ℕ) → NoneOf (Unit {0}) rule-keys k → 0 ≡ ruleAt k
+no-rule k r = sym (left-out rule-keys ruleAt 50 k tt (λ h. ap ruleRow (List·getD-eq-default rules unused h)) (none-has (Unit {0}) rule-keys k r))
 
 -- the test of a slot: bits below 50 are its kinds, and it has no kind past them; then the slot after it, and whether a child is due
 

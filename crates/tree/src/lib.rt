@@ -49,33 +49,6 @@ const NEXT: u64 = 1 << 50;
 
 const DUE: u64 = 1 << 55;
 
-const SLOTS: [u64; 24] = [
-    0, // 0: nothing more
-    DOCUMENT + NEXT, // 1: documents
-    DEFINITIONS + 2 * NEXT, // 2: definitions
-    NAMES + 4 * NEXT, // 3: local definition: a name, or no more
-    CONSTANTS + 3 * NEXT + DUE, // 4: its value
-    NAMES + 6 * NEXT, // 5: include: a public name, or no more
-    NAMES + 5 * NEXT + DUE, // 6: its alias
-    NAMES + 7 * NEXT, // 7: names
-    PARAMETERS + STATEMENTS + 9 * NEXT, // 8: parameters, then statements
-    STATEMENTS + 9 * NEXT, // 9: statements
-    FUNCTION + 10 * NEXT, // 10: functions
-    NAMES + 12 * NEXT + DUE, // 11: apply: the source
-    NAMES + DUE, // 12: the target
-    NAMES + 14 * NEXT, // 13: local statement: a name, or no more
-    ABSENT + EXPRESSIONS + 13 * NEXT + DUE, // 14: its value
-    NAMES + 16 * NEXT + DUE, // 15: for: the name
-    EXPRESSIONS + 9 * NEXT + DUE, // 16: the enumerable
-    EXPRESSIONS + DUE, // 17: one expression
-    EXPRESSIONS + 18 * NEXT, // 18: expressions
-    EXPRESSIONS + 17 * NEXT + DUE, // 19: the first of two expressions
-    EXPRESSIONS + 21 * NEXT + DUE, // 20: if: the condition
-    BLOCK + 22 * NEXT + DUE, // 21: the true part
-    BLOCK, // 22: the false part, or no more
-    EXPRESSIONS + 18 * NEXT + DUE, // 23: call: the function
-];
-
 // The slot of a function's children.
 const FUNCTION_PARTS: usize = 8;
 
@@ -88,59 +61,6 @@ const TEXT: u64 = 1 << 6;
 const WORD: u64 = 1 << 7;
 
 const MOST: u64 = 1 << 8;
-
-const RULES: [u64; 50] = [
-    0,
-    2 + TEXT, // 1 document
-    0,
-    0,
-    0,
-    0,
-    0,
-    0,
-    0,
-    0,
-    3, // 10 local definition
-    5 + PLACED + TEXT, // 11 include
-    7 + PLACED + TEXT, // 12 model
-    7 + PLACED + TEXT, // 13 public model
-    8 + PLACED + TEXT, // 14 function
-    8 + PLACED + TEXT, // 15 public function
-    10 + PLACED + TEXT, // 16 implement
-    11, // 17 apply
-    0,
-    0,
-    13, // 20 local statement
-    PLACED, // 21 return
-    PLACED, // 22 break
-    PLACED, // 23 rescue
-    15 + PLACED, // 24 for
-    17, // 25 expression
-    0,
-    0,
-    0,
-    0,
-    PLACED + TEXT, // 30 identifier
-    PLACED, // 31 this
-    PLACED, // 32 null
-    PLACED + WORD, // 33 integer
-    PLACED + WORD, // 34 float
-    PLACED + TEXT, // 35 string
-    PLACED + MOST, // 36 boolean
-    18 + PLACED, // 37 array
-    17 + PLACED + 2 * MOST, // 38 prefix
-    19 + PLACED + 19 * MOST, // 39 infix
-    PLACED + TEXT, // 40 name
-    PLACED + TEXT, // 41 this parameter
-    20, // 42 if
-    9, // 43 block
-    23 + PLACED, // 44 call
-    19 + PLACED, // 45 instance get
-    19 + PLACED, // 46 index get
-    PLACED, // 47 other token
-    0,
-    0, // 49 absent
-];
 
 // What a bundle is: fine, or refused by a row of 01 at a place.
 pub enum Shape {
@@ -157,13 +77,73 @@ pub enum Outcome {
 fn slot_row(slot: usize) -> u64
     ensures { λ r. ⌜ r ≡ slotRow (slotOf slot) ⌝ }
 {
-    if slot < 24 { SLOTS[slot] } else { 0 }
+    match slot {
+        1 => DOCUMENT + NEXT, // documents
+        2 => DEFINITIONS + 2 * NEXT, // definitions
+        3 => NAMES + 4 * NEXT, // local definition: a name, or no more
+        4 => CONSTANTS + 3 * NEXT + DUE, // its value
+        5 => NAMES + 6 * NEXT, // include: a public name, or no more
+        6 => NAMES + 5 * NEXT + DUE, // its alias
+        7 => NAMES + 7 * NEXT, // names
+        8 => PARAMETERS + STATEMENTS + 9 * NEXT, // parameters, then statements
+        9 => STATEMENTS + 9 * NEXT, // statements
+        10 => FUNCTION + 10 * NEXT, // functions
+        11 => NAMES + 12 * NEXT + DUE, // apply: the source
+        12 => NAMES + DUE, // the target
+        13 => NAMES + 14 * NEXT, // local statement: a name, or no more
+        14 => ABSENT + EXPRESSIONS + 13 * NEXT + DUE, // its value
+        15 => NAMES + 16 * NEXT + DUE, // for: the name
+        16 => EXPRESSIONS + 9 * NEXT + DUE, // the enumerable
+        17 => EXPRESSIONS + DUE, // one expression
+        18 => EXPRESSIONS + 18 * NEXT, // expressions
+        19 => EXPRESSIONS + 17 * NEXT + DUE, // the first of two expressions
+        20 => EXPRESSIONS + 21 * NEXT + DUE, // if: the condition
+        21 => BLOCK + 22 * NEXT + DUE, // the true part
+        22 => BLOCK, // the false part, or no more
+        23 => EXPRESSIONS + 18 * NEXT + DUE, // call: the function
+        _ => 0, // nothing more
+    }
 }
 
 fn rule_row(kind: u64) -> u64
     ensures { λ r. ⌜ r ≡ ruleRow (ruleOf kind) ⌝ }
 {
-    if kind < 50 { RULES[kind as usize] } else { 0 }
+    match kind {
+        1 => 2 + TEXT, // document
+        10 => 3, // local definition
+        11 => 5 + PLACED + TEXT, // include
+        12 => 7 + PLACED + TEXT, // model
+        13 => 7 + PLACED + TEXT, // public model
+        14 => 8 + PLACED + TEXT, // function
+        15 => 8 + PLACED + TEXT, // public function
+        16 => 10 + PLACED + TEXT, // implement
+        17 => 11, // apply
+        20 => 13, // local statement
+        21 => PLACED, // return
+        22 => PLACED, // break
+        23 => PLACED, // rescue
+        24 => 15 + PLACED, // for
+        25 => 17, // expression
+        30 => PLACED + TEXT, // identifier
+        31 => PLACED, // this
+        32 => PLACED, // null
+        33 => PLACED + WORD, // integer
+        34 => PLACED + WORD, // float
+        35 => PLACED + TEXT, // string
+        36 => PLACED + MOST, // boolean
+        37 => 18 + PLACED, // array
+        38 => 17 + PLACED + 2 * MOST, // prefix
+        39 => 19 + PLACED + 19 * MOST, // infix
+        40 => PLACED + TEXT, // name
+        41 => PLACED + TEXT, // this parameter
+        42 => 20, // if
+        43 => 9, // block
+        44 => 23 + PLACED, // call
+        45 => 19 + PLACED, // instance get
+        46 => 19 + PLACED, // index get
+        47 => PLACED, // other token
+        _ => 0,
+    }
 }
 
 pub fn may_stand(slot: usize, kind: u64) -> bool
