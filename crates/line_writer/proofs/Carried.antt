@@ -3,7 +3,8 @@
 --     mach, typed      the machine value of the fields, and that it has the struct's MIR type
 -- The laws take `Given`. The rest assumes nothing.
 use Rattle.walks.proofs.Names.{refl, List, [], _∷_, ℕ, Bool, URA, named, w64, Val, vint, vbool, vstruct, vcons, vnil, Lft, Heap, Atoms, Given, u8, usize}
-use Rattle.walks.proofs.Names.{bool, NamedLft, RattleType, yes, no, plain, namedLft, stay-none, goes-none}
+use Rattle.walks.proofs.Names.{bool, NamedLft, RattleType, yes, no, plain, namedLft, stay-none, goes-none, sym, ap, subst, only, erased, Is}
+use denote.Struct.Laws as LL
 use mir.Syntax.{Sym}
 use mir.Val.{hasTy, WT}
 use lib.Dec.{T as Holds}
@@ -51,12 +52,22 @@ module _ {M : Type 1} (𝓤 : URA M) (H : Heap 𝓤) (A : Atoms 𝓤) (W : Given
       (goes-struct-at 𝓤 H A W 1 name (named 0 ∷ []) slots k hs gs)
 
   pub writer-goes : Goes 𝓤 H A W 1 WriterS yes writer-stay
-  writer-goes = carried-goes yes stays (goes-slice 𝓤 H A W 1 0 tt (plain (λ _. u8)), (goes-none 𝓤 H A W 1 (λ _. usize) yes (λ κs x f. refl),
-      (goes-none 𝓤 H A W 1 (λ _. bool) yes (λ κs x f. refl), tt)))
+  writer-goes = carried-goes yes stays (
+    goes-slice 𝓤 H A W 1 0 tt (plain (λ _. u8)),
+    (
+      goes-none 𝓤 H A W 1 (λ _. usize) yes (λ κs x f. refl),
+      (goes-none 𝓤 H A W 1 (λ _. bool) yes (λ κs x f. refl), tt),
+    ),
+  )
 
   pub writer-spent-goes : Goes 𝓤 H A W 1 WriterS no writer-spent
-  writer-spent-goes = carried-goes no spends (goes-spent-slice 𝓤 H A W 1 (0 ∷ []) tt (plain (λ _. u8)), (goes-none 𝓤 H A W 1 (λ _. usize) no (λ κs x f. refl),
-      (goes-none 𝓤 H A W 1 (λ _. bool) no (λ κs x f. refl), tt)))
+  writer-spent-goes = carried-goes no spends (
+    goes-spent-slice 𝓤 H A W 1 (0 ∷ []) tt (plain (λ _. u8)),
+    (
+      goes-none 𝓤 H A W 1 (λ _. usize) no (λ κs x f. refl),
+      (goes-none 𝓤 H A W 1 (λ _. bool) no (λ κs x f. refl), tt),
+    ),
+  )
 
 -- the struct's lifetime in a signature of one
 abbrev pub α : Lft → NamedLft
@@ -68,3 +79,10 @@ R κ = T.the-row (α κ)
 -- the machine value of a writer over a slice's
 abbrev pub mach : Val → ℕ → Bool → Val
 mach s n f = vstruct (vcons s (vcons (vint w64 n) (vcons (vbool f) vnil)))
+
+-- the machine value of a writer has the struct's MIR type, whose lifetimes a local's erases
+pub typed : (κ : Lft) (h : Writer) (w : Val) → Is (R κ) h (w ∷ []) → Holds (hasTy (T′.mir erased) w) × WT w
+typed κ h w is =
+    let parts = LL.owed (T.the-type (α κ)) (T′.the-laws (α κ)) h _ is in
+    subst (λ (z : Val). Holds (hasTy (T′.mir erased) z) × WT z) (sym (ap only (LL.tells (T.the-type (α κ)) (T′.the-laws (α κ)) h _ is)))
+    (tt, ((tt, (record { fits = parts .0 .0 .1 .0 }, tt)), (record { fits = parts .1 .0 .1 }, (tt, tt))))

@@ -1,2 +1,3 @@
 mod Carried
+pub mod InARow
 pub mod Placing

@@ -21,7 +21,8 @@ unfoldable pub use contract.Running.{tablesOf}
 pub use types.Kit.{Given, Item, Goal, Soaks, Seq, Step, step, ‵, raw, given, some, later, _⊛_, ⋆, _$_, _∵_, !, qed, by, move, keep, drop}
 pub use types.Kit.{use1, use2, use3, split, join, pick, learn, rewrite, fsplit, fsplit3, fjoin, fjoin3, fpick, fpack, feqL, feqI, suffices, frame, await, done}
 pub use types.Kit.{updating, show}
-pub use types.Run.{look, init, forget, stop, hop, fld, from, load, lit, addr, unit-lit, true-lit, false-lit, of-opd, and-then, no-more, assigns, land, returns, enter}
+pub use types.Run.{look, init, forget, stop, hop, fld, from, load, lit, addr, unit-lit, true-lit, false-lit, of-opd}
+pub use types.Run.{and-then, no-more, assigns, land, returns, enter}
 pub use types.Run.{alloc1, alloc0, params1, pass1, pass0, free1, free0}
 pub use types.Part.{agg, whole, sub, look-in, store-in}
 pub use types.SemTy.{Body}

@@ -3,7 +3,7 @@
 -- Assumes nothing.
 use Rattle.walks.proofs.Names.{refl, List, [], _∷_, ℕ, _<_, _^_, length, true, URA, named, w64, Val, vint, SProp, ent, emp, via, fst∗, Lft, Share, ftrue}
 use Rattle.walks.proofs.Names.{flft, Memory, Routine, Heap, Calls, Loops, WpFn, Tables, Atoms, Fun, givenOf, tables, tablesOf, Given, ‵, raw, _⊛_, _$_, _∵_}
-use Rattle.walks.proofs.Names.{!, qed, by, move, fsplit, fjoin, suffices, frame, look, init, forget, stop, hop, fld, from, load, addr, true-lit, and-then}
+use Rattle.walks.proofs.Names.{ !, qed, by, move, fsplit, fjoin, suffices, frame, look, init, forget, stop, hop, fld, from, load, addr, true-lit, and-then}
 use Rattle.walks.proofs.Names.{no-more, assigns, returns, enter, alloc1, alloc0, params1, pass1, pass0, free1, free0, agg, whole, sub, look-in, WpFn-mono}
 use Rattle.walks.proofs.Names.{owns, Is, uint-makes, uint-vals, uint-tells, bool-makes, u8, usize, bool, RefT, sliceVal, MutSlice, slice-vals}
 use Rattle.walks.proofs.Names.{mut-slice-tells, owned, nothing, onEntry, Meets, tripleOf, entered, says, Stays, stay-none, walkOf, goes-none, Walks, ends-at}

@@ -79,15 +79,35 @@ module _ {M : Type 1} (𝓤 : URA M) (H : Heap 𝓤) (A : Atoms 𝓤) (W : Given
   passed δ = (x δ ys, (p, (width, (word, (g, tt)))))
 
   abbrev to-call : ℕ → GName → NumberAt 𝓤 H A mem run .Ghost
-  to-call ν δ =
-      (((ν ∷ [], tt), (fullShare, tt), tt, passed δ, (s ∷ [], (LL.val P.the-type P′.the-laws p ∷ [], (vint w64 width ∷ [], (vint w64 word ∷ [],
-      (vbool g ∷ [], tt)))))), tt)
+  to-call ν δ = (
+    (
+      (ν ∷ [], tt),
+      (fullShare, tt),
+      tt,
+      passed δ,
+      (
+        s ∷ [],
+        (
+          LL.val P.the-type P′.the-laws p ∷ [],
+          (
+            vint w64 width ∷ [],
+            (
+              vint w64 word ∷ [],
+              (vbool g ∷ [], tt),
+            ),
+          ),
+        ),
+      ),
+    ),
+    tt,
+  )
 
   p-is : Is P.the-row p (LL.val P.the-type P′.the-laws p ∷ [])
   p-is = LL.owes P.the-type P′.the-laws p ((refl, n-fits), (refl, tt))
 
   goes : (ν : ℕ) (δ : GName)
-      → ent 𝓤 (sep 𝓤 (A .lft (ν ∷ []) fullShare) (sem 𝓤 H A (MutSlice (named 0) (ν ∷ []) u8 .own (x δ ys) (s ∷ [])))) (NumberAt 𝓤 H A mem run .pre (to-call ν δ))
+      → ent 𝓤 (sep 𝓤 (A .lft (ν ∷ []) fullShare) (sem 𝓤 H A (MutSlice (named 0) (ν ∷ []) u8 .own (x δ ys) (s ∷ []))))
+      (NumberAt 𝓤 H A mem run .pre (to-call ν δ))
   goes ν δ =
       qed W (‵ (flft (ν ∷ []) fullShare) ∷ ‵ (MutSlice (named 0) (ν ∷ []) u8 .own (x δ ys) (s ∷ [])) ∷ []) ∵ nothing ! $ move ! (1 ∷ 0 ∷ []) $ join ! $
       nothing ! $ owned ! bool (Is bool) (bool-makes 𝓤 H A W) g _ refl $ fjoin ! $ owned ! u64 (Is u64) (uint-makes 𝓤 H A W w64) word _ (refl, word-fits) $
@@ -206,8 +226,13 @@ number-meets : {M : Type 1} (𝓤 : URA M) (H : Heap 𝓤) (A : Atoms 𝓤) → 
     → Triple 𝓤 (𝓣 .C #number-at) (NumberAt 𝓤 H A mem run)
     → Meets 𝓤 H A number.signature (WpFn 𝓤 H (𝓣 .C) (𝓣 .Λ) code.function) (number.spec 𝓤 H A mem run)
 number-meets 𝓤 H A W mem run 𝓣 known =
-    walk-meets 𝓤 H A number.ended stayed W (writer-spent-goes 𝓤 H A W, (goes-none 𝓤 H A W 1 (λ _. usize) yes (λ κs x f. refl),
-    (goes-none 𝓤 H A W 1 (λ _. u64) yes (λ κs x f. refl), (goes-none 𝓤 H A W 1 (λ _. bool) yes (λ κs x f. refl), tt)))) (number.clauses 𝓤 H A mem run)
+    walk-meets 𝓤 H A number.ended stayed W (
+      writer-spent-goes 𝓤 H A W,
+      (
+        goes-none 𝓤 H A W 1 (λ _. usize) yes (λ κs x f. refl),
+        (goes-none 𝓤 H A W 1 (λ _. u64) yes (λ κs x f. refl), (goes-none 𝓤 H A W 1 (λ _. bool) yes (λ κs x f. refl), tt)),
+      ),
+    ) (number.clauses 𝓤 H A mem run)
     (WpFn 𝓤 H (𝓣 .C) (𝓣 .Λ) code.function) (WpFn-mono 𝓤 H (W .laws) 𝓣 code.function)
     (number-walks 𝓤 H A W mem run (𝓣 .C) (𝓣 .Λ) (fmOf 𝓤 H (W .laws) 𝓣) known)
 

@@ -1,0 +1,111 @@
+// Writes lines of the listing's form through the writer that carries its buffer and through the column writer on slice and offset, on the same stored cases.
+// Each case writes the buffer, which was all dots, then the offset and whether all fits; and the same again for the second form.
+ghost use mathlib.Core.Path.{_≡_};
+ghost use Rattle.line_writer.specs.Placed.{placed};
+ghost use Rattle.line_writer.specs.Written.{startAt, lineAt};
+use line_writer::place::Place;
+use line_writer::place::byte_at;
+use line_writer::place::number_at;
+use line_writer::writer;
+use line_writer::writer::Fields;
+
+const OUTPUT: i32 = 1;
+
+const DOT: u8 = b'.';
+
+const NEWLINE: u8 = 10;
+
+// `writer::write_line` over slice and offset: the same promise.
+fn write_line(buffer: &mut [u8], offset: usize, line: Fields) -> Place
+    ensures { λ r. ⌜ placed r (now (buffer .exit)) ≡ lineAt line (startAt offset (now (buffer .entry))) ⌝ }
+{
+    let begun = Place { offset, fits: true };
+    let section = number_at(buffer, begun, 4, line.section, false);
+    let first = number_at(buffer, section, 8, line.first, false);
+    let second = number_at(buffer, first, 8, line.second, false);
+    let third = number_at(buffer, second, 8, line.third, false);
+    let fourth = number_at(buffer, third, 8, line.fourth, false);
+    let fifth = number_at(buffer, fourth, 8, line.fifth, false);
+    let sixth = number_at(buffer, fifth, 8, line.sixth, false);
+    let last = number_at(buffer, sixth, 21, line.last, line.signed);
+    byte_at(buffer, last, NEWLINE)
+}
+
+fn show(buffer: &[u8], place: Place) {
+    io::write_all(OUTPUT, buffer);
+    io::write_all(OUTPUT, b"\n");
+    io::print_decimal(OUTPUT, place.offset as u64);
+    if place.fits {
+        io::write_all(OUTPUT, b" fits\n");
+    } else {
+        io::write_all(OUTPUT, b" refused\n");
+    }
+}
+
+// Both forms over buffers of the same length.
+fn both(buffer: &mut [u8], buffer_too: &mut [u8], offset: usize, line: Fields) {
+    let place = writer::write_line(buffer, offset, line);
+    show(buffer, place);
+    let place_too = write_line(buffer_too, offset, line);
+    show(buffer_too, place_too);
+}
+
+// A line in a buffer of its own length.
+fn whole(line: Fields) {
+    let mut buffer = [DOT; 74];
+    let mut buffer_too = [DOT; 74];
+    both(&mut buffer, &mut buffer_too, 0, line);
+}
+
+// One byte short: the newline has no room.
+fn short(line: Fields) {
+    let mut buffer = [DOT; 73];
+    let mut buffer_too = [DOT; 73];
+    both(&mut buffer, &mut buffer_too, 0, line);
+}
+
+// In the midst of a longer buffer, and beyond its end.
+fn inside(offset: usize, line: Fields) {
+    let mut buffer = [DOT; 80];
+    let mut buffer_too = [DOT; 80];
+    both(&mut buffer, &mut buffer_too, offset, line);
+}
+
+// A line of a section with the same number in each of the six fields.
+fn line_of(section: u64, each: u64, last: u64, signed: bool) -> Fields {
+    Fields {
+        section,
+        first: each,
+        second: each,
+        third: each,
+        fourth: each,
+        fifth: each,
+        sixth: each,
+        last,
+        signed,
+    }
+}
+
+fn main() {
+    whole(Fields {
+        section: 3,
+        first: 1,
+        second: 20,
+        third: 300,
+        fourth: 4000,
+        fifth: 50000,
+        sixth: 0,
+        last: 72057594037927935,
+        signed: false,
+    });
+    whole(line_of(4, 0, 9223372036854775808, true));
+    whole(line_of(4, 0, 18446744073709551615, true));
+    whole(line_of(4, 99999999, 18446744073709551615, false));
+    short(line_of(9999, 7, 7, true));
+    inside(3, line_of(10, 7, 42, false));
+    inside(6, line_of(11, 7, 42, false));
+    inside(7, line_of(11, 7, 42, false));
+    inside(81, line_of(11, 7, 42, false));
+    whole(line_of(12345, 7, 42, false));
+    whole(line_of(1, 100000000, 42, false));
+}
