@@ -3,31 +3,33 @@
 ghost use mathlib.Core.Path.{_≡_};
 ghost use Rattle.line_writer.specs.Placed.{placed};
 ghost use Rattle.line_writer.specs.Written.{startAt, lineAt};
+use column_lines::line::NEWLINE;
 use line_writer::place::Place;
 use line_writer::place::byte_at;
 use line_writer::place::number_at;
 use line_writer::writer;
+use line_writer::writer::FIELD_WIDTH;
 use line_writer::writer::Fields;
+use line_writer::writer::LAST_WIDTH;
+use line_writer::writer::SECTION_WIDTH;
 
 const OUTPUT: i32 = 1;
 
 const DOT: u8 = b'.';
-
-const NEWLINE: u8 = 10;
 
 // `writer::write_line` over slice and offset: the same promise.
 fn write_line(buffer: &mut [u8], offset: usize, line: Fields) -> Place
     ensures { λ r. ⌜ placed r (now (buffer .exit)) ≡ lineAt line (startAt offset (now (buffer .entry))) ⌝ }
 {
     let begun = Place { offset, fits: true };
-    let section = number_at(buffer, begun, 4, line.section, false);
-    let first = number_at(buffer, section, 8, line.first, false);
-    let second = number_at(buffer, first, 8, line.second, false);
-    let third = number_at(buffer, second, 8, line.third, false);
-    let fourth = number_at(buffer, third, 8, line.fourth, false);
-    let fifth = number_at(buffer, fourth, 8, line.fifth, false);
-    let sixth = number_at(buffer, fifth, 8, line.sixth, false);
-    let last = number_at(buffer, sixth, 21, line.last, line.signed);
+    let section = number_at(buffer, begun, SECTION_WIDTH, line.section, false);
+    let first = number_at(buffer, section, FIELD_WIDTH, line.first, false);
+    let second = number_at(buffer, first, FIELD_WIDTH, line.second, false);
+    let third = number_at(buffer, second, FIELD_WIDTH, line.third, false);
+    let fourth = number_at(buffer, third, FIELD_WIDTH, line.fourth, false);
+    let fifth = number_at(buffer, fourth, FIELD_WIDTH, line.fifth, false);
+    let sixth = number_at(buffer, fifth, FIELD_WIDTH, line.sixth, false);
+    let last = number_at(buffer, sixth, LAST_WIDTH, line.last, line.signed);
     byte_at(buffer, last, NEWLINE)
 }
 

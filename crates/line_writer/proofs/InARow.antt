@@ -10,7 +10,8 @@ use denote.Ref.{RefT}
 use Rattle.line_writer.specs.declared.writer.Writer.{Writer}
 use Rattle.line_writer.specs.declared.writer.Fields.{Fields}
 use Rattle.line_writer.specs.Placed.{Placed, numberAt, byteAt}
-use Rattle.line_writer.specs.Written.{held, onto, begun, startAt, fieldAt, sectionWidth, fieldWidth, lastWidth, newline, lineAt}
+use Rattle.column_lines.specs.Form.{newline}
+use Rattle.line_writer.specs.Written.{held, onto, begun, startAt, fieldAt, sectionWidth, fieldWidth, lastWidth, lineAt}
 use Rattle.line_writer.proofs.Placing.{number-length, byte-length}
 
 -- the writer r is h after a step: the same borrow, at the step's bytes

@@ -1,3 +1,4 @@
 mod Carried
 pub mod InARow
 pub mod Placing
+pub mod WholeLine

@@ -19,7 +19,7 @@ use Rattle.line_writer.specs.Placed.{Placed, placed, hasRoom, refused, n
 abbrev pub place : ℕ → Bool → Place
 place at fits = record { offset = at; fits = fits }
 
-room-yes : (n : ℕ) (m : Placed) → m .fits ≡ true → m .offset + n ≤ length (m .bytes) → hasRoom n m ≡ true
+pub room-yes : (n : ℕ) (m : Placed) → m .fits ≡ true → m .offset + n ≤ length (m .bytes) → hasRoom n m ≡ true
 room-yes n m f h = ap (λ (b : Bool). b && leb (m .offset + n) (length (m .bytes))) f ∙ le-leb _ _ h
 
 -- no room: refused before, or the buffer is too short

@@ -1,8 +1,11 @@
 -- The writer that carries its buffer, and a line of 01's listing: 'Lines have widths 4, six of 8, and 21, right-justified'
 use Prim.Native.Nat.{ℕ}
 use mathlib.Core.Bool.{true, false}
-use mathlib.Core.List.{List}
+use mathlib.Core.List.{List, [], _∷_, _++_}
+use mathlib.Core.Path.{_≡_}
 use denote.Ref.{RefT, at-last}
+use Rattle.column_lines.specs.Form.{newline}
+use Rattle.column_lines.specs.Numeral.{numeral, numeralFits}
 use Rattle.line_writer.specs.declared.writer.Writer.{Writer}
 use Rattle.line_writer.specs.declared.writer.Fields.{Fields}
 use Rattle.line_writer.specs.Placed.{Placed, numberAt, byteAt}
@@ -30,9 +33,6 @@ fieldWidth = 8
 abbrev pub lastWidth : ℕ
 lastWidth = 21
 
-abbrev pub newline : ℕ
-newline = 10
-
 abbrev pub fieldAt : ℕ → Placed → Placed
 fieldAt word m = numberAt fieldWidth false word m
 
@@ -40,3 +40,28 @@ unfoldable pub lineAt : Fields → Placed → Placed
 lineAt l m =
     byteAt newline (numberAt lastWidth (l .signed) (l .last) (fieldAt (l .sixth) (fieldAt (l .fifth) (fieldAt (l .fourth) (fieldAt (l .third)
     (fieldAt (l .second) (fieldAt (l .first) (numberAt sectionWidth false (l .section) m))))))))
+
+-- a line's bytes behind others, one field after the other; and that no number is wider than its field
+abbrev pub lineSize : ℕ
+lineSize = 74
+
+abbrev pub fieldBehind : List ℕ → ℕ → List ℕ
+fieldBehind before word = before ++ numeral fieldWidth false word
+
+abbrev pub sixBehind : List ℕ → Fields → List ℕ
+sixBehind before l =
+    fieldBehind (fieldBehind (fieldBehind (fieldBehind (fieldBehind (fieldBehind before (l .first)) (l .second)) (l .third)) (l .fourth)) (l .fifth)) (l .sixth)
+
+abbrev pub lineBehind : List ℕ → Fields → List ℕ
+lineBehind before l =
+    (sixBehind (before ++ numeral sectionWidth false (l .section)) l ++ numeral lastWidth (l .signed) (l .last)) ++ (newline ∷ [])
+
+pub record LineFits (l : Fields) : Type 0 where
+  pub section : numeralFits sectionWidth false (l .section) ≡ true
+  pub first : numeralFits fieldWidth false (l .first) ≡ true
+  pub second : numeralFits fieldWidth false (l .second) ≡ true
+  pub third : numeralFits fieldWidth false (l .third) ≡ true
+  pub fourth : numeralFits fieldWidth false (l .fourth) ≡ true
+  pub fifth : numeralFits fieldWidth false (l .fifth) ≡ true
+  pub sixth : numeralFits fieldWidth false (l .sixth) ≡ true
+  pub last : numeralFits lastWidth (l .signed) (l .last) ≡ true

@@ -6,15 +6,14 @@ ghost use Rattle.line_writer.specs.Written.{begun, held, onto, startAt, 
 use crate::place::Place;
 use crate::place::byte_at;
 use crate::place::number_at;
+use column_lines::line::NEWLINE;
 
 // A line of 01's listing: widths 4, six of 8, and 21.
-const SECTION_WIDTH: usize = 4;
+pub const SECTION_WIDTH: usize = 4;
 
-const FIELD_WIDTH: usize = 8;
+pub const FIELD_WIDTH: usize = 8;
 
-const LAST_WIDTH: usize = 21;
-
-const NEWLINE: u8 = 10;
+pub const LAST_WIDTH: usize = 21;
 
 // The buffer, where the next byte goes, and whether all before it fits.
 pub struct Writer<'a> {
