@@ -1,11 +1,10 @@
 -- The searches of the listing: a property's index in its model, the method that comes next, and how many errors there are. Each loop's invariant is that the
 -- whole answer is the answer from here. Assumes nothing.
-use Prim.Native.Nat.{ℕ, zero, suc, _+_, _-_, _≤_, _<_}
+use Prim.Native.Nat.{ℕ, suc, _+_, _-_, _≤_, _<_}
 use native.Mathlib.Omega.{arith}
 use mathlib.Core.Path.{_≡_, refl, sym, ap, _∙_}
 use mathlib.Core.Bool.{Bool, true, false, cond}
 use mathlib.Core.List.{List}
-use lib.ListN.{length}
 use lib.Dec.{eqb, ltb}
 use borrow.Author.Tests.{eq-eqb, ne-eqb, lt-ltb, le-ltb}
 use Rattle.listings.specs.Sections.{propertyModel, propertyIndex, methodModel, methodName, isBelow, isAbove, isLess, lesser, leastFrom}
@@ -37,7 +36,8 @@ module _ (w : List ℕ) (i model : ℕ) where
       → Counted w i model (index + 1) (j - 1)
   counted-more {index} {j} {other} h l o e =
       let one : propertyIndex w j ≡ suc (propertyIndex w (j - 1)) =
-      at-pred j l ∙ ap (λ (b : Bool). cond b (suc (propertyIndex w (j - 1))) 0) (eq-eqb (propertyModel w j) (propertyModel w (j - 1)) (h .same ∙ (sym e ∙ o))) in
+      at-pred j l ∙ ap (λ (b : Bool). cond b (suc (propertyIndex w (j - 1))) 0)
+      (eq-eqb (propertyModel w j) (propertyModel w (j - 1)) (h .same ∙ (sym e ∙ o))) in
       let whole = h .whole in
       let passed = h .passed in
       record { whole = omega (arith, whole, one); same = sym o ∙ e; passed = omega (arith, passed, l) }

@@ -1,18 +1,18 @@
 -- Lines written from an offset on are their text, in its place, where they fit and have room (`lines-whole`); and what fits says so (`lines-told`). From both,
 -- what the end of a listing answers (`finished`). Assumes nothing.
-use Prim.Native.Nat.{ℕ, _+_, _-_, _≤_, _<_}
+use Prim.Native.Nat.{ℕ, _+_, _-_, _≤_}
 use native.Mathlib.Omega.{arith}
 use mathlib.Core.Path.{_≡_, refl, sym, ap, subst, _∙_}
 use mathlib.Core.Bool.{Bool, true, false, cond, _&&_}
 use mathlib.Core.List.{List, [], _∷_, _++_, append-assoc, append-nil}
 use lib.ListN.{length, take, drop, replicate, length-append}
 use lib.Dec.{leb}
-use borrow.Author.Tests.{le-leb, lt-leb, leb-true, leb-false}
+use borrow.Author.Tests.{leb-true, leb-false}
 use Rattle.words.specs.Areas.{clearedFrom}
 use Rattle.tree.proofs.Spans.{and-left, and-right}
 use Rattle.tree.specs.declared.Shape.the-variants.{Fine}
 use Rattle.column_lines.specs.Form.{newline}
-use Rattle.column_lines.specs.Numeral.{numeral, numeralFits}
+use Rattle.column_lines.specs.Numeral.{numeralFits}
 use Rattle.column_lines.proofs.Lines.{numeral-length, Begun, begun, begun-more, begun-length}
 use Rattle.column_files.specs.Convert.{Converts, answerBy, refuse, success, refusal, shortReply}
 use Rattle.column_files.specs.declared.Converted.{Converted}
@@ -94,7 +94,8 @@ record Told (width : ℕ) (fits : Bool) (m m′ : Placed) : Type 0 where
   field : fits ≡ true
   offset : m′ .offset ≡ m .offset + width
 
-number-told : (width word : ℕ) (g : Bool) (m : Placed) → numberAt width g word m .fits ≡ true → Told width (numeralFits width g word) m (numberAt width g word m)
+number-told : (width word : ℕ) (g : Bool) (m : Placed) → numberAt width g word m .fits ≡ true
+    → Told width (numeralFits width g word) m (numberAt width g word m)
 unfolding numberAt
 number-told width word g m h = by (m .fits) (leb (m .offset + width) (length (m .bytes))) refl refl h
   where
@@ -184,7 +185,10 @@ lines-whole [] done before bs at b f h after e =
     let same : at + 0 ≡ at = omega arith in (
       ap (λ (m : Placed). m .fits) e,
       ap (λ (m : Placed). m .offset) e ∙ sym same,
-      rw e (record { long = length-append done [] ∙ ap (λ (n : ℕ). n + 0) (b .long); rest = b .rest ∙ rw same (ap (λ (x : List ℕ). x ++ drop at before) (sym (append-nil done))) }),
+      rw e (record {
+        long = length-append done [] ∙ ap (λ (n : ℕ). n + 0) (b .long);
+        rest = b .rest ∙ rw same (ap (λ (x : List ℕ). x ++ drop at before) (sym (append-nil done)));
+      }),
     )
 lines-whole (l ∷ ls) done before bs at b f h after e =
     let fits = line-fits l (and-left (lineFits l) (allFit ls) f) in

@@ -49,8 +49,9 @@ module _ (s : Section) (w : List ℕ) (i : ℕ) (p : Place) (bs : List ℕ) wher
       → placed r after ≡ lineAt l (startAt (p .offset) bs) → placed r after ≡ linesAt (entryLines s w i) (placed p bs)
   unfolding linesAt
   entry-written {l} {r} {after} {t} f d e q h =
-      h ∙ (ap (λ (x : Fields). lineAt x (startAt (p .offset) bs)) q ∙ (ap (λ (b : Bool). lineAt (entryLine s w i) (record { offset = p .offset; fits = b; bytes = bs }))
-      (sym f) ∙ ap (λ (b : Bool). linesAt (cond b (entryLine s w i ∷ []) []) (placed p bs)) (sym e ∙ d)))
+      h ∙ (ap (λ (x : Fields). lineAt x (startAt (p .offset) bs)) q
+      ∙ (ap (λ (b : Bool). lineAt (entryLine s w i) (record { offset = p .offset; fits = b; bytes = bs })) (sym f)
+      ∙ ap (λ (b : Bool). linesAt (cond b (entryLine s w i ∷ []) []) (placed p bs)) (sym e ∙ d)))
 
   pub entry-unlisted : {t : Bool} → t ≡ isListed s w i → t ≡ false → placed p bs ≡ linesAt (entryLines s w i) (placed p bs)
   unfolding linesAt
@@ -87,8 +88,8 @@ module _ (f : ℕ → List Fields) (n : ℕ) where
   left-refused {m₀} {m} {i} h e = lines-refused (eachFrom f i (n - i)) m e ∙ sym (h .whole)
 
 -- a function's instructions, by the part of the code area that they occupy
-pub code-written : (functions code : List ℕ) (i : ℕ) (m : Placed) {f : FunctionRecord} {part : List ℕ} {m′ : Placed} → f ≡ functionAt functions i → part ≡ codeOf code f
-    → m′ ≡ linesAt (section (Instructions i) part (length part / 2)) m → m′ ≡ linesAt (functionCode functions code i) m
+pub code-written : (functions code : List ℕ) (i : ℕ) (m : Placed) {f : FunctionRecord} {part : List ℕ} {m′ : Placed} → f ≡ functionAt functions i
+    → part ≡ codeOf code f → m′ ≡ linesAt (section (Instructions i) part (length part / 2)) m → m′ ≡ linesAt (functionCode functions code i) m
 code-written functions code i m {f} {part} {m′} F P h =
     h ∙ ap (λ (p : List ℕ). linesAt (section (Instructions i) p (length p / 2)) m) (P ∙ ap (codeOf code) F)
 

@@ -1,10 +1,9 @@
 -- Sections one after the other are the lines of a delivery or of a refusal, and the listing is what the end makes of them. Assumes nothing.
 use Prim.Native.Nat.{ℕ}
-use mathlib.Core.Path.{_≡_, refl, sym, ap, _∙_}
+use mathlib.Core.Path.{_≡_, sym, ap, _∙_}
 use mathlib.Core.Bool.{Bool, true, false, cond}
 use mathlib.Core.List.{List, _∷_, _++_}
 use lib.ListN.{length}
-use lib.Dec.{eqb}
 use borrow.Author.Tests.{eq-eqb, ne-eqb}
 use Rattle.words.specs.Areas.{clearedFrom}
 use Rattle.words.specs.declared.reply.Reply.{Reply}
@@ -17,7 +16,7 @@ use Rattle.line_writer.specs.declared.place.Place.{Place}
 use Rattle.line_writer.specs.declared.writer.Fields.{Fields}
 use Rattle.listings.specs.Lines.{linesAt}
 use Rattle.listings.specs.Sections.{totalsLine, refusalLine, section, each, functionCode, methods, errorsIn}
-use Rattle.listings.specs.Listing.{Areas, deliveryLines, refusalLines, listingLines, printed, listing, Finishes}
+use Rattle.listings.specs.Listing.{Areas, deliveryLines, refusalLines, listing, Finishes}
 use Rattle.listings.specs.declared.lines.Section.the-variants.{Functions, Constants, Models, Properties, ContextValues, Globals, Files, Errors}
 use Rattle.listings.proofs.Walking.{lines-append}
 use Rattle.listings.proofs.Text.{finished}

@@ -1,6 +1,5 @@
 // The lines of 01's listing: what each entry of an area says.
 ghost use mathlib.Core.Path.{_≡_};
-ghost use Rattle.words.specs.Areas.{entryWord};
 ghost use Rattle.line_writer.specs.Placed.{placed};
 ghost use Rattle.listings.specs.Lines.{linesAt};
 ghost use Rattle.listings.specs.Sections.{line, functionLine, instructionLine, constantLine, modelLine, propertyIndex, propertyLine, methodLine};

@@ -36,13 +36,15 @@ returns-6 c = ap (λ (s : Section). isListed s (c .before .before .before .args 
 
 returns-7 : tie.Need-returns-7
 unfolding isListed entryField
-returns-7 c = ap (λ (n : ℕ). eqb n 1) (c .entry-word .ensures) ∙ ap (λ (s : Section). isListed s (c .before .before .before .before .args .area .now)
-    (c .before .before .before .before .args .i)) (sym (c .before .enum-told7 .given .1))
+returns-7 c = ap (λ (n : ℕ). eqb n 1) (c .entry-word .ensures)
+    ∙ ap (λ (s : Section). isListed s (c .before .before .before .before .args .area .now) (c .before .before .before .before .args .i)) (sym
+    (c .before .enum-told7 .given .1))
 
 returns-8 : tie.Need-returns-8
 unfolding isListed entryField
-returns-8 c = ap (λ (n : ℕ). eqb n 1) (c .entry-word2 .ensures) ∙ ap (λ (s : Section). isListed s (c .before .before .before .before .args .area .now)
-    (c .before .before .before .before .args .i)) (sym (c .before .enum-told8 .given .1))
+returns-8 c = ap (λ (n : ℕ). eqb n 1) (c .entry-word2 .ensures)
+    ∙ ap (λ (s : Section). isListed s (c .before .before .before .before .args .area .now) (c .before .before .before .before .args .i)) (sym
+    (c .before .enum-told8 .given .1))
 
 returns-9 : tie.Need-returns-9
 unfolding isListed

@@ -23,7 +23,8 @@ unfolding entryField
 returns c =
     let c6 = c .before .before .before .before .before .before in
     counted-other (c6 .args .properties .now) (c6 .args .i) (c .before .before .before .before .entry-word .result) (c .before .before .before .loop .inv)
-    (c .before .before .loop-test .taken) (c .before .entry-word2 .ensures) (c .if1 .taken)
+    (c .before .before .loop-test .taken)
+    (c .before .entry-word2 .ensures) (c .if1 .taken)
 
 add-index : tie.Need-add-index Inv-loop μ-loop
 add-index c =
@@ -35,7 +36,8 @@ unfolding entryField
 loop-again c =
     let c6 = c .before .before .before .before .before .before in
     counted-more (c6 .args .properties .now) (c6 .args .i) (c .before .before .before .before .entry-word .result) (c .before .before .before .loop .inv)
-    (c .before .before .loop-test .taken) (c .before .entry-word2 .ensures) (c .if1 .left)
+    (c .before .before .loop-test .taken)
+    (c .before .entry-word2 .ensures) (c .if1 .left)
 
 returns-2 : tie.Need-returns-2 Inv-loop μ-loop
 returns-2 c = counted-all (c .before .before .before .before .args .properties .now) (c .before .before .before .before .args .i)

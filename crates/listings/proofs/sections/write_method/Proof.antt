@@ -14,8 +14,8 @@ unfolding entryLine isListed
 returns c =
     let c5 = c .before .before .before .before .before in
     let c9 = c5 .before .before .before .before in
-    c .before .before .write-entry .ensures ∙ ap (λ (m : Method). linesAt (methodLines (c9 .args .area .now) m) (placed (c9 .args .place) (c9 .args .out .now)))
-    (sym (c5 .method .given .1))
+    c .before .before .write-entry .ensures
+    ∙ ap (λ (m : Method). linesAt (methodLines (c9 .args .area .now) m) (placed (c9 .args .place) (c9 .args .out .now))) (sym (c5 .method .given .1))
 
 returns-2 : tie.Need-returns-2
 unfolding linesAt
