@@ -1,4 +1,4 @@
--- One lemma for each way through a member of the cycle that compiles expressions, over what its calls ensure: those without a jump. Assumes nothing.
+-- One lemma for each way through a member of the cycle that compiles expressions, over what its calls ensure. Assumes nothing.
 use Prim.Native.Nat.{ℕ, _+_, _≤_, _<_}
 use native.Mathlib.Omega.{arith}
 use mathlib.Core.Path.{_≡_, refl, sym, ap, _∙_}
@@ -18,7 +18,7 @@ use Rattle.building.specs.declared.function_state.FunctionState.{FunctionState}
 use Rattle.building.specs.Emission.{coded, emitC}
 use Rattle.building.specs.Held.{Machine, machine}
 use Rattle.books.specs.Meets.{Does, OnFaults, Leafs, Counted, skipC}
-use Rattle.books.specs.Members.{MeetsE, MeetsEs, MeetsTwo}
+use Rattle.books.specs.Members.{MeetsE, MeetsEs, MeetsTwo, MeetsKind}
 use Rattle.books.proofs.Balanced.{balanced-expression}
 use Rattle.books.proofs.Steps.{inside-after, does-then, full-does}
 use Rattle.books.proofs.Leaves.{emitted}
@@ -30,6 +30,9 @@ module _ {tree : List ℕ} {at end start count : ℕ} {locals : List ℕ} where
 
   pub past-meets : {m m′ : Machine} → end ≤ at → MeetsE tree at end start count locals m m′
   past-meets p = record { meets = λ e h q. absurd (omega (arith, sizeE-pos e)) }
+
+  pub kind-past : {kind : ℕ} {m m′ : Machine} → end ≤ at → MeetsKind kind tree at end start count locals m m′
+  kind-past p = record { meets = λ e q h l. absurd (omega (arith, sizeE-pos e)) }
 
   pub two-meets : {middle : ℕ} {m m₁ m′ : Machine} → middle ≡ skipC tree at end → MeetsE tree at middle start count locals m m₁
       → MeetsE tree middle end start count locals m₁ m′ → MeetsTwo tree at end start count locals m m′
@@ -85,6 +88,17 @@ module _ {tree : List ℕ} {at end start count : ℕ} {locals : List ℕ} {kind 
       below (Call t f ps) h = absurd (n44 (kind-is ∙ h .0 .head .kind-is))
       below (InstanceGet t x y) h = absurd (n45 (kind-is ∙ h .0 .head .kind-is))
       below (IndexGet t x y) h = absurd (n46 (kind-is ∙ h .0 .head .kind-is))
+
+-- `infix` and `if_part` by their kind
+module _ {tree : List ℕ} {at end start count : ℕ} {locals : List ℕ} {kind : ℕ} (kind-is : kind ≡ kindAt tree at) {m m′ : Machine} where
+  kind-arm : {n : ℕ} → kind ≡ n → MeetsKind n tree at end start count locals m m′ → MeetsE tree at end start count locals m m′
+  kind-arm q M = record { meets = λ x h l. M .meets x (sym (headE x h .kind-is) ∙ sym kind-is ∙ q) h l }
+
+  pub infix-arm : kind ≡ 39 → MeetsKind 39 tree at end start count locals m m′ → MeetsE tree at end start count locals m m′
+  infix-arm q M = kind-arm q M
+
+  pub if-arm : kind ≡ 42 → MeetsKind 42 tree at end start count locals m m′ → MeetsE tree at end start count locals m m′
+  if-arm q M = kind-arm q M
 
 -- a prefix, a pair, an array, a call
 module _ {tree : List ℕ} {at end start count : ℕ} {locals : List ℕ} {m : Machine} {kind : ℕ} (kind-is : kind ≡ kindAt tree at) where

@@ -38,7 +38,7 @@ count-more tree i end n {next} {r} inside skipped C = record { counts = go }
         C .counts es (rw at (h .1)) (omega arith) ∙ omega arith
 
 -- `operation_of`: between 1 and 18, but for 12, it is the number in the kind
-eighteen : (n : ℕ) → 17 ≤ n → n < 19 → (n ≡ 17 → ⊥) → n ≡ 18
+pub eighteen : (n : ℕ) → 17 ≤ n → n < 19 → (n ≡ 17 → ⊥) → n ≡ 18
 eighteen n g l ne = pick (n - 17) (omega arith)
   where
     pick : (j : ℕ) → n ≡ 17 + j → n ≡ 18

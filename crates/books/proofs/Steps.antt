@@ -3,14 +3,16 @@
 use Prim.Native.Nat.{ℕ}
 use mathlib.Core.Path.{_≡_, _∙_}
 use mathlib.Core.List.{List}
+use Rattle.definition.specs.Uses.{Limits}
 use Rattle.definition.specs.Compiler.{Work, Step, CompilerState, andThen}
-use Rattle.definition.proofs.Steady.{Steady, Steadily}
-use Rattle.building.specs.Held.{Machine, LocalsHeld}
-use Rattle.building.proofs.Notes.{held-longer}
+use Rattle.definition.specs.Program.{Entries}
+use Rattle.definition.proofs.Steady.{Longer, Steady, Steadily}
+use Rattle.building.specs.Held.{Machine, LocalsHeld, Held}
+use Rattle.building.proofs.Notes.{marks-same, over-longer, held-longer}
 use Rattle.books.specs.Meets.{Acts, Inside, Does}
 use Rattle.books.proofs.Balanced.{Balanced, Balancing}
 
-same-locals : {start count : ℕ} {l : List ℕ} {s s′ : CompilerState} → s′ .locals ≡ s .locals → LocalsHeld start count l s → LocalsHeld start count l s′
+pub same-locals : {start count : ℕ} {l : List ℕ} {s s′ : CompilerState} → s′ .locals ≡ s .locals → LocalsHeld start count l s → LocalsHeld start count l s′
 same-locals q L = record { up-to = rw q (L .up-to); each = rw q (L .each) }
 
 -- every piece stays inside
@@ -37,3 +39,18 @@ full-acts S ne = record { meets = λ κ E w H. held-longer (S w .uses) ne H }
 
 pub full-does : {start count : ℕ} {l : List ℕ} {m : Machine} {s : Step} → Steadily s → (m .state .full ≡ 0 → ⊥) → Does start count l m m s
 full-does S ne = acts-does (full-acts S ne)
+
+-- with the mark set before, what stands for one step stands for any other
+pub held-either : {κ : Limits} {E : Entries} {m m′ : Machine} {w w₁ w₂ : Work} → Longer (w .uses) (w₁ .uses) → Longer (w .uses) (w₂ .uses)
+    → (m .state .full ≡ 0 → ⊥) → Held κ E m w → Held κ E m′ w₁ → Held κ E m′ w₂
+held-either {κ} {m = m} {m′ = m′} l₁ l₂ ne H H₁ =
+    let same : m .state .full ≡ m′ .state .full = marks-same (over-longer κ l₁ (H .full) ne) (H₁ .full) in
+    record {
+      code-cap = H₁ .code-cap;
+      constants-cap = H₁ .constants-cap;
+      names-cap = H₁ .names-cap;
+      breaks-cap = H₁ .breaks-cap;
+      errors-cap = H₁ .errors-cap;
+      full = rw (← same) (over-longer κ l₂ (H .full) ne);
+      rest = λ z. absurd (ne (same ∙ z));
+    }

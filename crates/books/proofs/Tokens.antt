@@ -1,11 +1,11 @@
 -- One lemma for each way through a routine that reads its token from the tree and compiles no part. By what stands at the place. Assumes nothing.
-use Prim.Native.Nat.{ℕ, zero, suc, _+_, _≤_, _<_, min}
+use Prim.Native.Nat.{ℕ, zero, suc, _+_, _≤_, _<_, min, max}
 use native.Mathlib.Omega.{arith}
 use mathlib.Core.Path.{_≡_, refl, sym, ap, _∙_}
 use mathlib.Core.Bool.{Bool, true, false, cond}
 use mathlib.Core.List.{List, [], _∷_, _++_}
-use lib.Dec.{eqb}
-use borrow.Author.Tests.{eqb-false, eq-eqb, ne-eqb, lt-ltb, le-ltb}
+use lib.Dec.{eqb, ltb}
+use borrow.Author.Tests.{eqb-false, eq-eqb, ne-eqb, lt-ltb, le-ltb, ltb-true}
 use Rattle.words.specs.Ast.{Token, Expression, Identifier, This, Null, Integer, Float, Text, Boolean, Array, Prefix, Infix, If, IfElse, Call}
 use Rattle.words.specs.Ast.{InstanceGet, IndexGet}
 use Rattle.words.specs.Object.{constantOf, NULL, TRUE, FALSE}
@@ -199,7 +199,7 @@ module _ (tree : List ℕ) (at : ℕ) {s : FunctionState} {c e : List ℕ} where
     };
   }
 
-positive : (m : ℕ) → (m ≡ 0 → ⊥) → 0 < m
+pub positive : (m : ℕ) → (m ≡ 0 → ⊥) → 0 < m
 positive zero h = absurd (h refl)
 positive (suc m) h = omega arith
 
@@ -243,3 +243,15 @@ module _ (tree : List ℕ) (at end : ℕ) where
           let v : next ≡ min (at + spanAt tree at) end = q ∙ rw (lt-ltb at end l, z) in
           let pos : 0 < spanAt tree at = positive (spanAt tree at) ne in
           (omega arith, omega arith)
+
+  -- wherever it stands: not back, and no more than up to the end
+  pub skip-within : {next : ℕ} → next ≡ skipC tree at end → (at ≤ next) × (next ≤ max at end)
+  unfolding skipC
+  skip-within {next} q = go (ltb at end) refl
+    where
+      go : (t : Bool) → ltb at end ≡ t → (at ≤ next) × (next ≤ max at end)
+      go true z = let m = skip-more (ltb-true at end z) q in (omega arith, omega arith)
+      go false z = let v : next ≡ at = q ∙ rw z in (omega arith, omega arith)
+
+  pub skip-inside : at ≤ end → {next : ℕ} → next ≡ skipC tree at end → (at ≤ next) × (next ≤ end)
+  skip-inside l q = let m = skip-within q in (omega (arith, m), omega (arith, m, l))

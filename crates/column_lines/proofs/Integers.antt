@@ -1,16 +1,17 @@
 -- Integers that are held negated: m as -m. What the operations on an `i64` make of -m, and that they fit, down to the smallest. Assumes nothing.
 use Prim.Native.Nat.{ℕ, zero, suc, _+_, _-_, _*_, _/_, _%_, _^_, _≤_, _<_}
-use native.Mathlib.Nat.{zero-add, le-of-suc-le-suc}
+use native.Mathlib.Nat.{zero-add}
 use native.Mathlib.Omega.{arith}
 use mathlib.Core.Path.{_≡_, refl, sym, ap, subst, _∙_}
-use mathlib.Core.Bool.{Bool, true, false, not, cond}
-use lib.IntN.{ℤ, pos, negsuc, negℤ, natAbs, subℕ, _+ℤ_, _-ℤ_, _*ℤ_, negℤ-+ℤ}
-use lib.Signed.{ltZ, leZ, nonNeg, quotZ, remZ}
-use lib.Dec.{T, ltb, leb, eqb}
-use borrow.Author.Tests.{le-ltb, lt-ltb, le-leb, lt-leb, leb-true, leb-false, ltb-true, ltb-false}
+use mathlib.Core.Bool.{Bool, true, false}
+use lib.IntN.{ℤ, pos, negsuc, negℤ, natAbs, _-ℤ_, _*ℤ_, negℤ-+ℤ}
+use lib.Signed.{ltZ, nonNeg, quotZ, remZ}
+use lib.Dec.{T, ltb, leb}
+use borrow.Author.Tests.{le-ltb, le-leb, lt-leb, leb-true, leb-false, ltb-true, ltb-false}
 use mir.Syntax.{w64}
 use mir.Val.{Fits, SFits, ofZ, toZ}
 use mir.ValLaws.{toZ-ofZ, toZ-pos, toZ-neg}
+use Rattle.words.specs.Constants.{wordOfInteger, integerOfWord, pickInteger}
 use Rattle.column_lines.specs.Numeral.{leastSize}
 
 -- what a local of the machine holds is read back
@@ -165,82 +166,6 @@ module _ (n : ℤ) (f : SFits w64 n) (p : n ≡ neg (natAbs n)) (d : ℕ) (h : d
       let b = below-tenth (natAbs n) (seen e) in
       sym (lt-leb (natAbs n * 10 + d) leastSize (omega arith))
 
--- an integer and its word
-
-one-below : (k : ℕ) → negsuc 0 -ℤ negsuc k ≡ pos k
-one-below k = rw (le-ltb (suc k) 1 (omega arith)) (ap pos (omega arith))
-
-one-below-pos : (k : ℕ) → negsuc 0 -ℤ pos k ≡ negsuc k
-one-below-pos zero = refl
-one-below-pos (suc k) = ap (λ (x : ℕ). negsuc (suc x)) (zero-add k)
-
-pub word-pos : (n : ℤ) → SFits w64 n → leZ (pos 0) (toZ w64 (ofZ w64 n)) ≡ true → natAbs (toZ w64 (ofZ w64 n)) ≡ ofZ w64 n
-word-pos (pos k) f e = ap natAbs (back f)
-word-pos (negsuc k) f e =
-    let x : false ≡ true = subst (λ (z : ℤ). leZ (pos 0) z ≡ true) (back f) e in
-    absurd (let z : _≡_ {A = ℕ} 0 1 = cc in omega arith)
-
-nonneg-of : (z : ℤ) → leZ (pos 0) z ≡ true → T (nonNeg z)
-nonneg-of (pos k) e = tt
-nonneg-of (negsuc k) e = absurd (let z : _≡_ {A = ℕ} 0 1 = cc in omega arith)
-
-pub word-cast : (n : ℤ) → SFits w64 n → leZ (pos 0) (toZ w64 (ofZ w64 n)) ≡ true
-    → T (nonNeg (toZ w64 (ofZ w64 n))) × Fits w64 (natAbs (toZ w64 (ofZ w64 n)))
-word-cast n f e =
-    let x : natAbs (toZ w64 (ofZ w64 n)) ≡ natAbs n = ap natAbs (back f) in
-    (nonneg-of (toZ w64 (ofZ w64 n)) e, record { fits = omega (arith, x, abs-fits n f) })
-
-pub record Negative (n : ℤ) : Type 0 where
-  pub k : ℕ
-  pub is : n ≡ negsuc k
-  pub small : k < leastSize
-
-negative : (n : ℤ) → SFits w64 n → leZ (pos 0) (toZ w64 (ofZ w64 n)) ≡ false → Negative n
-negative (pos k) f e =
-    let x : leb 0 k ≡ false = subst (λ (z : ℤ). leZ (pos 0) z ≡ false) (back f) e in
-    absurd (let y = leb-false 0 k x in omega arith)
-negative (negsuc k) f e = record { k = k; is = refl; small = f .sfits }
-
-module _ (n : ℤ) (f : SFits w64 n) (e : leZ (pos 0) (toZ w64 (ofZ w64 n)) ≡ false) where
-  below-held : negsuc 0 -ℤ toZ w64 (ofZ w64 n) ≡ pos (negative n f e .k)
-  below-held = ap (λ (z : ℤ). negsuc 0 -ℤ z) (back f ∙ negative n f e .is) ∙ one-below (negative n f e .k)
-
-  pub below-fits : SFits w64 (negsuc 0 -ℤ toZ w64 (ofZ w64 n))
-  below-fits = fits-as _ below-held (pos-fits _ (negative n f e .small))
-
-  below-back : toZ w64 (ofZ w64 (negsuc 0 -ℤ toZ w64 (ofZ w64 n))) ≡ pos (negative n f e .k)
-  below-back = held _ below-held (pos-fits _ (negative n f e .small))
-
-  pub below-cast : T (nonNeg (toZ w64 (ofZ w64 (negsuc 0 -ℤ toZ w64 (ofZ w64 n)))))
-      × Fits w64 (natAbs (toZ w64 (ofZ w64 (negsuc 0 -ℤ toZ w64 (ofZ w64 n)))))
-  below-cast = cast-as _ _ below-back (negative n f e .small)
-
-  pub below-is : natAbs (toZ w64 (ofZ w64 (negsuc 0 -ℤ toZ w64 (ofZ w64 n)))) ≤ 18446744073709551615
-  below-is = let x : natAbs (toZ w64 (ofZ w64 (negsuc 0 -ℤ toZ w64 (ofZ w64 n)))) ≡ negative n f e .k = ap natAbs below-back in
-      omega (arith, x, negative n f e .small)
-
-  pub below-word : 18446744073709551615 - natAbs (toZ w64 (ofZ w64 (negsuc 0 -ℤ toZ w64 (ofZ w64 n)))) ≡ ofZ w64 n
-  below-word =
-      let x : natAbs (toZ w64 (ofZ w64 (negsuc 0 -ℤ toZ w64 (ofZ w64 n)))) ≡ negative n f e .k = ap natAbs below-back in
-      let y : ofZ w64 n ≡ 18446744073709551616 - suc (negative n f e .k) = ap (ofZ w64) (negative n f e .is) in
-      omega (arith, x, y, negative n f e .small)
-
-module _ (w : ℕ) (l : leastSize ≤ w) (g : w < 18446744073709551616) where
-  above-held : negsuc 0 -ℤ toZ w64 (18446744073709551615 - w) ≡ negsuc (18446744073709551615 - w)
-  above-held =
-      ap (λ (z : ℤ). negsuc 0 -ℤ z) (toZ-pos w64 (18446744073709551615 - w) (omega arith)) ∙ one-below-pos (18446744073709551615 - w)
-
-  above-small : SFits w64 (negsuc (18446744073709551615 - w))
-  above-small = record { sfits = omega arith }
-
-  pub above-fits : SFits w64 (negsuc 0 -ℤ toZ w64 (18446744073709551615 - w))
-  above-fits = fits-as _ above-held above-small
-
-  pub above-word : toZ w64 (ofZ w64 (negsuc 0 -ℤ toZ w64 (18446744073709551615 - w))) ≡ toZ w64 w
-  above-word =
-      let x : 2 ^ 64 - suc (18446744073709551615 - w) ≡ w = omega arith in
-      held _ above-held above-small ∙ sym (toZ-neg w64 (18446744073709551615 - w) (omega arith)) ∙ ap (toZ w64) x
-
 -- a local of the machine that holds a number negated
 
 abbrev pub sizeHeld : ℕ → ℕ
@@ -280,3 +205,14 @@ module _ (w : ℕ) (l : leastSize ≤ w) (g : w < 18446744073709551616) where
 
   pub integer-neg : toZ w64 w ≡ neg (natAbs (toZ w64 w))
   integer-neg = integer-is ∙ ap neg (sym (ap natAbs integer-is))
+
+  pub integer-same : integerOfWord w ≡ toZ w64 w
+  integer-same =
+      let t : ltb w (2 ^ 63) ≡ false = le-ltb w (2 ^ 63) l in
+      let x : 2 ^ 64 - suc w ≡ 18446744073709551615 - w = omega arith in
+      ap (λ (b : Bool). pickInteger b (pos w) (negsuc (2 ^ 64 - suc w))) t ∙ ap negsuc x ∙ sym integer-is
+
+-- the word of an integer is what the machine holds
+pub word-same : (z : ℤ) → wordOfInteger z ≡ ofZ w64 z
+word-same (pos k) = refl
+word-same (negsuc k) = refl

@@ -1,5 +1,7 @@
 // Right-justified numbers in fields of any width, signed or not: one pair, `read_number` and `write_number`. A signed number is an `i64`, read and
 // written negated, digit by digit, so that the smallest is exact (01, 'Forms by place in the code').
+use words::object::integer_of_word;
+use words::object::word_of_integer;
 ghost use mathlib.Core.Path.{_≡_};
 ghost use mathlib.Core.Bool.{true, false};
 ghost use Prim.Native.Nat.{_+_, _*_, _/_, _%_, _≤_, _<_};
@@ -7,8 +9,6 @@ ghost use lib.ListN.{drop, length, replicate};
 ghost use mathlib.Core.List.{_++_};
 ghost use lib.IntN.{natAbs, negℤ, pos};
 ghost use lib.Dec.{leb};
-ghost use mir.Syntax.{w64};
-ghost use mir.Val.{ofZ, toZ};
 ghost use Rattle.column_lines.specs.Numeral.{mostOf, leastSize, negativeOf, numberFrom, signAt, signFrom, readNumeral, Wrote, Spelt, Led};
 
 pub const BLANK: u8 = b' ';
@@ -38,28 +38,6 @@ const LEAST_DIGIT: u64 = 8;
 pub enum Number {
     Word(u64),
     Off,
-}
-
-// The word of an integer: its two's complement.
-pub fn word_of(n: i64) -> u64
-    ensures { λ r. ⌜ r ≡ ofZ w64 n ⌝ }
-{
-    if n >= 0 {
-        return n as u64;
-    }
-    let below = -1 - n;
-    MOST_WORD - below as u64
-}
-
-// The integer of a word.
-pub fn integer_of(word: u64) -> i64
-    ensures { λ r. ⌜ r ≡ toZ w64 word ⌝ }
-{
-    if word < NEGATIVE_WORDS {
-        return word as i64;
-    }
-    let below = (MOST_WORD - word) as i64;
-    -1 - below
 }
 
 // The last digit of a negated number.
@@ -171,7 +149,7 @@ fn read_negative(bytes: &[u8], at: usize) -> Number
         n = with_digit(n, digit);
         i += 1;
     }
-    let word = word_of(n);
+    let word = word_of_integer(n);
     Number::Word(word)
 }
 
@@ -301,7 +279,7 @@ pub fn write_number(out: &mut [u8], word: u64, signed: bool) -> bool
     ensures { λ r. ⌜ Wrote signed word (now (out .entry)) (now (out .exit)) r ⌝ }
 {
     if is_negative(word, signed) {
-        let number = integer_of(word);
+        let number = integer_of_word(word);
         return write_negative(out, number);
     }
     write_natural(out, word)

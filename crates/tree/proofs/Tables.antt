@@ -2,11 +2,11 @@
 -- rule, which antt computes. Also one law for each way through the functions that read a row. Assumes nothing.
 use mathlib.Core.Path.{_≡_, refl, sym, ap, subst, _∙_}
 use mathlib.Core.Bool.{Bool, true, false, cond}
-use mathlib.Core.List.{List, [], _∷_, map}
+use mathlib.Core.List.{List, [], _∷_}
 use Prim.Native.Nat.{ℕ, zero, suc, _/_, _%_, _^_, _≤_, _<_}
 use native.Mathlib.Omega.{arith}
 use native.Mathlib.Decide.{decLt}
-use lib.ListN.{getD, List·getD-map, List·getD-eq-default}
+use lib.ListN.{getD, List·getD-eq-default}
 use lib.Dec.{T, eqb, leb, ltb, ltb→lt, eqb→eq}
 use borrow.Author.Tests.{le-leb, lt-leb, ne-eqb}
 use Rattle.tree.specs.Rules.{Slot, Rule, slots, rules, slotOf, ruleOf, nothing, unused, has, mayStand, goesOn, slotAfter, isDue, firstSlot, inRange}

@@ -5,8 +5,10 @@ use mathlib.Core.Path.{_≡_, refl, sym, ap, _∙_}
 use mathlib.Core.Bool.{true}
 use Prim.Native.Nat.{_≤_, _<_, _+_, _*_, _-_}
 use lib.ListN.{length, drop, getD}
+use mir.Syntax.{w64}
+use mir.Val.{toZ}
 use Rattle.column_lines.specs.Numeral.{numberFrom, digitsFrom, leastSize}
-use Rattle.column_lines.proofs.Integers.{Held, sizeHeld, held-is}
+use Rattle.column_lines.proofs.Integers.{Held, sizeHeld, held-is, word-same}
 use Rattle.column_lines.proofs.Reading.{number-none, zero-signed, digits-start, digit-low, digit-high}
 use Rattle.column_lines.proofs.Negated.{roomy, negated-over, negated-next, negated-end}
 use Rattle.column_lines.proofs.number.read_negative.Statement.{statement}
@@ -83,7 +85,8 @@ returns-6 c =
     let c7 = c5 .before .before in
     negated-end (c7 .args .bytes .now) (c7 .args .at) (c .before .before .loop .i) (c .before .before .loop .n) (c .before .loop-test .left)
     (c .before .before .loop .inv .1) (c .before .before .loop .inv .0)
-    (c .before .before .loop .inv .3 (omega (arith, c5 .if1 .left, c .before .loop-test .left))) (c .word-of .ensures)
+    (c .before .before .loop .inv .3 (omega (arith, c5 .if1 .left, c .before .loop-test .left))) (c .word-of-integer .ensures ∙ word-same (toZ w64
+    (c .before .before .loop .n)))
 
 pub read-negative-spec : {M : Type 1} → statement M
 read-negative-spec =
@@ -105,5 +108,5 @@ read-negative-spec =
     (λ c. omega arith)
     (λ c. omega arith)
     loop-again
-    (λ c κs. tt)
+    (λ c κs. search needs)
     returns-6)

@@ -1,0 +1,127 @@
+-- Rows 2 to 6, one lemma for each way: what the routines found is what the definition's `answer` asks, one after the other. Assumes nothing.
+use Prim.Native.Nat.{ℕ, zero, suc, _+_, _/_, _<_}
+use native.Mathlib.Omega.{arith}
+use mathlib.Core.Path.{_≡_, refl, sym, ap, subst, _∙_}
+use mathlib.Core.Option.{Option, none, some}
+use mathlib.Core.List.{List, [], _∷_}
+use lib.ListN.{length, replicate}
+use Rattle.words.specs.Ast.{Document}
+use Rattle.tree.specs.Check.{shapeOf}
+use Rattle.tree.specs.Reading.{documentsOf}
+use Rattle.tree.specs.declared.Shape.{Shape}
+use Rattle.tree.specs.declared.Shape.the-variants.{Fine, Refused}
+use Rattle.definition.specs.Compiler.{Error}
+use Rattle.definition.specs.Book.{newContext}
+use Rattle.definition.specs.DependencySolver.{needed, missing, compileNeeded}
+use Rattle.definition.specs.Answer.{Answer, Refusal, answerNeeded, answerBundle, answerDocuments, answerTwice, answerShape, answerWorked, answerFrom, answer}
+use Rattle.definition.specs.Answer.{twice, documentPlaces, limitsOf}
+use Rattle.building.specs.declared.scopes.Found.{Found}
+use Rattle.building.specs.declared.scopes.Found.the-variants.{At, Nothing}
+use Rattle.building.specs.Found.{foundOf}
+use Rattle.books.specs.Sets.{SetIs}
+use Rattle.books.specs.Solving.{Bundle, Distinct, FindsTwice, Needs, Misses}
+use Rattle.books.specs.Driving.{Accepted, Fronts}
+use Rattle.definition.proofs.Answer.{ShapeRow, fine, refused, shape-row}
+use Rattle.books.proofs.BundleRange.{fine-bundle, fine-root}
+use Rattle.books.proofs.StandsLaws.{set-empty, needed-ascends, needed-below}
+use Rattle.books.proofs.Delivering.{no-row}
+
+found-none : (o : Option ℕ) → Nothing ≡ foundOf o → o ≡ none
+found-none none h = refl
+found-none (some i) h = absurd (let z : _≡_ {A = ℕ} 0 1 = cc in omega arith)
+
+found-some : (o : Option ℕ) (i : ℕ) → At i ≡ foundOf o → o ≡ some i
+found-some none i h = absurd (let z : _≡_ {A = ℕ} 0 1 = cc in omega arith)
+found-some (some j) i h = let same : i ≡ j = cc in ap some (sym same)
+
+-- rows 2 to 4
+shape-number : {x : Shape} → ShapeRow x → (row place : ℕ) → x ≡ Refused row place → row ≡ 0 → ⊥
+shape-number fine row place h z = absurd (let y : _≡_ {A = ℕ} 0 1 = cc in omega arith)
+shape-number (refused {r = r} p x) row place h z = let same : row ≡ r = cc in no-row x (sym same ∙ z)
+
+pub front-shape : (tree set : List ℕ) {row place : ℕ} {x : Shape} → x ≡ shapeOf tree → x ≡ Refused row place → Fronts tree row place set
+unfolding answer answerFrom
+front-shape tree set {row} {place} q h = record {
+  refused = λ ne lengths. rw (sym q ∙ h);
+  accepted = λ z. absurd (shape-number (shape-row tree) row place (sym q ∙ h) z);
+}
+
+-- fine words
+module _ (tree : List ℕ) {x : Shape} (shape-is : x ≡ shapeOf tree) (fine-is : x ≡ Fine) {end : ℕ} (end-is : end ≡ length tree / 4)
+    {present present′ : List ℕ} {r : Found} (empty : present ≡ replicate 16384 0) (F : FindsTwice tree end present r present′) where
+  is-fine : shapeOf tree ≡ Fine
+  is-fine = sym shape-is ∙ fine-is
+
+  bundle : Bundle (documentsOf tree) tree 0 end
+  bundle = rw end-is (fine-bundle tree is-fine)
+
+  none-yet : SetIs present []
+  none-yet = rw empty (set-empty 16384 refl)
+
+  pub front-twice : (set : List ℕ) {i : ℕ} → r ≡ At i → Fronts tree 5 i set
+  unfolding answer answerFrom
+  front-twice set {i} at = record {
+    refused = λ ne lengths. rw (is-fine, found-some (twice [] tree (documentPlaces tree)) i (sym at ∙ F .finds (documentsOf tree) bundle none-yet .answer end-is));
+    accepted = λ z. absurd (omega arith);
+  }
+
+  module _ (none-twice : r ≡ Nothing) {chosen₀ set : List ℕ} (empty₂ : chosen₀ ≡ replicate 16384 0) (N : Needs tree end chosen₀ set) {m : Found}
+      (M : Misses set present′ m) where
+    once : twice [] tree (documentPlaces tree) ≡ none
+    once = found-none (twice [] tree (documentPlaces tree)) (sym none-twice ∙ F .finds (documentsOf tree) bundle none-yet .answer end-is)
+
+    module _ (root : Document) (others : List Document) (documents : documentsOf tree ≡ root ∷ others) where
+      abbrev numbers : List ℕ
+      numbers = needed [] root others
+
+      bundled : Bundle (root ∷ others) tree 0 end
+      bundled = rw documents at bundle
+
+      distinct : Distinct (root ∷ others)
+      distinct = F .finds (root ∷ others) bundled none-yet .distinct none-twice
+
+      chosen : SetIs set numbers
+      chosen = N .needs root others bundled distinct (rw empty₂ (set-empty 16384 refl))
+
+      absent : m ≡ foundOf (missing (root ∷ others) numbers)
+      absent =
+          M .misses (root ∷ others) numbers (needed-ascends root others) (needed-below root others (bundled .numbers)) chosen
+          (F .finds (root ∷ others) bundled none-yet .present none-twice)
+
+      so-far : (lengths : List ℕ) → answer tree lengths ≡ answerNeeded (missing (root ∷ others) numbers) numbers (root ∷ others) (limitsOf lengths) newContext
+      unfolding answer answerFrom answerBundle
+      so-far lengths = rw (is-fine, once, documents)
+
+      no-root : {y : ℕ} → m ≡ At y → Fronts tree 6 y set
+      no-root {y} at = record {
+        refused = λ ne lengths. so-far lengths ∙ rw (found-some (missing (root ∷ others) numbers) y (sym at ∙ absent));
+        accepted = λ z. absurd (omega arith);
+      }
+
+      all-there : m ≡ Nothing → Fronts tree 0 0 set
+      all-there nothing =
+          let there : missing (root ∷ others) numbers ≡ none = found-none (missing (root ∷ others) numbers) (sym nothing ∙ absent) in
+          record {
+            refused = λ ne lengths. absurd (ne refl);
+            accepted = λ z. (
+              root,
+              (
+                others,
+                record {
+                  fine = is-fine;
+                  documents = documents;
+                  bundle = rw (← end-is) bundled;
+                  distinct = distinct;
+                  chosen = chosen;
+                  there = there;
+                  answers = λ lengths. so-far lengths ∙ rw there;
+                },
+              ),
+            );
+          }
+
+    pub front-missing : {y : ℕ} → m ≡ At y → Fronts tree 6 y set
+    front-missing at = let d = fine-root tree is-fine in no-root (d .0) (d .1) (d .2) at
+
+    pub front-ready : m ≡ Nothing → Fronts tree 0 0 set
+    front-ready nothing = let d = fine-root tree is-fine in all-there (d .0) (d .1) (d .2) nothing

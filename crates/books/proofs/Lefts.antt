@@ -1,0 +1,133 @@
+-- The books that are left: one taken out of an ascending list, and the entries of area 12 that name them. Assumes nothing.
+use Prim.Native.Nat.{ℕ, zero, suc, _+_, _*_, _/_, _≤_, _<_}
+use native.Mathlib.Nat.{zero-add, add-zero, mul-one}
+use native.Mathlib.Omega.{arith}
+use mathlib.Core.Path.{_≡_, refl, sym, ap, subst, _∙_}
+use mathlib.Core.Bool.{Bool, true, false, cond}
+use mathlib.Core.Option.{Option, none, some}
+use mathlib.Core.List.{List, [], _∷_, _++_, append-assoc}
+use lib.ListN.{length, getD, length-append}
+use lib.Seq.{getD-at}
+use lib.Dec.{eqb}
+use borrow.Author.Tests.{eqb-true, eqb-false, eq-eqb}
+use Rattle.words.specs.Ast.{Document}
+use Rattle.words.specs.Areas.{entryWord}
+use Rattle.tree.specs.At.{sizeDoc, runSize}
+use Rattle.definition.specs.Book.{Assembly}
+use Rattle.definition.specs.DependencySolver.{findDocument, missing, missingBy, allIn, dependencies, readyBy, ready, without, filesOf}
+use Rattle.definition.specs.Within.{All, none, _&_}
+use Rattle.books.specs.Sets.{Ascends}
+use Rattle.books.specs.Solving.{placeOf, bookUnit, bookWord, waiting, Stands}
+use Rattle.books.specs.Driving.{Leaves}
+
+-- one less
+pub without-length : (n : ℕ) (before later : List ℕ) → length (before ++ (n ∷ later)) ≡ suc (length (without n (before ++ (n ∷ later))))
+without-length n [] later = rw (eq-eqb n n refl)
+without-length n (x ∷ before) later = go (without-length n before later) (eqb x n)
+  where
+    go : length (before ++ (n ∷ later)) ≡ suc (length (without n (before ++ (n ∷ later)))) → (t : Bool) → suc (length (before ++ (n ∷ later)))
+        ≡ suc (length (cond t (before ++ (n ∷ later)) (x ∷ without n (before ++ (n ∷ later)))))
+    go h true = refl
+    go h false = ap suc h
+
+looser : {a b : ℕ} (l : List ℕ) → a ≤ b → Ascends b l → Ascends a l
+looser [] h u = tt
+looser (x ∷ l) h u = (omega (arith, u .0), u .1)
+
+pub ascends-without : (k n : ℕ) (l : List ℕ) → Ascends k l → Ascends k (without n l)
+ascends-without k n [] h = tt
+ascends-without k n (x ∷ l) h = go (ascends-without (x + 1) n l (h .1)) (eqb x n)
+  where
+    go : Ascends (x + 1) (without n l) → (t : Bool) → Ascends k (cond t l (x ∷ without n l))
+    go r true = looser l (omega (arith, h .0)) (h .1)
+    go r false = (h .0, r)
+
+-- none is missing of those that are left
+missing-tail : (o : Option Document) (n : ℕ) (rest : Option ℕ) → missingBy o n rest ≡ none → rest ≡ none
+missing-tail none n rest h = absurd (let z : _≡_ {A = ℕ} 0 1 = cc in omega arith)
+missing-tail (some d) n rest h = h
+
+missing-again : (o : Option Document) (n : ℕ) (rest rest′ : Option ℕ) → missingBy o n rest ≡ none → rest′ ≡ none → missingBy o n rest′ ≡ none
+missing-again none n rest rest′ h h′ = absurd (let z : _≡_ {A = ℕ} 0 1 = cc in omega arith)
+missing-again (some d) n rest rest′ h h′ = h′
+
+pub missing-without : (ds : List Document) (n : ℕ) (l : List ℕ) → missing ds l ≡ none → missing ds (without n l) ≡ none
+missing-without ds n [] h = h
+missing-without ds n (x ∷ l) h =
+    let tail : missing ds l ≡ none = missing-tail (findDocument x ds) x (missing ds l) h in
+    go tail (missing-without ds n l tail) (eqb x n)
+  where
+    go : missing ds l ≡ none → missing ds (without n l) ≡ none → (t : Bool) → missing ds (cond t l (x ∷ without n l)) ≡ none
+    go tail r true = tail
+    go tail r false = missing-again (findDocument x ds) x (missing ds l) (missing ds (without n l)) h r
+
+-- what holds of each document holds of the one that is ready
+module _ {P : Document → Type 0} where
+  all-found : (n : ℕ) (ds : List Document) → All P ds → {d : Document} → findDocument n ds ≡ some d → P d
+  all-found n [] none h = absurd (let z : _≡_ {A = ℕ} 0 1 = cc in omega arith)
+  all-found n (x ∷ ds) (p & ps) {d} h = go (λ q. all-found n ds ps q) (eqb (x .filename) n) h
+    where
+      go : (findDocument n ds ≡ some d → P d) → (t : Bool) → cond t (some x) (findDocument n ds) ≡ some d → P d
+      go r true q = let same : x ≡ d = cc in subst P same p
+      go r false q = r q
+
+  all-by : (o : Option Document) (done : List ℕ) (rest : Option Document) {d : Document} → ((x : Document) → o ≡ some x → P x)
+      → (rest ≡ some d → P d) → readyBy o done rest ≡ some d → P d
+  all-by none done rest here later h = later h
+  all-by (some x) done rest {d} here later h = go (allIn (dependencies (x .definitions)) done) h
+    where
+      go : (t : Bool) → cond t (some x) rest ≡ some d → P d
+      go true q = let same : x ≡ d = cc in subst P same (here x refl)
+      go false q = later q
+
+  pub all-ready : (ds : List Document) (done left : List ℕ) → All P ds → {d : Document} → ready ds done left ≡ some d → P d
+  all-ready ds done [] ps h = absurd (let z : _≡_ {A = ℕ} 0 1 = cc in omega arith)
+  all-ready ds done (n ∷ left) ps h =
+      all-by (findDocument n ds) done (ready ds done left) (λ x q. all-found n ds ps q) (λ q. all-ready ds done left ps q) h
+
+-- the books put away stand first in area 12
+pub files-length : (as′ : List Assembly) → length (filesOf as′) ≡ length as′
+files-length [] = refl
+files-length (a ∷ as′) = ap suc (files-length as′)
+
+pub files-at : (as′ : List Assembly) (rest : List ℕ) (i : ℕ) → i < length as′
+    → getD (filesOf as′ ++ rest) i 0 ≡ getD as′ i (record { filename = 0; index = 0; publics = [] }) .filename
+files-at [] rest i h = absurd (omega arith)
+files-at (a ∷ as′) rest zero h = refl
+files-at (a ∷ as′) rest (suc i) h = files-at as′ rest i (omega arith)
+
+-- a book that is there: its entry begins with its number
+place-in : (n i : ℕ) (ds : List Document) {d : Document} → findDocument n ds ≡ some d → placeOf n i ds < i + runSize sizeDoc ds
+unfolding runSize
+place-in n i [] h = absurd (let z : _≡_ {A = ℕ} 0 1 = cc in omega arith)
+place-in n i (x ∷ ds) {d} h = go (λ q. place-in n (i + sizeDoc x) ds q) (eqb (x .filename) n) h
+  where
+    go : (findDocument n ds ≡ some d → placeOf n (i + sizeDoc x) ds < i + sizeDoc x + runSize sizeDoc ds) → (t : Bool)
+        → cond t (some x) (findDocument n ds) ≡ some d → cond t i (placeOf n (i + sizeDoc x) ds) < i + (sizeDoc x + runSize sizeDoc ds)
+    go r true q = omega arith
+    go r false q = omega (arith, r q)
+
+numbered : (ds : List Document) → runSize sizeDoc ds ≤ bookUnit → (l : List ℕ) → missing ds l ≡ none → All (λ (n : ℕ). bookWord ds n / bookUnit ≡ n) l
+numbered ds small [] h = none
+numbered ds small (n ∷ l) h =
+    go (findDocument n ds) refl h & numbered ds small l (missing-tail (findDocument n ds) n (missing ds l) h)
+  where
+    go : (o : Option Document) → findDocument n ds ≡ o → missingBy o n (missing ds l) ≡ none → bookWord ds n / bookUnit ≡ n
+    go none q r = absurd (let z : _≡_ {A = ℕ} 0 1 = cc in omega arith)
+    go (some d) q r = let below = place-in n 0 ds q in omega arith
+
+leaves-behind : (ds : List Document) (o pre left rest : List ℕ) → o ≡ pre ++ (waiting ds left ++ rest) → All (λ (n : ℕ). bookWord ds n / bookUnit ≡ n) left
+    → Leaves o (length pre) left
+leaves-behind ds o pre [] rest q a = tt
+leaves-behind ds o pre (n ∷ left) rest q (a & as′) =
+    let w = bookWord ds n in
+    let place : length pre * 1 + 0 ≡ length pre = omega arith in
+    let here : entryWord 1 (length pre) 0 o ≡ w = rw (place, q) (getD-at pre w (waiting ds left ++ rest) 0 (length pre) refl) in
+    let again : o ≡ (pre ++ (w ∷ [])) ++ (waiting ds left ++ rest) = q ∙ sym (append-assoc pre (w ∷ []) (waiting ds left ++ rest)) in
+    let long : length (pre ++ (w ∷ [])) ≡ length pre + 1 = length-append pre (w ∷ []) in
+    (ap (λ (x : ℕ). x / bookUnit) here ∙ a, rw long at (leaves-behind ds o (pre ++ (w ∷ [])) left rest again as′))
+
+pub leaves-are : {ds : List Document} {tree : List ℕ} {end : ℕ} {files left rest books set compiled : List ℕ}
+    → Stands ds tree end files left rest books set compiled → Leaves books (length files) left
+leaves-are {ds} {files = files} {left} {rest} {books} S =
+    leaves-behind ds books files left rest (S .words) (numbered ds (omega (arith, S .bundle .fills, S .limit)) left (S .there))

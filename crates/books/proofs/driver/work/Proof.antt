@@ -1,0 +1,165 @@
+-- `books::driver::work` meets its contract: too many records, no room for the beginning, and the books. Assumes nothing.
+-- Made from Proof.answers by `answers make`: edit that file, and not this one.
+use Rattle.books.proofs.DefinitionWays.{calm-definition}
+use Rattle.books.proofs.Beginning.{work-huge, work-full, work-on}
+use Rattle.books.specs.declared.documents.Book.{Book}
+use mathlib.Core.Path.{refl, ap, _∙_}
+use Rattle.books.proofs.driver.work.Statement.{statement}
+use Rattle.books.proofs.driver.work.Tie as tie
+use borrow.Author.Needs.{needs}
+use native.Mathlib.Omega.{arith}
+
+same-length : tie.Need-same-length
+same-length c = omega (arith, c .before .before .before .before .first-constants .kept)
+
+returns : tie.Need-returns
+returns c = work-huge (c .before .if1 .taken)
+
+same-length-2 : tie.Need-same-length-2
+same-length-2 c =
+    let c5 = c .before .before .before .before .before in
+    let c10 = c5 .before .before .before .before .before in
+    omega (arith, c10 .first-constants .kept, c5 .take-books .kept)
+
+same-length-3 : tie.Need-same-length-3
+same-length-3 c =
+    let c5 = c .before .before .before .before .before in
+    let c10 = c5 .before .before .before .before .before in
+    omega (arith, c10 .first-constants .kept, c5 .take-books .kept)
+
+returns-2 : tie.Need-returns-2
+returns-2 c =
+    let c5 = c .before .before .before .before .before in
+    let c10 = c5 .before .before .before .before .before in
+    work-full (c10 .first-constants .ensures) (c5 .take-books .ensures) (omega (arith, c10 .first-constants .kept)) calm-definition
+    (c .before .before .begun2 .ensures) (c .if2 .taken) 0 0
+
+drive-requires : tie.Need-drive-requires
+drive-requires c κs =
+    let c13 = c .before .before .before .before .before .before .before .before .before .before .before .before .before in
+    let c15 = c13 .before .before in
+    ap (λ (x : Book). x .full) (c15 .begun2 .ensures) ∙ c13 .if2 .left
+
+same-length-4 : tie.Need-same-length-4
+same-length-4 c =
+    let c25 = c .before .before .before .before .before .before .before .before .before .before .before .before .before .before .before .before .before .before .before .before .before .before .before .before .before in
+    let c44 = c25 .before .before .before .before .before .before .before .before .before .before .before .before .before .before .before .before .before .before .before in
+    let c49 = c44 .before .before .before .before .before in
+    omega (arith, c49 .first-constants .kept, c44 .take-books .kept, c25 .drive .kept)
+
+same-length-5 : tie.Need-same-length-5
+same-length-5 c =
+    let c25 = c .before .before .before .before .before .before .before .before .before .before .before .before .before .before .before .before .before .before .before .before .before .before .before .before .before in
+    let c44 = c25 .before .before .before .before .before .before .before .before .before .before .before .before .before .before .before .before .before .before .before in
+    let c49 = c44 .before .before .before .before .before in
+    omega (arith, c49 .first-constants .kept, c44 .take-books .kept, c25 .drive .kept)
+
+same-length-6 : tie.Need-same-length-6
+same-length-6 c =
+    let c25 = c .before .before .before .before .before .before .before .before .before .before .before .before .before .before .before .before .before .before .before .before .before .before .before .before .before in
+    let c44 = c25 .before .before .before .before .before .before .before .before .before .before .before .before .before .before .before .before .before .before .before in
+    let c49 = c44 .before .before .before .before .before in
+    omega (arith, c49 .first-constants .kept, c44 .take-books .kept, c25 .drive .kept)
+
+same-length-7 : tie.Need-same-length-7
+same-length-7 c =
+    let c25 = c .before .before .before .before .before .before .before .before .before .before .before .before .before .before .before .before .before .before .before .before .before .before .before .before .before in
+    let c44 = c25 .before .before .before .before .before .before .before .before .before .before .before .before .before .before .before .before .before .before .before in
+    let c49 = c44 .before .before .before .before .before in
+    omega (arith, c49 .first-constants .kept, c44 .take-books .kept, c25 .drive .kept)
+
+same-length-8 : tie.Need-same-length-8
+same-length-8 c =
+    let c25 = c .before .before .before .before .before .before .before .before .before .before .before .before .before .before .before .before .before .before .before .before .before .before .before .before .before in
+    let c44 = c25 .before .before .before .before .before .before .before .before .before .before .before .before .before .before .before .before .before .before .before in
+    let c49 = c44 .before .before .before .before .before in
+    omega (arith, c49 .first-constants .kept, c44 .take-books .kept, c25 .drive .kept)
+
+same-length-9 : tie.Need-same-length-9
+same-length-9 c =
+    let c25 = c .before .before .before .before .before .before .before .before .before .before .before .before .before .before .before .before .before .before .before .before .before .before .before .before .before in
+    let c44 = c25 .before .before .before .before .before .before .before .before .before .before .before .before .before .before .before .before .before .before .before in
+    let c49 = c44 .before .before .before .before .before in
+    omega (arith, c49 .first-constants .kept, c44 .take-books .kept, c25 .drive .kept)
+
+same-length-10 : tie.Need-same-length-10
+same-length-10 c =
+    let c25 = c .before .before .before .before .before .before .before .before .before .before .before .before .before .before .before .before .before .before .before .before .before .before .before .before .before in
+    let c44 = c25 .before .before .before .before .before .before .before .before .before .before .before .before .before .before .before .before .before .before .before in
+    let c49 = c44 .before .before .before .before .before in
+    omega (arith, c49 .first-constants .kept, c44 .take-books .kept, c25 .drive .kept)
+
+same-length-11 : tie.Need-same-length-11
+same-length-11 c =
+    let c25 = c .before .before .before .before .before .before .before .before .before .before .before .before .before .before .before .before .before .before .before .before .before .before .before .before .before in
+    let c44 = c25 .before .before .before .before .before .before .before .before .before .before .before .before .before .before .before .before .before .before .before in
+    let c49 = c44 .before .before .before .before .before in
+    omega (arith, c49 .first-constants .kept, c44 .take-books .kept, c25 .drive .kept)
+
+same-length-12 : tie.Need-same-length-12
+same-length-12 c =
+    let c25 = c .before .before .before .before .before .before .before .before .before .before .before .before .before .before .before .before .before .before .before .before .before .before .before .before .before in
+    let c44 = c25 .before .before .before .before .before .before .before .before .before .before .before .before .before .before .before .before .before .before .before in
+    let c49 = c44 .before .before .before .before .before in
+    omega (arith, c49 .first-constants .kept, c44 .take-books .kept, c25 .drive .kept)
+
+same-length-13 : tie.Need-same-length-13
+same-length-13 c =
+    let c25 = c .before .before .before .before .before .before .before .before .before .before .before .before .before .before .before .before .before .before .before .before .before .before .before .before .before in
+    let c44 = c25 .before .before .before .before .before .before .before .before .before .before .before .before .before .before .before .before .before .before .before in
+    let c49 = c44 .before .before .before .before .before in
+    omega (arith, c49 .first-constants .kept, c44 .take-books .kept, c25 .drive .kept)
+
+same-length-14 : tie.Need-same-length-14
+same-length-14 c =
+    let c25 = c .before .before .before .before .before .before .before .before .before .before .before .before .before .before .before .before .before .before .before .before .before .before .before .before .before in
+    let c44 = c25 .before .before .before .before .before .before .before .before .before .before .before .before .before .before .before .before .before .before .before in
+    let c49 = c44 .before .before .before .before .before in
+    omega (arith, c49 .first-constants .kept, c44 .take-books .kept, c25 .drive .kept)
+
+same-length-15 : tie.Need-same-length-15
+same-length-15 c =
+    let c25 = c .before .before .before .before .before .before .before .before .before .before .before .before .before .before .before .before .before .before .before .before .before .before .before .before .before in
+    let c44 = c25 .before .before .before .before .before .before .before .before .before .before .before .before .before .before .before .before .before .before .before in
+    let c49 = c44 .before .before .before .before .before in
+    omega (arith, c49 .first-constants .kept, c44 .take-books .kept, c25 .drive .kept)
+
+returns-3 : tie.Need-returns-3
+returns-3 c =
+    let c25 = c .before .before .before .before .before .before .before .before .before .before .before .before .before .before .before .before .before .before .before .before .before .before .before .before .before in
+    let c39 = c25 .before .before .before .before .before .before .before .before .before .before .before .before .before .before in
+    let c41 = c39 .before .before in
+    let c44 = c41 .before .before .before in
+    let c49 = c44 .before .before .before .before .before in
+    work-on (c49 .first-constants .ensures) (c44 .take-books .ensures) (omega (arith, c49 .first-constants .kept)) calm-definition (c41 .begun2 .ensures)
+    (c39 .if2 .left) refl
+    (c25 .drive .ensures)
+
+pub work-spec : {M : Type 1} → statement M
+work-spec =
+    tie.close
+    (tie.spec
+    (λ c κs. search needs)
+    (λ c κs. search needs)
+    same-length
+    returns
+    (λ c κs. search needs)
+    (λ c κs. search needs)
+    same-length-2
+    same-length-3
+    returns-2
+    (λ c. search needs)
+    drive-requires
+    same-length-4
+    same-length-5
+    same-length-6
+    same-length-7
+    same-length-8
+    same-length-9
+    same-length-10
+    same-length-11
+    same-length-12
+    same-length-13
+    same-length-14
+    same-length-15
+    returns-3)

@@ -1,0 +1,58 @@
+-- `books::functions::implement_function` meets its contract: the function, whether an instance's or not, is added. Assumes nothing.
+-- Made from Proof.answers by `answers make`: edit that file, and not this one.
+use Rattle.books.proofs.ImplementWays.{one-meets}
+use Rattle.books.proofs.functions.implement_function.Statement.{statement}
+use Rattle.books.proofs.functions.implement_function.Tie as tie
+use borrow.Author.Needs.{needs}
+use native.Mathlib.Omega.{arith}
+
+same-length : tie.Need-same-length
+same-length c =
+    let c14 = c .before .before .before .before .before .before .before .before .before .before .before .before .before .before in
+    omega (arith, c14 .make .kept, c .before .before .add-function .kept)
+
+same-length-2 : tie.Need-same-length-2
+same-length-2 c =
+    let c14 = c .before .before .before .before .before .before .before .before .before .before .before .before .before .before in
+    omega (arith, c14 .make .kept, c .before .before .add-function .kept)
+
+same-length-3 : tie.Need-same-length-3
+same-length-3 c =
+    let c14 = c .before .before .before .before .before .before .before .before .before .before .before .before .before .before in
+    omega (arith, c14 .make .kept, c .before .before .add-function .kept)
+
+same-length-4 : tie.Need-same-length-4
+same-length-4 c =
+    let c14 = c .before .before .before .before .before .before .before .before .before .before .before .before .before .before in
+    omega (arith, c14 .make .kept, c .before .before .add-function .kept)
+
+same-length-5 : tie.Need-same-length-5
+same-length-5 c =
+    let c14 = c .before .before .before .before .before .before .before .before .before .before .before .before .before .before in
+    omega (arith, c14 .make .kept, c .before .before .add-function .kept)
+
+same-length-6 : tie.Need-same-length-6
+same-length-6 c =
+    let c14 = c .before .before .before .before .before .before .before .before .before .before .before .before .before .before in
+    omega (arith, c14 .make .kept, c .before .before .add-function .kept)
+
+returns : tie.Need-returns
+returns c =
+    let c14 = c .before .before .before .before .before .before .before .before .before .before .before .before .before .before in
+    let c20 = c14 .before .before .before .before .before .before in
+    one-meets (c14 .make .ensures) (c20 .field .ensures) (c .before .before .add-function .ensures)
+
+pub implement-function-spec : {M : Type 1} → statement M
+implement-function-spec =
+    tie.close
+    (tie.spec
+    (λ c κs. search needs)
+    (λ c κs. search needs)
+    (λ c κs. search needs)
+    same-length
+    same-length-2
+    same-length-3
+    same-length-4
+    same-length-5
+    same-length-6
+    returns)

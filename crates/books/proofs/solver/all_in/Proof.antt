@@ -1,0 +1,75 @@
+-- `books::solver::all_in` meets its contract. The invariant: what is answered from here is answered from the start. Assumes nothing.
+-- Made from Proof.answers by `answers make`: edit that file, and not this one.
+use Prim.Native.Nat.{_-_}
+use mathlib.Core.Path.{sym, _∙_}
+use mathlib.Core.Bool.{Bool}
+use borrow.Author.Tests.{not-true, not-false}
+use Rattle.books.specs.Solving.{AllIncluded}
+use Rattle.books.proofs.Tokens.{skip-more}
+use Rattle.books.proofs.BookWays.{all-end, all-other, all-more, all-not}
+use Rattle.books.proofs.solver.all_in.Statement.{statement}
+use Rattle.books.proofs.solver.all_in.Tie as tie
+use borrow.Author.Needs.{needs}
+use native.Mathlib.Omega.{arith}
+
+abbrev Inv-loop : tie.InvT-loop
+Inv-loop tree at end set j₀ j = (r : Bool) → AllIncluded tree j end set r → AllIncluded tree at end set r
+
+abbrev μ-loop : tie.MeasureT-loop
+μ-loop tree at end set j₀ j = end - j
+
+loop-holds : tie.Need-loop-holds Inv-loop μ-loop
+loop-holds c = λ r h. h
+
+returns : tie.Need-returns Inv-loop μ-loop
+returns c =
+    let c6 = c .before .before .before .before .before .before in
+    c .before .before .before .loop .inv _ (all-other (c6 .args .tree .now) (c .before .before .before .loop .j) (c6 .args .end) (c6 .args .set .now)
+    (c .before .field .ensures) (c .if1 .taken))
+
+returns-2 : tie.Need-returns-2 Inv-loop μ-loop
+returns-2 c =
+    let c5 = c .before .before .before .before .before in
+    let c6 = c5 .before in
+    let c9 = c6 .before .before .before in
+    c6 .loop .inv _ (all-not (c9 .args .tree .now) (c6 .loop .j) (c9 .args .end) (c9 .args .set .now) (c5 .loop-test .taken)
+    (c .before .before .before .before .field .ensures) (c .before .before .before .if1 .left) (c .before .before .field2 .ensures)
+    (sym (not-true _ (c .if2 .taken)) ∙ c .before .has .ensures))
+
+loop-less : tie.Need-loop-less Inv-loop μ-loop
+loop-less c =
+    let c6 = c .before .before .before .before .before .before in
+    let c7 = c6 .before in
+    let c10 = c7 .before .before .before in
+    omega (arith, c6 .loop-test .taken, skip-more (c10 .args .tree .now) (c7 .loop .j) (c10 .args .end) (c6 .loop-test .taken) (c .skip .ensures))
+
+loop-again : tie.Need-loop-again Inv-loop μ-loop
+loop-again c =
+    let c5 = c .before .before .before .before .before in
+    let c6 = c5 .before in
+    let c7 = c6 .before in
+    let c10 = c7 .before .before .before in
+    λ r h. c7 .loop .inv r (all-more (c10 .args .tree .now) (c7 .loop .j) (c10 .args .end) (c10 .args .set .now) (c6 .loop-test .taken) (c5 .field .ensures)
+    (c .before .before .before .before .if1 .left) (c .before .before .before .field2 .ensures)
+    (sym (not-false _ (c .before .if2 .left)) ∙ c .before .before .has .ensures) (c .skip .ensures) h)
+
+returns-3 : tie.Need-returns-3 Inv-loop μ-loop
+returns-3 c = c .before .loop .inv _ (all-end (c .before .before .before .before .args .tree .now) (c .before .loop .j)
+    (c .before .before .before .before .args .end) (c .before .before .before .before .args .set .now) (c .loop-test .left))
+
+pub all-in-spec : {M : Type 1} → statement M
+all-in-spec =
+    tie.close
+    (tie.spec
+    Inv-loop
+    μ-loop
+    loop-holds
+    (λ c κs. search needs)
+    returns
+    (λ c κs. search needs)
+    (λ c κs. tt)
+    returns-2
+    (λ c κs. tt)
+    loop-less
+    loop-again
+    returns-3)

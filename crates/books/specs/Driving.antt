@@ -1,0 +1,216 @@
+-- What the routines above a book's definitions promise: a definition, a document, and the areas between two books
+use Prim.Native.Nat.{ℕ, _+_, _/_, _≤_, _<_}
+use mathlib.Core.Path.{_≡_}
+use mathlib.Core.Option.{none}
+use mathlib.Core.Bool.{cond}
+use lib.Dec.{eqb}
+use mathlib.Core.List.{List, [], _∷_, _++_}
+use lib.ListN.{length, replicate}
+use Rattle.words.specs.Ast.{Definition, Document}
+use Rattle.words.specs.Areas.{entriesIn, entryWord, entryField, constantsArea, errorsArea, booksArea}
+use Rattle.words.specs.Object.{Constant, defaultConstants}
+use Rattle.tree.specs.At.{DefinitionAt, sizeD, DocumentAt, sizeDoc, RunAt, runSize}
+use Rattle.definition.specs.Uses.{Use, Limits, firstOver}
+use Rattle.definition.specs.Compiler.{Error}
+use Rattle.definition.specs.Program.{bit, entriesFrom, constantEntry, errorEntry, globalDependencies}
+use Rattle.definition.specs.DependencySolver.{needed, missing, compileNeeded, filesOf, drive, Ending, Delivered, Faulty, Ring, Worked}
+use Rattle.definition.specs.Answer.{Refusal, ringErrors, answerWorked, limitsOf, answer}
+use Rattle.tree.specs.Check.{shapeOf}
+use Rattle.tree.specs.Reading.{documentsOf}
+use Rattle.tree.specs.declared.Shape.the-variants.{Fine}
+use Rattle.definition.specs.Book.{hasText, newContext, Context, Book, opened, compileDefinition, compileDefinitions}
+use Rattle.definition.specs.Within.{All}
+use Rattle.definition.proofs.Limits.{LimitedFunction, LimitedDocument, functionsIn}
+use Rattle.building.specs.declared.taking.Taken.{Taken}
+use Rattle.building.specs.Held.{Filled, Marks, Sized}
+use Rattle.books.specs.declared.documents.Book as struct
+use Rattle.books.specs.Sets.{SetIs, Ascends}
+use Rattle.books.specs.Solving.{bookUnit, Bundle, Distinct, Stands}
+use Rattle.books.specs.Shelf.{Shelf, shelf, Fitted, Keeping, Shelved}
+
+-- `definition`: of the one that stands at a place and ends at the end
+pub record MeetsDefinition (tree : List ℕ) (at end : ℕ) (books : List ℕ) (m m′ : Shelf) : Type 0 where
+  pub meets : (d : Definition) → DefinitionAt d tree at → at + sizeD d ≡ end → All LimitedFunction (functionsIn d) → (κ : Limits) (b : Book)
+      → Shelved books (b .context .assemblies) → Keeping κ [] m b → Keeping κ [] m′ (compileDefinition d b)
+
+-- those from a place up to the end
+pub record MeetsDefinitions (tree : List ℕ) (at end : ℕ) (books : List ℕ) (m m′ : Shelf) : Type 0 where
+  pub meets : (ds : List Definition) → RunAt DefinitionAt sizeD ds tree at → at + runSize sizeD ds ≡ end
+      → All (λ (d : Definition). All LimitedFunction (functionsIn d)) ds → (κ : Limits) (b : Book)
+      → Shelved books (b .context .assemblies) → Keeping κ [] m b → Keeping κ [] m′ (compileDefinitions ds b)
+
+-- the counts as a book finds them that is the next to be compiled
+abbrev pub openedBook : struct.Book → ℕ → struct.Book
+openedBook s index = record {
+  full = s .full;
+  code = s .code;
+  constants = s .constants;
+  functions = s .functions;
+  models = s .models;
+  properties = s .properties;
+  methods = s .methods;
+  locals = s .locals;
+  publics = s .publics;
+  errors = s .errors;
+  file = index;
+  «first_local» = s .locals;
+  «first_public» = s .publics;
+  «entry_point» = s .«entry_point»;
+}
+
+abbrev pub nobody : Document
+nobody = record { filename = 0; definitions = [] }
+
+-- between two books the areas stand for a context: they are ready for the next book, whichever it is
+pub record Resting (κ : Limits) (s : struct.Book) (c k f m p t l u n b e : List ℕ) (context : Context) (uses : List Use) : Type 0 where
+  pub ready : Keeping κ [] (shelf (openedBook s (length (context .assemblies))) c k f m p t l u n b e) (opened nobody context uses)
+
+-- `document`: of the one that stands at a place and ends at the end, as the book of an index
+pub record MeetsDocument (tree : List ℕ) (at end index : ℕ) (books : List ℕ) (s : struct.Book) (c k f m p t l u n b e : List ℕ) (m′ : Shelf) : Type 0 where
+  pub meets : (d : Document) → DocumentAt d tree at → at + sizeDoc d ≡ end → LimitedDocument d → (κ : Limits) (context : Context) (uses : List Use)
+      → index ≡ length (context .assemblies) → Shelved books (context .assemblies) → Resting κ s c k f m p t l u n b e context uses
+      → Keeping κ [] m′ (compileDefinitions (d .definitions) (opened d context uses))
+
+-- the books that are left stand behind those compiled, each in an entry of area 12 that begins with its file number
+abbrev pub Leaves : List ℕ → ℕ → List ℕ → Type 0
+Leaves o i [] = Unit {0}
+Leaves o i (n ∷ ns) = (entryWord 1 i 0 o / bookUnit ≡ n) × Leaves o (i + 1) ns
+
+-- an error for each book left, behind those that stand: all of them, or the mark
+pub record Rung (es : List Error) (left e : List ℕ) (r : Taken) (e′ : List ℕ) : Type 0 where
+  pub long : length e′ ≡ length e
+  pub fits : length es + length left ≤ entriesIn 4 (length e)
+      → (r .full ≡ 0) × Filled 4 e′ (entriesFrom errorEntry 0 (es ++ ringErrors left)) (r .count)
+  pub over : entriesIn 4 (length e) < length es + length left → r .full ≡ errorsArea
+
+-- `ring`
+pub record Rings (i count : ℕ) (o : List ℕ) (t : Taken) (e : List ℕ) (r : Taken) (e′ : List ℕ) : Type 0 where
+  pub rings : (es : List Error) (left : List ℕ) → Leaves o i left → i + length left ≡ count → t .full ≡ 0
+      → Filled 4 e (entriesFrom errorEntry 0 es) (t .count) → Rung es left e r e′
+  pub stays : (t .full ≡ 0 → ⊥) → (r .full ≡ t .full) × (length e′ ≡ length e)
+
+-- the work that is left after rows 2 to 6: the documents, their order's numbers, and the answer by them
+pub record Accepted (tree set : List ℕ) (root : Document) (others : List Document) : Type 0 where
+  pub fine : shapeOf tree ≡ Fine
+  pub documents : documentsOf tree ≡ root ∷ others
+  pub bundle : Bundle (root ∷ others) tree 0 (length tree / 4)
+  pub distinct : Distinct (root ∷ others)
+  pub chosen : SetIs set (needed [] root others)
+  pub there : missing (root ∷ others) (needed [] root others) ≡ none
+  pub answers : (lengths : List ℕ)
+      → answer tree lengths ≡ answerWorked (limitsOf lengths) (compileNeeded (needed [] root others) (root ∷ others) newContext)
+
+-- `front`: a row of 2 to 6 and its place, or row 0 and the work that is left
+pub record Fronts (tree : List ℕ) (row place : ℕ) (set : List ℕ) : Type 0 where
+  pub refused : (row ≡ 0 → ⊥) → (lengths : List ℕ) → answer tree lengths ≡ Refusal row place []
+  pub accepted : row ≡ 0 → (root : Document) × ((others : List Document) × Accepted tree set root others)
+
+-- how the books end, where nothing is full: `rest` is what stands in area 12 behind the books; of a delivery `place` is the number of books
+pub data Came (κ : Limits) (s : struct.Book) (c k f m p t l u n b e books rest : List ℕ) (row place : ℕ) (uses : List Use) : Ending → Type 0 where
+  came-delivered : {context : Context} → row ≡ 0 → place ≡ length (context .assemblies) → Resting κ s c k f m p t l u n b e context uses → books ≡ filesOf (context .assemblies) ++ rest
+      → Came κ s c k f m p t l u n b e books rest row place uses (Delivered context)
+  came-faulty : {file : ℕ} {es : List Error} → row ≡ 7 → place ≡ file → Filled 4 e (entriesFrom errorEntry 0 es) (s .errors)
+      → Came κ s c k f m p t l u n b e books rest row place uses (Faulty file es)
+  came-ring : {left : List ℕ} → row ≡ 8 → place ≡ length left → Filled 4 e (entriesFrom errorEntry 0 (ringErrors left)) (s .errors)
+      → Came κ s c k f m p t l u n b e books rest row place uses (Ring left)
+
+pub record Outcome (κ : Limits) (s : struct.Book) (c k f m p t l u n b e books rest : List ℕ) (row place : ℕ) (w : Worked) : Type 0 where
+  pub full : Marks (firstOver κ (w .uses)) (s .full)
+  pub came : s .full ≡ 0 → Came κ s c k f m p t l u n b e books rest row place (w .uses) (w .ending)
+
+-- where the work stands: the books that are left, those compiled, and the areas between two books
+pub record Driving (ds : List Document) (tree : List ℕ) (end done count : ℕ) (left rest compiled set books : List ℕ) (κ : Limits) (s : struct.Book)
+    (c k f m p t l u n b e : List ℕ) (context : Context) (uses : List Use) : Type 0 where
+  pub distinct : Distinct ds
+  pub limited : All LimitedDocument ds
+  pub ascends : Ascends 0 left
+  pub stands : Stands ds tree end (filesOf (context .assemblies)) left rest books set compiled
+  pub so-many : done ≡ length (context .assemblies)
+  pub in-all : count ≡ done + length left
+  pub resting : Resting κ s c k f m p t l u n b e context uses
+
+-- `drive`
+pub record Drives (tree : List ℕ) (end done count : ℕ) (set books : List ℕ) (s : struct.Book) (c k f m p t l u n b e : List ℕ)
+    (s′ : struct.Book) (c′ k′ f′ m′ p′ t′ l′ u′ n′ b′ e′ books′ : List ℕ) (row place : ℕ) : Type 0 where
+  pub drives : (ds : List Document) (left rest compiled : List ℕ) (κ : Limits) (context : Context) (uses : List Use)
+      → Driving ds tree end done count left rest compiled set books κ s c k f m p t l u n b e context uses
+      → Outcome κ s′ c′ k′ f′ m′ p′ t′ l′ u′ n′ b′ e′ books′ rest row place (drive (length left) ds compiled left context uses)
+
+-- nothing but zeros
+abbrev pub Zero : List ℕ → Type 0
+Zero l = l ≡ replicate (length l) 0
+
+-- `first_constants`: null, true and false
+pub record FirstConstants (k : List ℕ) (r : Taken) (k′ : List ℕ) : Type 0 where
+  pub fits : Zero k → 3 ≤ entriesIn 3 (length k) → (r .full ≡ 0) × Filled 3 k′ (entriesFrom (constantEntry []) 0 defaultConstants) (r .count)
+  pub over : Zero k → entriesIn 3 (length k) < 3 → r .full ≡ constantsArea
+
+-- the areas are as long as the limits say, area 12 too
+pub record Lent (κ : Limits) (s : struct.Book) (c k f m p t l u n b e o : List ℕ) : Type 0 where
+  pub fitted : Fitted κ (shelf s c k f m p t l u n b e)
+  pub books : Sized κ booksArea o
+
+-- and hold zeros
+pub record Cleared (c k f m p t l u n b e o : List ℕ) : Type 0 where
+  pub code : Zero c
+  pub constants : Zero k
+  pub functions : Zero f
+  pub models : Zero m
+  pub properties : Zero p
+  pub methods : Zero t
+  pub locals : Zero l
+  pub publics : Zero u
+  pub names : Zero n
+  pub breaks : Zero b
+  pub errors : Zero e
+  pub books : Zero o
+
+-- `work`: all the books of a bundle, into areas of zeros
+pub record Works (tree set : List ℕ) (c k f m p t l u n b e o : List ℕ) (s′ : struct.Book) (c′ k′ f′ m′ p′ t′ l′ u′ n′ b′ e′ o′ : List ℕ)
+    (row place : ℕ) : Type 0 where
+  pub works : (root : Document) (others : List Document) → Accepted tree set root others → Cleared c k f m p t l u n b e o → (κ : Limits)
+      → ((s : struct.Book) → Lent κ s c k f m p t l u n b e o)
+      → (rest : List ℕ) × (Zero rest × Outcome κ s′ c′ k′ f′ m′ p′ t′ l′ u′ n′ b′ e′ o′ rest row place
+      (compileNeeded (needed [] root others) (root ∷ others) newContext))
+
+-- `count_marked`: the constants from a place on that are marked, n counted before it
+pub record MarkedFrom (k : List ℕ) (i count n r : ℕ) : Type 0 where
+  pub marked : (gs : List ℕ) (cs : List Constant) → ((j : ℕ) → j < length cs → entryField 3 (i + j) 2 k ≡ bit (hasText (i + j) gs)) → i + length cs ≡ count
+      → r ≡ n + globalDependencies gs i cs
+
+-- `one_if`: a mark of 1
+abbrev pub markOf : ℕ → ℕ
+markOf word = cond (eqb word 1) 1 0
+
+-- `clear_program`: zeros in every area but that of the errors
+pub record Emptied (c k f m p t l u n b o : List ℕ) : Type 0 where
+  pub code : Zero c
+  pub constants : Zero k
+  pub functions : Zero f
+  pub models : Zero m
+  pub properties : Zero p
+  pub methods : Zero t
+  pub locals : Zero l
+  pub publics : Zero u
+  pub names : Zero n
+  pub breaks : Zero b
+  pub books : Zero o
+
+-- the counts of the beginning
+abbrev pub begunBook : Taken → ℕ → struct.Book
+begunBook t constants = record {
+  full = t .full;
+  code = 0;
+  constants = constants;
+  functions = 0;
+  models = 0;
+  properties = 0;
+  methods = 0;
+  locals = 0;
+  publics = 0;
+  errors = 0;
+  file = 0;
+  «first_local» = 0;
+  «first_public» = 0;
+  «entry_point» = 0;
+}

@@ -1,0 +1,65 @@
+-- Sets of file numbers in words: one bit for each number below 2^20, 64 to a word
+use Prim.Native.Nat.{ℕ, _+_, _/_, _%_, _^_, _≤_, _<_}
+use mathlib.Core.Path.{_≡_}
+use mathlib.Core.Bool.{Bool, true, false, cond, not}
+use mathlib.Core.List.{List, [], _∷_}
+use lib.ListN.{length, getD, set}
+use lib.Dec.{eqb}
+use lib.Bits.{bitOr}
+use Rattle.definition.specs.Book.{hasText}
+
+-- numbers in sets are below this
+abbrev pub setSize : ℕ
+setSize = 1048576
+
+abbrev pub setWords : ℕ
+setWords = 16384
+
+unfoldable pub bitOf : List ℕ → ℕ → Bool
+bitOf bits n = eqb (getD bits (n / 64) 0 / 2 ^ (n % 64) % 2) 1
+
+unfoldable pub addBit : List ℕ → ℕ → List ℕ
+addBit bits n = cond (bitOf bits n) bits (set bits (n / 64) (bitOr (getD bits (n / 64) 0) (2 ^ (n % 64))))
+
+-- what `add` does, and answers: whether the number is new
+pub record Added (bits : List ℕ) (n : ℕ) (after : List ℕ) (fresh : Bool) : Type 0 where
+  pub words : after ≡ addBit bits n
+  pub is-new : fresh ≡ not (bitOf bits n)
+
+-- words hold the set of a list's numbers
+pub record SetIs (bits l : List ℕ) : Type 0 where
+  pub sized : length bits ≡ setWords
+  pub has : (n : ℕ) → n < setSize → bitOf bits n ≡ hasText n l
+
+-- a number further on, with none of the set between
+pub record Passes (bits : List ℕ) (n r : ℕ) : Type 0 where
+  pub on : n < r
+  pub last : r ≤ setSize
+  pub between : (m : ℕ) → n < m → m < r → bitOf bits m ≡ false
+
+-- the first number from a place on that is in the set, else setSize
+pub record NextIn (bits : List ℕ) (from r : ℕ) : Type 0 where
+  pub on : from ≤ r
+  pub last : r ≤ setSize
+  pub between : (n : ℕ) → from ≤ n → n < r → bitOf bits n ≡ false
+  pub here : r < setSize → bitOf bits r ≡ true
+
+-- numbers that a set has a bit for
+abbrev pub Below : List ℕ → Type 0
+Below [] = Unit {0}
+Below (n ∷ ns) = (n < setSize) × Below ns
+
+-- numbers that ascend from one on, without repeats
+abbrev pub Ascends : ℕ → List ℕ → Type 0
+Ascends k [] = Unit {0}
+Ascends k (x ∷ xs) = (k ≤ x) × Ascends (x + 1) xs
+
+-- numbers into a set, one after the other
+abbrev pub addBits : List ℕ → List ℕ → List ℕ
+addBits bits [] = bits
+addBits bits (n ∷ ns) = addBits (addBit bits n) ns
+
+-- whether numbers are all in a set
+abbrev pub allBits : List ℕ → List ℕ → Bool
+allBits bits [] = true
+allBits bits (n ∷ ns) = cond (bitOf bits n) (allBits bits ns) false

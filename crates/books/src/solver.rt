@@ -1,0 +1,275 @@
+// `backend/dependency_solver.rs`: the books that a bundle needs and the next that is ready. Sets of file numbers are words of bits.
+ghost use mathlib.Core.Path.{_≡_};
+ghost use mathlib.Core.Bool.{true, false, cond};
+ghost use Prim.Native.Nat.{_≤_, _<_};
+ghost use lib.ListN.{length};
+ghost use Rattle.books.specs.Sets.{bitOf, Added, NextIn, Passes, setSize};
+ghost use Rattle.books.specs.Solving.{FindsTwice, Includes, Reaches, Needs, Misses, FindsDocument, TakesBooks, AllIncluded, FindsReady, Brings};
+ghost use Rattle.words.specs.Record.{mostRecords};
+use crate::body::skip;
+use building::scopes::Found;
+use building::taking;
+use words::areas;
+use words::record;
+use words::record::field;
+
+// Numbers in sets are below this: every text number is.
+const SET_SIZE: u64 = 1048576;
+
+// A book that waits in area 12 is its file number times this and the place of its document.
+pub(crate) const BOOK_UNIT: u64 = 1048576;
+
+pub(crate) fn has(set: &[u64], n: u64) -> bool
+    ensures { λ r. ⌜ r ≡ bitOf (now (set .entry)) n ⌝ }
+{
+    let at = (n / 64) as usize;
+    if at < set.len() {
+        return (set[at] >> (n % 64)) % 2 == 1;
+    }
+    false
+}
+
+// Whether it is new.
+pub(crate) fn add(set: &mut [u64], n: u64) -> bool
+    ensures { λ r. ⌜ Added (now (set .entry)) n (now (set .exit)) r ⌝ }
+{
+    if has(set, n) {
+        return false;
+    }
+    let at = (n / 64) as usize;
+    if at < set.len() {
+        set[at] = set[at] | (1 << (n % 64));
+    }
+    true
+}
+
+// The first from `from` on that is in the set, or SET_SIZE; words without a bit are passed over.
+fn next_in(set: &[u64], from: u64) -> u64
+    requires { ⌜ from ≤ setSize ⌝ }
+    ensures { λ r. ⌜ NextIn (now (set .entry)) from r ⌝ }
+{
+    let mut n = from;
+    while n < SET_SIZE {
+        if has(set, n) {
+            return n;
+        }
+        n = after(set, n);
+    }
+    n
+}
+
+// The next number, or where the number's word has no bit the next word's first.
+fn after(set: &[u64], n: u64) -> u64
+    requires { ⌜ n < setSize ⌝ }
+    ensures { λ r. ⌜ Passes (now (set .entry)) n r ⌝ }
+{
+    let at = (n / 64) as usize;
+    if at < set.len() {
+        if set[at] == 0 {
+            return (n / 64 + 1) * 64;
+        }
+    }
+    n + 1
+}
+
+// Row 5: the first document whose file number an earlier one has; `present` gets the file numbers.
+pub(crate) fn twice(tree: &[u64], end: usize, present: &mut [u64]) -> Found
+    ensures { λ r. ⌜ FindsTwice (now (tree .entry)) end (now (present .entry)) r (now (present .exit)) ⌝ }
+{
+    let mut i: usize = 0;
+    while i < end {
+        let file = field(tree, i, record::VALUE);
+        if !add(present, file) {
+            return Found::At(i as u64);
+        }
+        i = skip(tree, i, end);
+    }
+    Found::Nothing
+}
+
+fn either(a: bool, b: bool) -> bool
+    ensures { λ r. ⌜ r ≡ cond a true b ⌝ }
+{
+    if a {
+        return true;
+    }
+    b
+}
+
+// The includes ahead of the first other definition, into the set. Whether there was a new one, or `any`.
+fn add_includes(tree: &[u64], at: usize, end: usize, any: bool, set: &mut [u64]) -> bool
+    ensures { λ r. ⌜ Includes (now (tree .entry)) at end any (now (set .entry)) (now (set .exit)) r ⌝ }
+{
+    let mut grew = any;
+    let mut j = at;
+    while j < end {
+        let kind = field(tree, j, record::KIND);
+        if kind != record::INCLUDE_DEFINITION {
+            return grew;
+        }
+        let file = field(tree, j, record::VALUE);
+        let fresh = add(set, file);
+        grew = either(grew, fresh);
+        j = skip(tree, j, end);
+    }
+    grew
+}
+
+// One reading of the documents: the includes of those in the set, into the next. Whether there was a new one.
+fn reach(tree: &[u64], end: usize, set: &[u64], next: &mut [u64]) -> bool
+    ensures { λ r. ⌜ Reaches (now (tree .entry)) 0 end (now (set .entry)) false (now (next .entry)) (now (next .exit)) r ⌝ }
+{
+    let mut grew = false;
+    let mut i: usize = 0;
+    while i < end {
+        let last = skip(tree, i, end);
+        let file = field(tree, i, record::VALUE);
+        if has(set, file) {
+            grew = add_includes(tree, i + 1, last, grew, next);
+        }
+        i = last;
+    }
+    grew
+}
+
+fn copy(from: &[u64], to: &mut [u64])
+    requires { ⌜ length (now from) ≡ length (now to) ⌝ }
+    ensures { λ _. ⌜ now (to .exit) ≡ now (from .entry) ⌝ }
+{
+    let mut i: usize = 0;
+    while i < from.len() {
+        to[i] = from[i];
+        i += 1;
+    }
+}
+
+// The books needed, from two empty sets: as many rounds as there are documents, or until one finds nothing new.
+pub(crate) fn needed(tree: &[u64], end: usize, set: &mut [u64], next: &mut [u64])
+    requires { ⌜ now next ≡ now set ⌝ }
+    ensures { λ _. ⌜ Needs (now (tree .entry)) end (now (set .entry)) (now (set .exit)) ⌝ }
+{
+    let root = field(tree, 0, record::VALUE);
+    add(set, root);
+    add(next, root);
+    let mut i: usize = 0;
+    while i < end {
+        if !reach(tree, end, set, next) {
+            return;
+        }
+        copy(next, set);
+        i = skip(tree, i, end);
+    }
+}
+
+// Row 6: the smallest file number that is needed and absent.
+pub(crate) fn missing(needed: &[u64], present: &[u64]) -> Found
+    ensures { λ r. ⌜ Misses (now (needed .entry)) (now (present .entry)) r ⌝ }
+{
+    let mut from: u64 = 0;
+    while from < SET_SIZE {
+        let n = next_in(needed, from);
+        if SET_SIZE <= n {
+            return Found::Nothing;
+        }
+        if !has(present, n) {
+            return Found::At(n);
+        }
+        from = n + 1;
+    }
+    Found::Nothing
+}
+
+fn find_document(tree: &[u64], end: usize, file: u64) -> usize
+    ensures { λ r. ⌜ FindsDocument (now (tree .entry)) 0 end file r ⌝ }
+{
+    let mut i: usize = 0;
+    while i < end {
+        let there = field(tree, i, record::VALUE);
+        if there == file {
+            return i;
+        }
+        i = skip(tree, i, end);
+    }
+    i
+}
+
+// The books needed, ascending, each an entry of area 12.
+pub(crate) fn take_books(
+    tree: &[u64],
+    end: usize,
+    needed: &[u64],
+    full: u64,
+    books: &mut [u64],
+) -> taking::Taken
+    requires { ⌜ end ≤ mostRecords ⌝ }
+    ensures { λ r. ⌜ TakesBooks (now (tree .entry)) end (now (needed .entry)) full (now (books .entry)) r (now (books .exit)) ⌝ }
+{
+    let mut t = taking::Taken { full, count: 0 };
+    let mut from: u64 = 0;
+    while from < SET_SIZE {
+        let n = next_in(needed, from);
+        if SET_SIZE <= n {
+            return t;
+        }
+        let at = find_document(tree, end, n) as u64;
+        t = taking::take1(books, areas::BOOKS, t.full, t.count, n * BOOK_UNIT + at);
+        from = n + 1;
+    }
+    t
+}
+
+// Whether the includes ahead of the first other definition are all in the set.
+fn all_in(tree: &[u64], at: usize, end: usize, set: &[u64]) -> bool
+    ensures { λ r. ⌜ AllIncluded (now (tree .entry)) at end (now (set .entry)) r ⌝ }
+{
+    let mut j = at;
+    while j < end {
+        let kind = field(tree, j, record::KIND);
+        if kind != record::INCLUDE_DEFINITION {
+            return true;
+        }
+        let file = field(tree, j, record::VALUE);
+        if !has(set, file) {
+            return false;
+        }
+        j = skip(tree, j, end);
+    }
+    true
+}
+
+// The first of the waiting books, from entry `done` on, whose includes are all compiled; the count where there is none.
+pub(crate) fn next_ready(
+    tree: &[u64],
+    end: usize,
+    done: usize,
+    count: usize,
+    compiled: &[u64],
+    books: &[u64],
+) -> usize
+    ensures { λ r. ⌜ FindsReady (now (tree .entry)) end done count (now (compiled .entry)) (now (books .entry)) r ⌝ }
+{
+    let mut k = done;
+    while k < count {
+        let entry = areas::entry_word(books, areas::BOOK_WORDS, k, 0);
+        let at = (entry % BOOK_UNIT) as usize;
+        let last = skip(tree, at, end);
+        if all_in(tree, at + 1, last, compiled) {
+            return k;
+        }
+        k += 1;
+    }
+    k
+}
+
+// The file number of the book at entry k goes to the place of the first waiting one, those between one up.
+pub(crate) fn bring(books: &mut [u64], done: usize, k: usize, file: u64)
+    ensures { λ _. ⌜ Brings (now (books .entry)) done k file (now (books .exit)) ⌝ }
+{
+    let mut i = k;
+    while done < i {
+        let before = areas::entry_word(books, areas::BOOK_WORDS, i - 1, 0);
+        areas::write_word(books, areas::BOOK_WORDS, i, 0, before);
+        i -= 1;
+    }
+    areas::write_word(books, areas::BOOK_WORDS, done, 0, file);
+}
