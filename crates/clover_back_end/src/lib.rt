@@ -1,10 +1,13 @@
 // The static library: what a Rust or C program calls (docs/FORMAT.md, 'The static library'). Each function is another crate's routine under a name of
 // its own; a slice is a pointer and a length.
+use books::compile;
 use column_files::Converted;
 use column_files::columns_to_records;
 use column_files::records_to_columns;
 use tree::Shape;
 use tree::check;
+use words::reply::Reply;
+ghost use Rattle.books.specs.Promise.{areas, Compiles};
 ghost use mathlib.Core.Path.{_≡_};
 ghost use lib.ListN.{length};
 ghost use Rattle.tree.specs.Check.{shapeOf};
@@ -47,4 +50,44 @@ pub extern "C" fn clover_records_to_columns(tree: &[u64], out: &mut [u8]) -> Con
     ensures { λ r. ⌜ Converts (recordsToColumns (now (tree .entry)) (length (now (out .entry)))) (now (out .exit)) r ⌝ }
 {
     records_to_columns(tree, out)
+}
+
+// The compile call.
+#[no_mangle]
+pub extern "C" fn clover_compile(
+    tree: &[u64],
+    code: &mut [u64],
+    constants: &mut [u64],
+    functions: &mut [u64],
+    models: &mut [u64],
+    properties: &mut [u64],
+    methods: &mut [u64],
+    locals: &mut [u64],
+    publics: &mut [u64],
+    names: &mut [u64],
+    breaks: &mut [u64],
+    errors: &mut [u64],
+    books: &mut [u64],
+) -> Reply
+    ensures { λ r. ⌜ Compiles (now (tree .entry))
+        (areas (now (code .entry)) (now (constants .entry)) (now (functions .entry)) (now (models .entry)) (now (properties .entry)) (now (methods .entry))
+        (now (locals .entry)) (now (publics .entry)) (now (names .entry)) (now (breaks .entry)) (now (errors .entry)) (now (books .entry)))
+        (areas (now (code .exit)) (now (constants .exit)) (now (functions .exit)) (now (models .exit)) (now (properties .exit)) (now (methods .exit))
+        (now (locals .exit)) (now (publics .exit)) (now (names .exit)) (now (breaks .exit)) (now (errors .exit)) (now (books .exit))) r ⌝ }
+{
+    compile(
+        tree,
+        code,
+        constants,
+        functions,
+        models,
+        properties,
+        methods,
+        locals,
+        publics,
+        names,
+        breaks,
+        errors,
+        books,
+    )
 }

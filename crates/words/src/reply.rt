@@ -48,6 +48,7 @@ pub const ERROR_RING: u64 = 11;
 const AREA_COUNT: usize = 13;
 
 // How many entries each area holds, the function that is the entry point, and how many constants are global dependencies.
+#[repr(C)]
 pub struct Totals {
     pub code: u64,
     pub constants: u64,
@@ -66,6 +67,7 @@ pub struct Totals {
 }
 
 // The number of a refusal's row, or 0, with its place, and the totals.
+#[repr(C)]
 pub struct Reply {
     pub number: u64,
     pub place: u64,
