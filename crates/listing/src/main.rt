@@ -1,4 +1,3 @@
-// Stands: the program of crate listing (src/main.rt), which printed the stored listings in an unproved run; its check waits for that of books. In crates.txt: listing: books listings column_files words io libc
 // 01's program `listing`: a column file on standard input, the listing of what it compiles to on standard output. The sizes of its buffers stand in
 // docs/FORMAT.md; a longer input answers 9, place 0, and so does a listing that is too long or has a number too wide.
 use books::compile;
