@@ -164,7 +164,8 @@ module _ {tree set : List ℕ} {c k f m p t l u n b e o : List ℕ} {x r : Taken
     books-there : r .full ≡ 0 → (r ≡ taken 0 (length numbers)) × (o₁ ≡ booksOf (root ∷ others) [] numbers (drop (length numbers) o))
     books-there z = go (decLe (length numbers) (entriesIn 1 (length o)))
       where
-        go : Dec (length numbers ≤ entriesIn 1 (length o)) → (r ≡ taken 0 (length numbers)) × (o₁ ≡ booksOf (root ∷ others) [] numbers (drop (length numbers) o))
+        go : Dec (length numbers ≤ entriesIn 1 (length o)) → (r ≡ taken 0 (length numbers)) × (o₁ ≡ booksOf (root ∷ others) [] numbers (drop (length
+            numbers) o))
         go (yes h) =
             B .fits (root ∷ others) numbers (A .bundle) (needed-ascends root others) (needed-below root others (A .bundle .numbers)) (A .chosen) (no-mark z) h
         go (no h) = absurd (omega (
@@ -218,7 +219,8 @@ module _ {tree set : List ℕ} {c k f m p t l u n b e o : List ℕ} {x r : Taken
     }
 
     driving : r .full ≡ 0 → {set₀ : List ℕ} → set₀ ≡ replicate 16384 0
-        → Driving (root ∷ others) tree (length tree / 4) 0 (r .count) numbers (drop (length numbers) o) [] set₀ o₁ κ (begunBook r (x .count)) c k₁ f m p t l u n b
+        → Driving (root ∷ others) tree (length tree / 4) 0 (r .count) numbers (drop (length numbers) o) [] set₀ o₁ κ (begunBook r (x .count)) c k₁ f
+        m p t l u n b
         e newContext (begunUses (length numbers))
     driving z empty = record {
       distinct = A .distinct;
@@ -246,7 +248,8 @@ module _ {tree set : List ℕ} {c k f m p t l u n b e o : List ℕ} {x r : Taken
         (
           refl,
           record {
-            full = rw (as-work A zeros κ lent) (over-longer κ (drive-longer calm (length (needed [] root others)) (root ∷ others) [] (needed [] root others) newContext
+            full = rw (as-work A zeros κ lent) (over-longer κ (drive-longer calm (length (needed [] root others)) (root ∷ others) [] (needed [] root
+                others) newContext
                 (begunUses (length (needed [] root others)))) (marks A zeros κ lent) ne);
             came = λ z. absurd (ne z);
           },
@@ -258,7 +261,8 @@ module _ {tree set : List ℕ} {c k f m p t l u n b e o : List ℕ} {x r : Taken
         → Works tree set c k f m p t l u n b e o s c k₁ f m p t l u n b e o₁ row place
     work-full s-is ne row place = rw s-is (not-begun ne row place)
 
-    pub work-on : {s : struct.Book} → s ≡ begunBook r (x .count) → r .full ≡ 0 → {set₀ : List ℕ} → set₀ ≡ replicate 16384 0 → {s′ : struct.Book} {c′ k′ f′ m′ p′ t′ l′ u′ n′ b′ e′ o′ : List ℕ} {row place : ℕ}
+    pub work-on : {s : struct.Book} → s ≡ begunBook r (x .count) → r .full ≡ 0 → {set₀ : List ℕ} → set₀ ≡ replicate 16384 0
+        → {s′ : struct.Book} {c′ k′ f′ m′ p′ t′ l′ u′ n′ b′ e′ o′ : List ℕ} {row place : ℕ}
         → Drives tree (length tree / 4) 0 (r .count) set₀ o₁ s c k₁ f m p t l u n b e s′ c′ k′ f′ m′ p′ t′ l′ u′ n′ b′ e′ o′ row place
         → Works tree set c k f m p t l u n b e o s′ c′ k′ f′ m′ p′ t′ l′ u′ n′ b′ e′ o′ row place
     work-on s-is z empty D = record {

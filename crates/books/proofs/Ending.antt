@@ -26,7 +26,8 @@ use Rattle.building.proofs.Filling.{filled-field}
 use Rattle.building.specs.Held.{Filled, Marks, unmarked, marked}
 use Rattle.books.specs.declared.documents.Book as book
 use Rattle.books.specs.Shelf.{shelf}
-use Rattle.books.specs.Driving.{Zero, Cleared, Lent, Resting, Came, came-delivered, came-faulty, came-ring, Outcome, Accepted, Fronts, Works, MarkedFrom, markOf, Emptied}
+use Rattle.books.specs.Driving.{Zero, Cleared, Lent, Resting, Came, came-delivered, came-faulty}
+use Rattle.books.specs.Driving.{came-ring, Outcome, Accepted, Fronts, Works, MarkedFrom, markOf, Emptied}
 use Rattle.books.specs.Promise.{areas, lengthsOf, saying, answering, Compiles}
 use Rattle.books.proofs.Whole.{filled-is, totals, delivered-words, delivered-reply}
 use Rattle.books.proofs.Delivering.{compiles}
@@ -169,7 +170,8 @@ module _ (tree : List ℕ) (before : Areas) where
         }
 
     -- an area is too short
-    module _ {c″ k″ f″ m″ p″ t″ l″ u″ n″ b″ e″ o″ : List ℕ} {r : struct.Reply} (long″ : lengthsOf before ≡ lengthsOf (areas c″ k″ f″ m″ p″ t″ l″ u″ n″ b″ e″ o″))
+    module _ {c″ k″ f″ m″ p″ t″ l″ u″ n″ b″ e″ o″ : List ℕ} {r : struct.Reply} (long″ : lengthsOf before ≡ lengthsOf (areas c″ k″ f″ m″ p″ t″ l″ u″
+        n″ b″ e″ o″))
       where
         pub compile-full : (s′ .full ≡ 0 → ⊥) → Cleared c″ k″ f″ m″ p″ t″ l″ u″ n″ b″ e″ o″ → r ≡ refusal 9 (s′ .full)
             → Compiles tree before (areas c″ k″ f″ m″ p″ t″ l″ u″ n″ b″ e″ o″) r
@@ -204,7 +206,8 @@ module _ (tree : List ℕ) (before : Areas) where
             subst (λ (x : struct.Reply). Compiles tree before (areas c″ k″ f″ m″ p″ t″ l″ u″ n″ b″ e′ o″) x) (sym says)
             (go (work .outcome .came y) (ended y))
           where
-            by : (a i : ℕ) (es : List Error) {j : ℕ} → row ≡ a → place ≡ i → answering tree before ≡ Refusal a i es → Filled 4 e′ (entriesFrom errorEntry 0 es) j
+            by : (a i : ℕ) (es : List Error) {j : ℕ} → row ≡ a → place ≡ i → answering tree before ≡ Refusal a i es
+                → Filled 4 e′ (entriesFrom errorEntry 0 es) j
                 → Compiles tree before (areas c″ k″ f″ m″ p″ t″ l″ u″ n″ b″ e′ o″) (refusal row place)
             by a i es h g q F =
                 refuses row place es thirteen long″ (q ∙ rw (h, g)) zc zk zf zm zp zt zl zu zn zb F zo
@@ -328,7 +331,8 @@ module _ (tree c₀ k₀ f₀ m₀ p₀ t₀ l₀ u₀ n₀ b₀ e₀ o₀ : Lis
   abbrev lent : Areas
   lent = areas c₀ k₀ f₀ m₀ p₀ t₀ l₀ u₀ n₀ b₀ e₀ o₀
 
-  pub compile-row : {set c k f m p t l u n b e o : List ℕ} {row place : ℕ} {r : struct.Reply} → SameLengths c₀ k₀ f₀ m₀ p₀ t₀ l₀ u₀ n₀ b₀ e₀ o₀ c k f m p t l u n b e o
+  pub compile-row : {set c k f m p t l u n b e o : List ℕ} {row place : ℕ} {r : struct.Reply}
+      → SameLengths c₀ k₀ f₀ m₀ p₀ t₀ l₀ u₀ n₀ b₀ e₀ o₀ c k f m p t l u n b e o
       → Emptied c k f m p t l u n b o → Zero e → Fronts tree row place set → (row ≡ 0 → ⊥) → r ≡ refusal row place
       → Compiles tree lent (areas c k f m p t l u n b e o) r
   compile-row S E ze F ne says = compile-refused tree lent refl (same-lengths S) (all-cleared E ze) F ne says
@@ -337,7 +341,8 @@ module _ (tree c₀ k₀ f₀ m₀ p₀ t₀ l₀ u₀ n₀ b₀ e₀ o₀ : Lis
       (S : SameLengths c₀ k₀ f₀ m₀ p₀ t₀ l₀ u₀ n₀ b₀ e₀ o₀ c k f m p t l u n b e o) (E : Emptied c k f m p t l u n b o) (ze : Zero e)
       (F : Fronts tree number at set) (went : number ≡ 0)
       (W : Works tree set c k f m p t l u n b e o s′ c′ k′ f′ m′ p′ t′ l′ u′ n′ b′ e′ o′ row place) where
-    pub compile-short : {c″ k″ f″ m″ p″ t″ l″ u″ n″ b″ e″ o″ : List ℕ} {r : struct.Reply} → (s′ .full ≡ 0 → ⊥) → SameLengths c₀ k₀ f₀ m₀ p₀ t₀ l₀ u₀ n₀ b₀ e₀ o₀ c″ k″ f″ m″ p″ t″ l″ u″ n″ b″ e″ o″
+    pub compile-short : {c″ k″ f″ m″ p″ t″ l″ u″ n″ b″ e″ o″ : List ℕ} {r : struct.Reply} → (s′ .full ≡ 0 → ⊥)
+        → SameLengths c₀ k₀ f₀ m₀ p₀ t₀ l₀ u₀ n₀ b₀ e₀ o₀ c″ k″ f″ m″ p″ t″ l″ u″ n″ b″ e″ o″
         → Emptied c″ k″ f″ m″ p″ t″ l″ u″ n″ b″ o″ → Zero e″ → r ≡ refusal 9 (s′ .full) → Compiles tree lent (areas c″ k″ f″ m″ p″ t″ l″ u″ n″ b″ e″ o″) r
     compile-short ne S″ E″ ze″ says =
         compile-full tree lent refl (same-lengths S) (all-cleared E ze) F went W (same-lengths S″) ne (all-cleared E″ ze″) says
@@ -346,9 +351,11 @@ module _ (tree c₀ k₀ f₀ m₀ p₀ t₀ l₀ u₀ n₀ b₀ e₀ o₀ : Lis
         → SameLengths c₀ k₀ f₀ m₀ p₀ t₀ l₀ u₀ n₀ b₀ e₀ o₀ c″ k″ f″ m″ p″ t″ l″ u″ n″ b″ e′ o″ → Emptied c″ k″ f″ m″ p″ t″ l″ u″ n″ b″ o″
         → r ≡ refusal row place → Compiles tree lent (areas c″ k″ f″ m″ p″ t″ l″ u″ n″ b″ e′ o″) r
     compile-faulty y ne S″ E″ says =
-        compile-errors tree lent refl (same-lengths S) (all-cleared E ze) F went W (same-lengths S″) y ne (E″ .code) (E″ .constants) (E″ .functions) (E″ .models)
+        compile-errors tree lent refl (same-lengths S) (all-cleared E ze) F went W (same-lengths S″) y ne (E″ .code) (E″ .constants) (E″ .functions)
+        (E″ .models)
         (E″ .properties) (E″ .methods) (E″ .locals) (E″ .publics) (E″ .names) (E″ .breaks) (E″ .books) says
 
-    pub compile-whole : {globals : ℕ} {r : struct.Reply} → s′ .full ≡ 0 → row ≡ 0 → SameLengths c₀ k₀ f₀ m₀ p₀ t₀ l₀ u₀ n₀ b₀ e₀ o₀ c′ k′ f′ m′ p′ t′ l′ u′ n′ b′ e′ o′
+    pub compile-whole : {globals : ℕ} {r : struct.Reply} → s′ .full ≡ 0 → row ≡ 0
+        → SameLengths c₀ k₀ f₀ m₀ p₀ t₀ l₀ u₀ n₀ b₀ e₀ o₀ c′ k′ f′ m′ p′ t′ l′ u′ n′ b′ e′ o′
         → MarkedFrom k′ 0 (s′ .constants) 0 globals → r ≡ delivery (totals s′ place globals) → Compiles tree lent (areas c′ k′ f′ m′ p′ t′ l′ u′ n′ b′ e′ o′) r
     compile-whole y h S′ M says = compile-delivered tree lent refl (same-lengths S) (all-cleared E ze) F went W (same-lengths S′) y h M says

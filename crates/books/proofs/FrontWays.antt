@@ -61,7 +61,11 @@ module _ (tree : List ℕ) {x : Shape} (shape-is : x ≡ shapeOf tree) (fine-is 
   pub front-twice : (set : List ℕ) {i : ℕ} → r ≡ At i → Fronts tree 5 i set
   unfolding answer answerFrom
   front-twice set {i} at = record {
-    refused = λ ne lengths. rw (is-fine, found-some (twice [] tree (documentPlaces tree)) i (sym at ∙ F .finds (documentsOf tree) bundle none-yet .answer end-is));
+    refused = λ ne lengths. rw (
+      is-fine,
+      found-some (twice [] tree (documentPlaces tree)) i (sym at ∙ F .finds (documentsOf tree) bundle none-yet
+          .answer end-is),
+    );
     accepted = λ z. absurd (omega arith);
   }
 

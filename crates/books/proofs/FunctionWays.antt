@@ -14,7 +14,8 @@ use Rattle.words.specs.Record.{tokenAt, kindAt, valueAt}
 use Rattle.definition.specs.FunctionState.{defineLocal, newFunctionState, emitReturn, getLastPosition}
 use Rattle.definition.specs.FunctionState as method
 use Rattle.definition.specs.Uses.{Limits}
-use Rattle.definition.specs.Compiler.{Work, doing, withFunction, pushError, skip, bareBy, compileBare, compileParameter, compileParameters, compileStatements, andThen}
+use Rattle.definition.specs.Compiler.{Work, doing, withFunction, pushError, skip}
+use Rattle.definition.specs.Compiler.{bareBy, compileBare, compileParameter, compileParameters, compileStatements, andThen}
 use Rattle.definition.specs.Compiler.{compileFunctionDefinitionBase}
 use Rattle.definition.specs.Program.{Entries}
 use Rattle.definition.proofs.Steady.{steady-parameter, steady-parameters, steady-function, steady-trans, steady-statements}

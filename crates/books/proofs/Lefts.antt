@@ -1,4 +1,4 @@
--- The books that are left: one taken out of an ascending list, and the entries of area 12 that name them. Assumes nothing.
+-- The books that are left: what holds of each document holds of the one that is ready, and the entries of area 12 name the books. Assumes nothing.
 use Prim.Native.Nat.{ℕ, zero, suc, _+_, _*_, _/_, _≤_, _<_}
 use native.Mathlib.Nat.{zero-add, add-zero, mul-one}
 use native.Mathlib.Omega.{arith}
@@ -14,52 +14,15 @@ use Rattle.words.specs.Ast.{Document}
 use Rattle.words.specs.Areas.{entryWord}
 use Rattle.tree.specs.At.{sizeDoc, runSize}
 use Rattle.definition.specs.Book.{Assembly}
-use Rattle.definition.specs.DependencySolver.{findDocument, missing, missingBy, allIn, dependencies, readyBy, ready, without, filesOf}
+use Rattle.definition.specs.DependencySolver.{findDocument, missing, missingBy, allIn, dependencies, readyBy, ready, filesOf}
 use Rattle.definition.specs.Within.{All, none, _&_}
-use Rattle.books.specs.Sets.{Ascends}
 use Rattle.books.specs.Solving.{placeOf, bookUnit, bookWord, waiting, Stands}
 use Rattle.books.specs.Driving.{Leaves}
 
--- one less
-pub without-length : (n : ℕ) (before later : List ℕ) → length (before ++ (n ∷ later)) ≡ suc (length (without n (before ++ (n ∷ later))))
-without-length n [] later = rw (eq-eqb n n refl)
-without-length n (x ∷ before) later = go (without-length n before later) (eqb x n)
-  where
-    go : length (before ++ (n ∷ later)) ≡ suc (length (without n (before ++ (n ∷ later)))) → (t : Bool) → suc (length (before ++ (n ∷ later)))
-        ≡ suc (length (cond t (before ++ (n ∷ later)) (x ∷ without n (before ++ (n ∷ later)))))
-    go h true = refl
-    go h false = ap suc h
-
-looser : {a b : ℕ} (l : List ℕ) → a ≤ b → Ascends b l → Ascends a l
-looser [] h u = tt
-looser (x ∷ l) h u = (omega (arith, u .0), u .1)
-
-pub ascends-without : (k n : ℕ) (l : List ℕ) → Ascends k l → Ascends k (without n l)
-ascends-without k n [] h = tt
-ascends-without k n (x ∷ l) h = go (ascends-without (x + 1) n l (h .1)) (eqb x n)
-  where
-    go : Ascends (x + 1) (without n l) → (t : Bool) → Ascends k (cond t l (x ∷ without n l))
-    go r true = looser l (omega (arith, h .0)) (h .1)
-    go r false = (h .0, r)
-
--- none is missing of those that are left
+-- where none is missing of some, none is of the rest
 missing-tail : (o : Option Document) (n : ℕ) (rest : Option ℕ) → missingBy o n rest ≡ none → rest ≡ none
 missing-tail none n rest h = absurd (let z : _≡_ {A = ℕ} 0 1 = cc in omega arith)
 missing-tail (some d) n rest h = h
-
-missing-again : (o : Option Document) (n : ℕ) (rest rest′ : Option ℕ) → missingBy o n rest ≡ none → rest′ ≡ none → missingBy o n rest′ ≡ none
-missing-again none n rest rest′ h h′ = absurd (let z : _≡_ {A = ℕ} 0 1 = cc in omega arith)
-missing-again (some d) n rest rest′ h h′ = h′
-
-pub missing-without : (ds : List Document) (n : ℕ) (l : List ℕ) → missing ds l ≡ none → missing ds (without n l) ≡ none
-missing-without ds n [] h = h
-missing-without ds n (x ∷ l) h =
-    let tail : missing ds l ≡ none = missing-tail (findDocument x ds) x (missing ds l) h in
-    go tail (missing-without ds n l tail) (eqb x n)
-  where
-    go : missing ds l ≡ none → missing ds (without n l) ≡ none → (t : Bool) → missing ds (cond t l (x ∷ without n l)) ≡ none
-    go tail r true = tail
-    go tail r false = missing-again (findDocument x ds) x (missing ds l) (missing ds (without n l)) h r
 
 -- what holds of each document holds of the one that is ready
 module _ {P : Document → Type 0} where

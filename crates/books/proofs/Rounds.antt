@@ -32,7 +32,8 @@ use Rattle.books.specs.Driving.{Leaves, Rung, Rings, Resting, MeetsDocum
 use Rattle.books.proofs.Calm.{Calms}
 use Rattle.books.proofs.Steadfast.{calm-definitions, drive-longer, after-longer, files-more}
 use Rattle.books.proofs.PuttingAway.{putAway, put-away}
-use Rattle.books.proofs.Lefts.{without-length, ascends-without, missing-without, all-ready, files-length, files-at, leaves-are}
+use Rattle.books.proofs.Lefts.{all-ready, files-length, files-at, leaves-are}
+use Rattle.books.proofs.StandsLaws.{without-length, without-ascends, without-missing}
 use Rattle.books.proofs.FileLists.{set-add}
 use Rattle.books.proofs.Tokens.{skip-law}
 
@@ -104,7 +105,7 @@ module _ {tree : List ℕ} {end done count : ℕ} {set books : List ℕ} {s : st
         book = d;
         is = Q .is;
         same = same;
-        one-less = rw split (without-length file (Q .before) (Q .later));
+        one-less = rw split (let h = without-length file (Q .before) (Q .later) in omega arith);
         words = words;
         small = rw same (all-ready ds compiled left (in-sets ds (D .stands .bundle .numbers)) (Q .is));
         kept = M .meets d D′ (sym ends) (all-ready ds compiled left (D .limited) (Q .is)) κ context uses (D .so-many) shelved (D .resting);
@@ -170,11 +171,11 @@ module _ {tree : List ℕ} {end done count : ℕ} {set books : List ℕ} {s : st
             (putAway x) (x .uses) = record {
               distinct = D .distinct;
               limited = D .limited;
-              ascends = ascends-without 0 file left (D .ascends);
+              ascends = without-ascends 0 file left (D .ascends);
               stands = record {
                 bundle = D .stands .bundle;
                 limit = D .stands .limit;
-                there = missing-without ds file left (D .stands .there);
+                there = without-missing ds file left (D .stands .there);
                 words = rw files (R .words);
                 held = rw set-is (set-add set compiled file (D .stands .held) (R .small));
               };

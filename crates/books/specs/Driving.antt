@@ -107,7 +107,8 @@ pub record Fronts (tree : List ℕ) (row place : ℕ) (set : List ℕ) : Type 0 
 
 -- how the books end, where nothing is full: `rest` is what stands in area 12 behind the books; of a delivery `place` is the number of books
 pub data Came (κ : Limits) (s : struct.Book) (c k f m p t l u n b e books rest : List ℕ) (row place : ℕ) (uses : List Use) : Ending → Type 0 where
-  came-delivered : {context : Context} → row ≡ 0 → place ≡ length (context .assemblies) → Resting κ s c k f m p t l u n b e context uses → books ≡ filesOf (context .assemblies) ++ rest
+  came-delivered : {context : Context} → row ≡ 0 → place ≡ length (context .assemblies) → Resting κ s c k f m p t l u n b e context uses
+      → books ≡ filesOf (context .assemblies) ++ rest
       → Came κ s c k f m p t l u n b e books rest row place uses (Delivered context)
   came-faulty : {file : ℕ} {es : List Error} → row ≡ 7 → place ≡ file → Filled 4 e (entriesFrom errorEntry 0 es) (s .errors)
       → Came κ s c k f m p t l u n b e books rest row place uses (Faulty file es)

@@ -100,10 +100,10 @@ module _ (file before out : List ℕ) (i : ℕ) (B : firstBad file ≡ badBy (li
 
 -- what is cleared
 
-cleared-all : (w : List ℕ) (room : ℕ) → length w ≡ room → clearedFrom 0 w ≡ replicate room 0
+pub cleared-all : (w : List ℕ) (room : ℕ) → length w ≡ room → clearedFrom 0 w ≡ replicate room 0
 cleared-all w room e = ap (λ (n : ℕ). replicate n 0) (let x : length w - 0 ≡ room = omega (arith, e) in x)
 
-cleared-rest : (c d mid : List ℕ) (k room : ℕ) → mid ≡ c ++ d → length c ≡ k → length mid ≡ room
+pub cleared-rest : (c d mid : List ℕ) (k room : ℕ) → mid ≡ c ++ d → length c ≡ k → length mid ≡ room
     → clearedFrom k mid ≡ c ++ replicate (room - length c) 0
 cleared-rest c d mid k room m l n =
     let t : take k mid ≡ c = rw m (take-at c d k l) in
@@ -112,7 +112,7 @@ cleared-rest c d mid k room m l n =
 
 -- the answers after row 1
 
-answer-short : (s : Shape) (c : List ℕ) (n room : ℕ) {after : List ℕ} {r : Converted} → room < length c → after ≡ replicate room 0 → r ≡ shortReply s
+pub answer-short : (s : Shape) (c : List ℕ) (n room : ℕ) {after : List ℕ} {r : Converted} → room < length c → after ≡ replicate room 0 → r ≡ shortReply s
     → Converts (answerBy s c n room) after r
 unfolding answerBy shortReply
 answer-short (Refused row place) c n room l a e = record { reply = e; output = a }
@@ -125,7 +125,7 @@ answer-refused : (s : Shape) (c : List ℕ) (n room : ℕ) {after : List ℕ} {r
 unfolding answerBy
 answer-refused s c n room e a = rw e (record { reply = refl; output = a })
 
-answer-done : (s : Shape) (c : List ℕ) (n room : ℕ) {after : List ℕ} → s ≡ Fine → length c ≤ room → after ≡ c ++ replicate (room - length c) 0
+pub answer-done : (s : Shape) (c : List ℕ) (n room : ℕ) {after : List ℕ} → s ≡ Fine → length c ≤ room → after ≡ c ++ replicate (room - length c) 0
     → Converts (answerBy s c n room) after (success n)
 unfolding answerBy
 answer-done s c n room e l a =

@@ -27,7 +27,7 @@ use Rattle.definition.specs.Program.{tablesOf, errorTables}
 use Rattle.definition.specs.Answer.{Answer, Delivery, Refusal, answerBundle, answerFrom, answer, replyOf, areasOf}
 
 -- records, one after the other
-abbrev r : ℕ → ℕ → ℕ → ℕ → List ℕ → List ℕ
+abbrev pub r : ℕ → ℕ → ℕ → ℕ → List ℕ → List ℕ
 r kind span position value rest = kind ∷ span ∷ position ∷ value ∷ rest
 
 -- book 2 with the function 3: `size` records of parameters and statements
@@ -38,14 +38,14 @@ abbrev op : ℕ → ℕ → Instruction
 op = toInstruction
 
 -- what a function came to
-record Compiled : Type 0 where
+pub record Compiled : Type 0 where
   code : List Instruction
   places : List ℕ
   locals : ℕ
   rescue : ℕ
 
 -- what the call came to: its row and place (0 and 0: delivered), the errors' numbers, the functions, and the constants' values from the fourth on
-record Result : Type 0 where
+pub record Result : Type 0 where
   row : ℕ
   place : ℕ
   errors : List ℕ
@@ -76,7 +76,7 @@ abbrev ample : List ℕ
 ample = 0 ∷ replicate 12 100
 
 -- its line unfolds all that the call computes with, for whoever unfolds it
-run : List ℕ → List ℕ → Result
+unfoldable pub run : List ℕ → List ℕ → Result
 unfolding shapeOf walkBy headAt soundAt thisAfter sameThis lacksBy withinOf fieldOf mayStand slotAfter isDue firstSlot goesOn inRange expressionOf listOf
     pairsOf parametersOf definitionOf documentOf documentsOf removePopOrPushNull emitReturn emitBreak exitBreakScope defineLocal firstOver addConstant
     emitConstant emitGlobal compileIntegerExpression compileFloatExpression compileStringExpression compileBooleanExpression compileNullExpression emitName
@@ -214,7 +214,7 @@ unfolding run delivered refused function-of
 level-65 = refl
 
 -- the book of 01's listing: a public function f with parameter x, `if x return end`
-abbrev example : List ℕ
+abbrev pub example : List ℕ
 example = r 1 8 0 2 (r 15 7 65546 3 (r 40 1 0 4 (r 25 5 0 0 (r 42 4 0 0 (r 30 1 131078 4 (r 43 2 0 0 (r 21 1 196613 0 [])))))))
 
 -- its function
@@ -351,7 +351,7 @@ repeated-name = refl
 
 -- the whole of 01's example: the words of every area, exactly full, and the totals
 
-abbrev exact : List ℕ
+abbrev pub exact : List ℕ
 exact = 0 ∷ 14 ∷ 12 ∷ 8 ∷ 0 ∷ 0 ∷ 0 ∷ 4 ∷ 3 ∷ 2 ∷ 0 ∷ 0 ∷ 1 ∷ []
 
 words : List ℕ → List ℕ → List (List ℕ)

@@ -1,0 +1,166 @@
+-- The searches of the listing: a property's index in its model, the method that comes next, and how many errors there are. Each loop's invariant is that the
+-- whole answer is the answer from here. Assumes nothing.
+use Prim.Native.Nat.{ℕ, suc, _+_, _-_, _≤_, _<_}
+use native.Mathlib.Omega.{arith}
+use mathlib.Core.Path.{_≡_, refl, sym, ap, _∙_}
+use mathlib.Core.Bool.{Bool, true, false, cond}
+use mathlib.Core.List.{List}
+use lib.Dec.{eqb, ltb}
+use borrow.Author.Tests.{eq-eqb, ne-eqb, lt-ltb, le-ltb}
+use Rattle.listings.specs.Sections.{propertyModel, propertyIndex, methodModel, methodName, isBelow, isAbove, isLess, lesser, leastFrom}
+use Rattle.listings.specs.Sections.{methodAfter, methodAt, errorNumber, errorsFrom}
+use Rattle.listings.specs.declared.methods.Method.{Method}
+use Rattle.listings.specs.declared.methods.Method.the-variants.{Entry, Over}
+
+-- a property's index
+pub record Counted (w : List ℕ) (i model index j : ℕ) : Type 0 where
+  pub whole : propertyIndex w i ≡ index + propertyIndex w j
+  pub same : propertyModel w j ≡ model
+  pub passed : index + j ≡ i
+
+module _ (w : List ℕ) (i model : ℕ) where
+  pub counted-begin : model ≡ propertyModel w i → Counted w i model 0 i
+  counted-begin e = record { whole = omega arith; same = sym e; passed = omega arith }
+
+  step : (j : ℕ) → propertyIndex w (suc j) ≡ cond (eqb (propertyModel w (suc j)) (propertyModel w j)) (suc (propertyIndex w j)) 0
+  unfolding propertyIndex
+  step j = refl
+
+  at-pred : (j : ℕ) → 0 < j → propertyIndex w j ≡ cond (eqb (propertyModel w j) (propertyModel w (j - 1))) (suc (propertyIndex w (j - 1))) 0
+  at-pred j h =
+      let e : j ≡ suc (j - 1) = omega (arith, h) in
+      ap (propertyIndex w) e ∙ (step (j - 1) ∙ ap (λ (k : ℕ). cond (eqb (propertyModel w k) (propertyModel w (j - 1))) (suc (propertyIndex w (j - 1))) 0)
+      (sym e))
+
+  pub counted-more : {index j other : ℕ} → Counted w i model index j → 0 < j → other ≡ propertyModel w (j - 1) → other ≡ model
+      → Counted w i model (index + 1) (j - 1)
+  counted-more {index} {j} {other} h l o e =
+      let one : propertyIndex w j ≡ suc (propertyIndex w (j - 1)) =
+      at-pred j l ∙ ap (λ (b : Bool). cond b (suc (propertyIndex w (j - 1))) 0)
+      (eq-eqb (propertyModel w j) (propertyModel w (j - 1)) (h .same ∙ (sym e ∙ o))) in
+      let whole = h .whole in
+      let passed = h .passed in
+      record { whole = omega (arith, whole, one); same = sym o ∙ e; passed = omega (arith, passed, l) }
+
+  pub counted-other : {index j other : ℕ} → Counted w i model index j → 0 < j → other ≡ propertyModel w (j - 1) → (other ≡ model → ⊥)
+      → index ≡ propertyIndex w i
+  counted-other {index} {j} {other} h l o n =
+      let none : propertyIndex w j ≡ 0 =
+      at-pred j l ∙ ap (λ (b : Bool). cond b (suc (propertyIndex w (j - 1))) 0)
+      (ne-eqb (propertyModel w j) (propertyModel w (j - 1)) (λ q. n (o ∙ (sym q ∙ h .same)))) in
+      let whole = h .whole in
+      omega (arith, whole, none)
+
+  pub counted-all : {index j : ℕ} → Counted w i model index j → j ≤ 0 → index ≡ propertyIndex w i
+  unfolding propertyIndex
+  counted-all {index} {j} h l =
+      let e : j ≡ 0 = omega (arith, l) in
+      let none : propertyIndex w j ≡ 0 = ap (propertyIndex w) e in
+      let whole = h .whole in
+      omega (arith, whole, none)
+
+-- the order of methods
+module _ (w : List ℕ) (i j : ℕ) {m o : ℕ} (M : m ≡ methodModel w i) (O : o ≡ methodModel w j) where
+  pub below-model : m < o → true ≡ isBelow w i j
+  below-model h =
+      sym (ap (λ (b : Bool). cond b true (cond (eqb (methodModel w i) (methodModel w j)) (ltb (methodName w i) (methodName w j)) false))
+      (lt-ltb (methodModel w i) (methodModel w j) (omega (arith, M, O, h))))
+
+  not-below : o ≤ m → isBelow w i j ≡ cond (eqb (methodModel w i) (methodModel w j)) (ltb (methodName w i) (methodName w j)) false
+  not-below h =
+      ap (λ (b : Bool). cond b true (cond (eqb (methodModel w i) (methodModel w j)) (ltb (methodName w i) (methodName w j)) false))
+      (le-ltb (methodModel w i) (methodModel w j) (omega (arith, M, O, h)))
+
+  pub below-name : {a b : ℕ} → o ≤ m → m ≡ o → a ≡ methodName w i → b ≡ methodName w j → ltb a b ≡ isBelow w i j
+  below-name {a} {b} h e A B =
+      (λ k. ltb (A k) (B k)) ∙ sym (not-below h ∙ ap (λ (t : Bool). cond t (ltb (methodName w i) (methodName w j)) false)
+      (eq-eqb (methodModel w i) (methodModel w j) (sym M ∙ (e ∙ O))))
+
+  pub below-not : o ≤ m → (m ≡ o → ⊥) → false ≡ isBelow w i j
+  below-not h n =
+      sym (not-below h ∙ ap (λ (t : Bool). cond t (ltb (methodName w i) (methodName w j)) false)
+      (ne-eqb (methodModel w i) (methodModel w j) (λ q. n (M ∙ (q ∙ sym O)))))
+
+pub lesser-yes : (w : List ℕ) (last least : Method) (i : ℕ) {a b : Bool} → a ≡ isAbove w last i → a ≡ true → b ≡ isLess w least i → b ≡ true
+    → Entry i ≡ lesser w last least i
+lesser-yes w last least i A a B b =
+    sym (ap (λ (t : Bool). cond t (cond (isLess w least i) (Entry i) least) least) (sym A ∙ a) ∙ ap (λ (t : Bool). cond t (Entry i) least) (sym B ∙ b))
+
+pub lesser-more : (w : List ℕ) (last least : Method) (i : ℕ) {a b : Bool} → a ≡ isAbove w last i → a ≡ true → b ≡ isLess w least i → b ≡ false
+    → least ≡ lesser w last least i
+lesser-more w last least i A a B b =
+    sym (ap (λ (t : Bool). cond t (cond (isLess w least i) (Entry i) least) least) (sym A ∙ a) ∙ ap (λ (t : Bool). cond t (Entry i) least) (sym B ∙ b))
+
+pub lesser-past : (w : List ℕ) (last least : Method) (i : ℕ) {a : Bool} → a ≡ isAbove w last i → a ≡ false → least ≡ lesser w last least i
+lesser-past w last least i A a = sym (ap (λ (t : Bool). cond t (cond (isLess w least i) (Entry i) least) least) (sym A ∙ a))
+
+-- the least so far, and those to come
+pub record Least (w : List ℕ) (last : Method) (n : ℕ) (least : Method) (i : ℕ) : Type 0 where
+  pub whole : leastFrom w last Over 0 n ≡ leastFrom w last least i (n - i)
+
+module _ (w : List ℕ) (last : Method) (n : ℕ) where
+  pub least-begin : Least w last n Over 0
+  least-begin = record { whole = ap (leastFrom w last Over 0) (omega arith) }
+
+  one-more : (least : Method) (i k : ℕ) → leastFrom w last least i (suc k) ≡ leastFrom w last (lesser w last least i) (i + 1) k
+  unfolding leastFrom
+  one-more least i k = ap (λ (j : ℕ). leastFrom w last (lesser w last least i) j k) (omega arith)
+
+  pub least-more : {least next : Method} {i : ℕ} → Least w last n least i → i < n → next ≡ lesser w last least i → Least w last n next (i + 1)
+  least-more {least} {next} {i} h l e =
+      let falls : n - i ≡ suc (n - (i + 1)) = omega (arith, l) in
+      record {
+        whole = h .whole ∙ (ap (leastFrom w last least i) falls ∙ (one-more least i (n - (i + 1))
+            ∙ ap (λ (x : Method). leastFrom w last x (i + 1) (n - (i + 1))) (sym e)));
+      }
+
+  pub least-all : {least : Method} {i : ℕ} → Least w last n least i → n ≤ i → least ≡ leastFrom w last Over 0 n
+  unfolding leastFrom
+  least-all {least} {i} h l = let none : n - i ≡ 0 = omega (arith, l) in sym (h .whole ∙ ap (leastFrom w last least i) none)
+
+-- errors up to the first without a number
+pub record Numbered (w : List ℕ) (n i : ℕ) : Type 0 where
+  pub whole : errorsFrom w 0 n ≡ i + errorsFrom w i (n - i)
+
+module _ (w : List ℕ) (n : ℕ) where
+  pub numbered-begin : Numbered w n 0
+  numbered-begin = record { whole = let e : errorsFrom w 0 n ≡ errorsFrom w 0 (n - 0) = ap (errorsFrom w 0) (omega arith) in omega (arith, e) }
+
+  next-error : (i : ℕ) → i < n → errorsFrom w i (n - i) ≡ cond (eqb (errorNumber w i) 0) 0 (suc (errorsFrom w (i + 1) (n - (i + 1))))
+  unfolding errorsFrom
+  next-error i l =
+      let falls : n - i ≡ suc (n - (i + 1)) = omega (arith, l) in
+      ap (errorsFrom w i) falls ∙ ap (λ (j : ℕ). cond (eqb (errorNumber w i) 0) 0 (suc (errorsFrom w j (n - (i + 1))))) (omega arith)
+
+  pub numbered-more : {i number : ℕ} → Numbered w n i → i < n → number ≡ errorNumber w i → (number ≡ 0 → ⊥) → Numbered w n (i + 1)
+  numbered-more {i} {number} h l e z =
+      let whole = h .whole in
+      let one : errorsFrom w i (n - i) ≡ suc (errorsFrom w (i + 1) (n - (i + 1))) =
+      next-error i l ∙ ap (λ (b : Bool). cond b 0 (suc (errorsFrom w (i + 1) (n - (i + 1))))) (ne-eqb (errorNumber w i) 0 (λ q. z (e ∙ q))) in
+      record { whole = omega (arith, whole, one) }
+
+  pub numbered-last : {i number : ℕ} → Numbered w n i → i < n → number ≡ errorNumber w i → number ≡ 0 → i ≡ errorsFrom w 0 n
+  numbered-last {i} {number} h l e z =
+      let whole = h .whole in
+      let none : errorsFrom w i (n - i) ≡ 0 =
+      next-error i l ∙ ap (λ (b : Bool). cond b 0 (suc (errorsFrom w (i + 1) (n - (i + 1))))) (eq-eqb (errorNumber w i) 0 (sym e ∙ z)) in
+      omega (arith, whole, none)
+
+  pub numbered-all : {i : ℕ} → Numbered w n i → i ≤ n → n ≤ i → n ≡ errorsFrom w 0 n
+  unfolding errorsFrom
+  numbered-all {i} h a b =
+      let whole = h .whole in
+      let e : n - i ≡ 0 = omega (arith, b) in
+      let none : errorsFrom w i (n - i) ≡ 0 = ap (errorsFrom w i) e in
+      omega (arith, whole, none, a, b)
+
+-- the method at a place of the section
+pub method-first : (w : List ℕ) (n : ℕ) {m : Method} → m ≡ leastFrom w Over Over 0 n → m ≡ methodAt w n 0
+unfolding methodAt
+method-first w n e = e
+
+pub method-next : (w : List ℕ) (n k : ℕ) {m next : Method} → m ≡ methodAt w n k → next ≡ methodAfter w n m → next ≡ methodAt w n (k + 1)
+unfolding methodAt
+method-next w n k {m} {next} e h =
+    let one : suc k ≡ k + 1 = omega arith in
+    h ∙ (ap (methodAfter w n) e ∙ ap (methodAt w n) one)

@@ -1,0 +1,254 @@
+// The lines of 01's listing: what each entry of an area says.
+ghost use mathlib.Core.Path.{_≡_};
+ghost use Rattle.line_writer.specs.Placed.{placed};
+ghost use Rattle.listings.specs.Lines.{linesAt};
+ghost use Rattle.listings.specs.Sections.{line, functionLine, instructionLine, constantLine, modelLine, propertyIndex, propertyLine, methodLine};
+ghost use Rattle.listings.specs.Sections.{contextValueLine, fileLine, errorLine, entryLine, isListed, entryLines};
+use line_writer::place::Place;
+use line_writer::writer::Fields;
+use line_writer::writer::write_line;
+use words::areas::BOOK_WORDS;
+use words::areas::CODE_WORDS;
+use words::areas::CONSTANT_WORDS;
+use words::areas::CONTEXT_LOCAL_WORDS;
+use words::areas::ERROR_WORDS;
+use words::areas::METHOD_WORDS;
+use words::areas::MODEL_WORDS;
+use words::areas::PROPERTY_WORDS;
+use words::areas::entry_word;
+use words::program::function_record;
+use words::record::column_of;
+use words::record::line_of;
+
+// The numbers of 01's sections.
+pub const REFUSAL: u64 = 0;
+
+pub const TOTALS: u64 = 1;
+
+pub const FUNCTION: u64 = 2;
+
+pub const INSTRUCTION: u64 = 3;
+
+pub const CONSTANT: u64 = 4;
+
+pub const MODEL: u64 = 5;
+
+pub const PROPERTY: u64 = 6;
+
+pub const METHOD: u64 = 7;
+
+pub const CONTEXT_VALUE: u64 = 8;
+
+pub const GLOBAL: u64 = 9;
+
+pub const FILE: u64 = 10;
+
+pub const ERROR: u64 = 11;
+
+// What an opcode of one is worth in an instruction's word: 2^56.
+const OPCODE_UNIT: u64 = 72057594037927936;
+
+// The kinds of an integer constant and of an integer token.
+const INTEGER_CONSTANT: u64 = 2;
+
+const INTEGER_TOKEN: u64 = 33;
+
+// The sections that list the entries of one area; of instructions, those of one function.
+pub enum Section {
+    Functions,
+    Instructions(u64),
+    Constants,
+    Models,
+    Properties,
+    Methods,
+    ContextValues,
+    Globals,
+    Files,
+    Errors,
+}
+
+// A line of a section, two numbers and a last one.
+fn short_line(section: u64, first: u64, second: u64, last: u64, signed: bool) -> Fields
+    ensures { λ r. ⌜ r ≡ line section first second 0 0 0 0 last signed ⌝ }
+{
+    Fields {
+        section,
+        first,
+        second,
+        third: 0,
+        fourth: 0,
+        fifth: 0,
+        sixth: 0,
+        last,
+        signed,
+    }
+}
+
+fn function_line(functions: &[u64], i: usize) -> Fields
+    ensures { λ r. ⌜ r ≡ functionLine (now (functions .entry)) i ⌝ }
+{
+    let f = function_record(functions, i);
+    Fields {
+        section: FUNCTION,
+        first: i as u64,
+        second: f.parameters,
+        third: f.locals,
+        fourth: f.rescue,
+        fifth: f.instance,
+        sixth: f.file,
+        last: f.name,
+        signed: false,
+    }
+}
+
+fn instruction_line(function: u64, part: &[u64], i: usize) -> Fields
+    ensures { λ r. ⌜ r ≡ instructionLine function (now (part .entry)) i ⌝ }
+{
+    let word = entry_word(part, CODE_WORDS, i, 0);
+    let position = entry_word(part, CODE_WORDS, i, 1);
+    Fields {
+        section: INSTRUCTION,
+        first: function,
+        second: i as u64,
+        third: line_of(position),
+        fourth: column_of(position),
+        fifth: word / OPCODE_UNIT,
+        sixth: 0,
+        last: word % OPCODE_UNIT,
+        signed: false,
+    }
+}
+
+fn constant_line(constants: &[u64], i: usize) -> Fields
+    ensures { λ r. ⌜ r ≡ constantLine (now (constants .entry)) i ⌝ }
+{
+    let kind = entry_word(constants, CONSTANT_WORDS, i, 0);
+    let value = entry_word(constants, CONSTANT_WORDS, i, 1);
+    short_line(CONSTANT, i as u64, kind, value, kind == INTEGER_CONSTANT)
+}
+
+fn model_line(models: &[u64], i: usize) -> Fields
+    ensures { λ r. ⌜ r ≡ modelLine (now (models .entry)) i ⌝ }
+{
+    let file = entry_word(models, MODEL_WORDS, i, 0);
+    let name = entry_word(models, MODEL_WORDS, i, 1);
+    short_line(MODEL, i as u64, file, name, false)
+}
+
+// A property's index in its model: the entries of the model just ahead of it.
+fn property_index(properties: &[u64], i: usize) -> u64
+    ensures { λ r. ⌜ r ≡ propertyIndex (now (properties .entry)) i ⌝ }
+{
+    let model = entry_word(properties, PROPERTY_WORDS, i, 0);
+    let mut index: u64 = 0;
+    let mut j = i;
+    while j > 0 {
+        if entry_word(properties, PROPERTY_WORDS, j - 1, 0) != model {
+            return index;
+        }
+        index += 1;
+        j -= 1;
+    }
+    index
+}
+
+fn property_line(properties: &[u64], i: usize) -> Fields
+    ensures { λ r. ⌜ r ≡ propertyLine (now (properties .entry)) i ⌝ }
+{
+    let model = entry_word(properties, PROPERTY_WORDS, i, 0);
+    let index = property_index(properties, i);
+    let name = entry_word(properties, PROPERTY_WORDS, i, 1);
+    short_line(PROPERTY, model, index, name, false)
+}
+
+fn method_line(methods: &[u64], i: usize) -> Fields
+    ensures { λ r. ⌜ r ≡ methodLine (now (methods .entry)) i ⌝ }
+{
+    let model = entry_word(methods, METHOD_WORDS, i, 0);
+    let name = entry_word(methods, METHOD_WORDS, i, 1);
+    let function = entry_word(methods, METHOD_WORDS, i, 2);
+    short_line(METHOD, model, function, name, false)
+}
+
+fn context_value_line(locals: &[u64], i: usize) -> Fields
+    ensures { λ r. ⌜ r ≡ contextValueLine (now (locals .entry)) i ⌝ }
+{
+    let constant = entry_word(locals, CONTEXT_LOCAL_WORDS, i, 3);
+    short_line(CONTEXT_VALUE, i as u64, constant, 0, false)
+}
+
+fn file_line(books: &[u64], i: usize) -> Fields
+    ensures { λ r. ⌜ r ≡ fileLine (now (books .entry)) i ⌝ }
+{
+    let number = entry_word(books, BOOK_WORDS, i, 0);
+    short_line(FILE, i as u64, 0, number, false)
+}
+
+fn error_line(errors: &[u64], i: usize) -> Fields
+    ensures { λ r. ⌜ r ≡ errorLine (now (errors .entry)) i ⌝ }
+{
+    let number = entry_word(errors, ERROR_WORDS, i, 0);
+    let position = entry_word(errors, ERROR_WORDS, i, 1);
+    let kind = entry_word(errors, ERROR_WORDS, i, 2);
+    let value = entry_word(errors, ERROR_WORDS, i, 3);
+    Fields {
+        section: ERROR,
+        first: i as u64,
+        second: number,
+        third: line_of(position),
+        fourth: column_of(position),
+        fifth: kind,
+        sixth: 0,
+        last: value,
+        signed: kind == INTEGER_TOKEN,
+    }
+}
+
+// The line of entry i of a section's area.
+fn entry_line(section: Section, area: &[u64], i: usize) -> Fields
+    ensures { λ r. ⌜ r ≡ entryLine section (now (area .entry)) i ⌝ }
+{
+    match section {
+        Section::Functions => function_line(area, i),
+        Section::Instructions(function) => instruction_line(function, area, i),
+        Section::Constants => constant_line(area, i),
+        Section::Models => model_line(area, i),
+        Section::Properties => property_line(area, i),
+        Section::Methods => method_line(area, i),
+        Section::ContextValues => context_value_line(area, i),
+        Section::Globals => short_line(GLOBAL, i as u64, 0, 0, false),
+        Section::Files => file_line(area, i),
+        Section::Errors => error_line(area, i),
+    }
+}
+
+// A context local without a value and a constant that is no global have no line.
+fn is_listed(section: Section, area: &[u64], i: usize) -> bool
+    ensures { λ r. ⌜ r ≡ isListed section (now (area .entry)) i ⌝ }
+{
+    match section {
+        Section::Functions => true,
+        Section::Instructions(_) => true,
+        Section::Constants => true,
+        Section::Models => true,
+        Section::Properties => true,
+        Section::Methods => true,
+        Section::ContextValues => entry_word(area, CONTEXT_LOCAL_WORDS, i, 2) == 1,
+        Section::Globals => entry_word(area, CONSTANT_WORDS, i, 2) == 1,
+        Section::Files => true,
+        Section::Errors => true,
+    }
+}
+
+// Writes the line of entry i, if it has one, unless something before it did not fit.
+pub fn write_entry(section: Section, area: &[u64], i: usize, out: &mut [u8], place: Place) -> Place
+    ensures { λ r. ⌜ placed r (now (out .exit)) ≡ linesAt (entryLines section (now (area .entry)) i) (placed place (now (out .entry))) ⌝ }
+{
+    if place.fits {
+        if is_listed(section, area, i) {
+            let line = entry_line(section, area, i);
+            return write_line(out, place.offset, line);
+        }
+    }
+    place
+}
