@@ -3,8 +3,8 @@
 use Prim.Native.Nat.{_≤_, _-_}
 use mathlib.Core.Path.{_≡_, refl}
 use lib.ListN.{length, length-set}
-use Rattle.shapes.proofs.parse.Statement.{statement}
-use Rattle.shapes.proofs.parse.Tie as tie
+use Rattle.case_numbers.proofs.parse.Statement.{statement}
+use Rattle.case_numbers.proofs.parse.Tie as tie
 use borrow.Author.Needs.{needs}
 use native.Mathlib.Omega.{arith}
 

@@ -2,8 +2,8 @@
 -- Made from Proof.answers by `answers make`: edit that file, and not this one.
 use Prim.Native.Nat.{_≤_, _-_}
 use lib.ListN.{length}
-use Rattle.shapes.proofs.skip.Statement.{statement}
-use Rattle.shapes.proofs.skip.Tie as tie
+use Rattle.case_numbers.proofs.skip.Statement.{statement}
+use Rattle.case_numbers.proofs.skip.Tie as tie
 use borrow.Author.Needs.{needs}
 use native.Mathlib.Omega.{arith}
 
