@@ -22,11 +22,11 @@ use Rattle.definition.specs.DependencySolver.{dependencies, dependenciesOf, fin
 use Rattle.building.specs.declared.taking.Taken.{Taken}
 use Rattle.building.specs.Taking.{Took, taken}
 use Rattle.building.proofs.Filling.{room-fits}
-use Rattle.books.specs.Meets.{skipC}
+use Rattle.bodies.specs.Meets.{skipC}
 use Rattle.books.specs.Sets.{setSize, bitOf, allBits, SetIs, NextIn, Below, Ascends}
 use Rattle.books.specs.Solving.{Bundle, placeOf, FindsDocument, bookUnit, bookWord, waiting, booksOf, TakesBooks, AllIncluded, Stands, Ready}
 use Rattle.books.specs.Solving.{FindsReady, Brings}
-use Rattle.books.proofs.Tokens.{skip-law}
+use Rattle.bodies.proofs.Tokens.{skip-law}
 use Rattle.books.proofs.FileLists.{all-bits, found-below, SetFrom, set-from, next-some, next-none}
 use Rattle.books.proofs.BundleWays.{bundle-first, bundle-next, bundle-past, bundle-none, bundle-rest, bundle-fits, defs-end, defs-other, defs-more}
 

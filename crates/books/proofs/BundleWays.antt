@@ -23,10 +23,10 @@ use Rattle.definition.specs.Answer.{twice}
 use Rattle.building.specs.declared.scopes.Found.{Found}
 use Rattle.building.specs.declared.scopes.Found.the-variants.{At, Nothing}
 use Rattle.building.specs.Found.{foundOf}
-use Rattle.books.specs.Meets.{skipC}
+use Rattle.bodies.specs.Meets.{skipC}
 use Rattle.books.specs.Sets.{setSize, bitOf, addBit, addBits, Added, SetIs, NextIn, Below, Ascends}
 use Rattle.books.specs.Solving.{Bundle, Distinct, files, FindsTwice, Includes, Reaches, reachBits, Needs, Misses}
-use Rattle.books.proofs.Tokens.{skip-law}
+use Rattle.bodies.proofs.Tokens.{skip-law}
 use Rattle.books.proofs.FileLists.{join, never, has-head, has-tail, set-add, set-reached, reached-ascends, reached-below, same-members, needed-still}
 use Rattle.books.proofs.FileLists.{SetFrom, set-from, Split, next-some, next-none, missing-by}
 

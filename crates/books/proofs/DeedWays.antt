@@ -35,7 +35,7 @@ use Rattle.building.proofs.Filling.{over-fits, over-here}
 use Rattle.building.proofs.PoolLaws.{add-constant-law, add-constant-index}
 use Rattle.building.proofs.ContextLaws.{Grown, grown, over, Defines, there, new, withLocal, define-context-law, set-value-law, set-value-locals}
 use Rattle.books.specs.declared.documents.Book as struct
-use Rattle.books.specs.Meets.{OnErrors}
+use Rattle.bodies.specs.Meets.{OnErrors}
 use Rattle.books.specs.Shelf.{Shelf, shelf, Stock, Fitted, Keeping}
 use Rattle.books.specs.Deeds.{resumedBook, withLocals, ErrorsDo, ConstantsPlace, LocalsSeek, Below, LocalsValue}
 use Rattle.books.proofs.Calm.{calm-local, calm-value}

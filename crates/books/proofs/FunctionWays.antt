@@ -33,11 +33,11 @@ use Rattle.building.proofs.StateLaws.{parameters-law}
 use Rattle.building.proofs.EmissionLaws.{held-coded, return-law, last-position-law}
 use Rattle.building.proofs.ScopeLaws.{define-law, define-found}
 use Rattle.building.proofs.Notes.{held-longer, back}
-use Rattle.books.specs.Meets.{Inside, OnErrors}
-use Rattle.books.specs.Members.{MeetsSs}
+use Rattle.bodies.specs.Meets.{Inside, OnErrors}
+use Rattle.bodies.specs.Members.{MeetsSs}
 use Rattle.books.specs.Making.{instanceBy, MeetsParameter, MeetsParameters, ParametersEnd, MeetsBase}
-use Rattle.books.proofs.Balanced.{balanced-bare}
-use Rattle.books.proofs.Steps.{same-locals}
+use Rattle.bodies.proofs.Balanced.{balanced-bare}
+use Rattle.bodies.proofs.Steps.{same-locals}
 
 -- the mark stays
 parameters-mark : (i : Bool) (p : ℕ) (s : FunctionState) → parametersC i p s .full ≡ s .full

@@ -19,7 +19,7 @@ use Rattle.building.specs.declared.scopes.Found.{Found}
 use Rattle.building.specs.declared.scopes.Found.the-variants.{At, Nothing}
 use Rattle.building.specs.Found.{foundOf}
 use Rattle.books.specs.declared.documents.Book as struct
-use Rattle.books.specs.Meets.{skipC}
+use Rattle.bodies.specs.Meets.{skipC}
 use Rattle.books.specs.Shelf.{shelf, Keeping, Deeds, Seeks}
 use Rattle.books.specs.Adding.{Bounded, Makes, AddsFunction}
 use Rattle.books.specs.Modelling.{InsertsMethod, FindsModel}
@@ -27,7 +27,7 @@ use Rattle.books.specs.Implementing.{implementing, implementingAll, numb
 use Rattle.books.proofs.Calm.{Calms, calm-refl, calm-trans}
 use Rattle.books.proofs.ModelCalm.{calm-methods, calm-find-model}
 use Rattle.books.proofs.Shelving.{keeping-longer, full-deeds}
-use Rattle.books.proofs.Tokens.{skip-law}
+use Rattle.bodies.proofs.Tokens.{skip-law}
 use Rattle.books.proofs.Pairs.{found-at, found-none}
 use Rattle.books.proofs.MakingWays.{functions-length}
 use Rattle.books.proofs.FunctionDeeds.{calm-added}

@@ -1,11 +1,3 @@
-pub mod Balanced
-pub mod Steps
-pub mod Leaves
-pub mod Tokens
-pub mod Runs
-pub mod Loops
-pub mod ExpressionWays
-pub mod StatementWays
 pub mod Calm
 pub mod Shelving
 pub mod FunctionWays
@@ -25,10 +17,6 @@ pub mod BundleRange
 pub mod BookWays
 pub mod StandsLaws
 pub mod Ending
-pub mod VariableWays
-pub mod InfixWays
-pub mod IfWays
-pub mod LoopWays
 pub mod Resuming
 pub mod LocalEntries
 pub mod DeedWays

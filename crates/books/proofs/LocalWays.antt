@@ -17,7 +17,7 @@ use Rattle.building.specs.declared.scopes.Found.{Found}
 use Rattle.building.specs.declared.scopes.Found.the-variants.{At, Nothing}
 use Rattle.building.specs.Found.{foundOf}
 use Rattle.books.specs.declared.documents.Book as struct
-use Rattle.books.specs.Meets.{standingOf}
+use Rattle.bodies.specs.Meets.{standingOf}
 use Rattle.books.specs.Shelf.{shelf, Keeping}
 use Rattle.books.specs.Deeds.{ErrorsDo, ConstantsPlace, LocalsSeek, Below, LocalsValue, LocalsDo, AddsValue, GivesValue, Binds}
 use Rattle.books.specs.Deeds.{DefinesLocals}

@@ -21,11 +21,11 @@ use Rattle.definition.proofs.Cells.{entries-length, all-any}
 use Rattle.building.specs.Held.{Filled}
 use Rattle.building.proofs.PoolLaws.{entries-more}
 use Rattle.books.specs.declared.documents.Book as struct
-use Rattle.books.specs.Meets.{skipC}
+use Rattle.bodies.specs.Meets.{skipC}
 use Rattle.books.specs.Shelf.{Shelf, shelf, Stock, Keeping, Shelved}
 use Rattle.books.specs.Driving.{MeetsDefinition, MeetsDefinitions, nobody, openedBook, Resting, MeetsDocument}
 use Rattle.books.proofs.Calm.{Calms}
-use Rattle.books.proofs.Tokens.{skip-law}
+use Rattle.bodies.proofs.Tokens.{skip-law}
 
 -- a book's own name stands nowhere in the areas yet
 named : {κ : Limits} {m : Shelf} {c : Context} {uses : List Use} (d : Document) → Keeping κ [] m (opened nobody c uses) → Keeping κ [] m (opened d c uses)

@@ -24,7 +24,7 @@ use Rattle.building.specs.Held.{Filled, Marks}
 use Rattle.building.proofs.Filling.{over-fits, over-here}
 use Rattle.building.proofs.Notes.{over-longer}
 use Rattle.books.specs.declared.documents.Book as struct
-use Rattle.books.specs.Meets.{skipC}
+use Rattle.bodies.specs.Meets.{skipC}
 use Rattle.books.specs.Sets.{addBit, SetIs, Ascends, setSize}
 use Rattle.books.specs.Solving.{InSets, bookUnit, booksOf, Stands, Ready, FindsReady, Brings}
 use Rattle.books.specs.Shelf.{shelf, Keeping, Shelved}
@@ -35,7 +35,7 @@ use Rattle.books.proofs.PuttingAway.{putAway, put-away}
 use Rattle.books.proofs.Lefts.{all-ready, files-length, files-at, leaves-are}
 use Rattle.books.proofs.StandsLaws.{without-length, without-ascends, without-missing}
 use Rattle.books.proofs.FileLists.{set-add}
-use Rattle.books.proofs.Tokens.{skip-law}
+use Rattle.bodies.proofs.Tokens.{skip-law}
 
 module _ (calm : (d : Definition) → Calms (compileDefinition d)) {tree : List ℕ} {end done count : ℕ} {set books : List ℕ} {s : struct.Book}
     {c k f m p t l u n b e : List ℕ} where

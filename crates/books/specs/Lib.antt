@@ -1,12 +1,9 @@
-pub mod Meets
-pub mod Members
 pub mod Shelf
 pub mod Making
 pub mod Promise
 pub mod Driving
 pub mod Sets
 pub mod Solving
-pub mod Looping
 pub mod Modelling
 pub mod Deeds
 pub mod Adding

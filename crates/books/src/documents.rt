@@ -6,7 +6,6 @@ ghost use Rattle.definition.specs.Book.{pushBookError, addBookConstant, defineC
 ghost use Rattle.building.specs.State.{begun};
 ghost use Prim.Native.Nat.{_+_};
 ghost use Rattle.books.specs.Deeds.{resumedBook, ErrorsDo, ConstantsPlace, LocalsSeek, LocalsValue, AddsValue, GivesValue, Binds, DefinesLocals};
-use crate::body;
 ghost use Rattle.words.specs.Record.{valueAt};
 ghost use Rattle.building.specs.Found.{foundOf};
 ghost use Rattle.books.specs.Including.{isPublic, findBookC, findPublicC, includedC, TakesName, TakesNames};
@@ -74,7 +73,7 @@ pub(crate) fn fault(tree: &[u64], at: usize, errors: &mut [u64], book: Book, num
     ensures { λ r. ⌜ ErrorsDo book (now (errors .entry)) r (now (errors .exit)) (pushBookError number (tokenAt (now (tree .entry)) at)) ⌝ }
 {
     let before = working(book);
-    let state = body::fault(tree, at, errors, before, number);
+    let state = bodies::fault(tree, at, errors, before, number);
     resumed(book, state)
 }
 
@@ -159,7 +158,7 @@ fn give_value(
 {
     let kind = field(tree, at, record::KIND);
     let value = field(tree, at, record::VALUE);
-    let constant = body::standing(kind, value);
+    let constant = bodies::standing(kind, value);
     if kind == record::NULL {
         set_value(locals, book, found, constant);
         return book;
@@ -169,10 +168,10 @@ fn give_value(
         return book;
     }
     if kind == record::INTEGER {
-        return add_value(constants, locals, book, found, body::INTEGER_KIND, value);
+        return add_value(constants, locals, book, found, bodies::INTEGER_KIND, value);
     }
     if kind == record::FLOAT {
-        return add_value(constants, locals, book, found, body::FLOAT_KIND, value);
+        return add_value(constants, locals, book, found, bodies::FLOAT_KIND, value);
     }
     fault(tree, at, errors, book, reply::ERROR_CONSTANT_ONLY)
 }

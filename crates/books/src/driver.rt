@@ -5,7 +5,6 @@ ghost use Rattle.building.specs.Taking.{taken};
 ghost use Rattle.books.specs.Driving.{Rings, Fronts, FirstConstants, markOf, MarkedFrom, Emptied, begunBook};
 ghost use Rattle.books.specs.Driving.{MeetsDefinition, MeetsDefinitions, MeetsDocument, Drives, Works};
 ghost use Rattle.books.specs.Shelf.{shelf};
-use crate::body;
 use crate::documents;
 use crate::documents::Book;
 use crate::functions;
@@ -288,7 +287,7 @@ fn definitions(
     let mut i = at;
     let mut b = book;
     while i < end {
-        let next = body::skip(tree, i, end);
+        let next = bodies::skip(tree, i, end);
         b = definition(
             tree,
             i,
@@ -421,7 +420,7 @@ fn drive(
         let file = entry / solver::BOOK_UNIT;
         let at = (entry % solver::BOOK_UNIT) as usize;
         solver::bring(books, done, next, file);
-        let last = body::skip(tree, at, end);
+        let last = bodies::skip(tree, at, end);
         b = document(
             tree,
             at,

@@ -4,7 +4,6 @@ ghost use Rattle.tree.specs.At.{isParameter};
 ghost use Rattle.building.specs.Held.{machine};
 ghost use Rattle.books.specs.Making.{instanceBy, MeetsParameter, MeetsParameters, ParametersEnd, MeetsBase};
 ghost use Rattle.books.specs.Adding.{Makes, AddsFunction, DropsFunction, AddsPlain, DefinesFunction};
-use crate::body;
 use crate::documents;
 use crate::documents::Book;
 use crate::documents::Placed;
@@ -57,7 +56,7 @@ fn parameter(
     if let Found::At(_) = found {
         return s2;
     }
-    body::fault(tree, at, errors, s2, reply::ERROR_PARAMETER_EXISTS)
+    bodies::fault(tree, at, errors, s2, reply::ERROR_PARAMETER_EXISTS)
 }
 
 // The parameters from a place up to the end.
@@ -130,7 +129,7 @@ fn base(
         let first = parameters_end(tree, at + 1, end);
         let s1 = parameters(tree, at + 1, first, state, names, errors);
         let s2 = function_state::with_parameters(s1, s1.is_instance, first - (at + 1));
-        let s3 = body::statements(
+        let s3 = bodies::statements(
             tree,
             first,
             end,
@@ -348,7 +347,7 @@ fn implement_functions(
     let mut i = at;
     let mut b = book;
     while i < end {
-        let next = body::skip(tree, i, end);
+        let next = bodies::skip(tree, i, end);
         b = implement_function(
             tree,
             i,
@@ -389,7 +388,7 @@ fn implement_methods(
         let name = field(tree, i, record::VALUE);
         b = models::insert_method(methods, b, model, name, f as u64);
         f += 1;
-        i = body::skip(tree, i, end);
+        i = bodies::skip(tree, i, end);
     }
     b
 }

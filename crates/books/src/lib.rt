@@ -1,7 +1,6 @@
 // The compile call: `backend/compiler.rs` and `backend/dependency_solver.rs` over lent areas.
 ghost use Rattle.books.specs.Promise.{areas, Compiles};
 
-pub mod body;
 pub mod documents;
 pub mod driver;
 pub mod functions;

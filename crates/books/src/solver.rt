@@ -6,7 +6,7 @@ ghost use lib.ListN.{length};
 ghost use Rattle.books.specs.Sets.{bitOf, Added, NextIn, Passes, setSize};
 ghost use Rattle.books.specs.Solving.{FindsTwice, Includes, Reaches, Needs, Misses, FindsDocument, TakesBooks, AllIncluded, FindsReady, Brings};
 ghost use Rattle.words.specs.Record.{mostRecords};
-use crate::body::skip;
+use bodies::skip;
 use building::scopes::Found;
 use building::taking;
 use words::areas;

@@ -5,79 +5,66 @@ use mathlib.Core.Path.{_∙_}
 use Rattle.books.proofs.compile.Statement.{statement}
 use Rattle.books.proofs.compile.Tie as tie
 use borrow.Author.Needs.{needs}
-use native.Mathlib.Omega.{arith}
 
 same-length : tie.Need-same-length
 same-length c =
-    let c8 = c .before .before .before .before .before .before .before .before in
-    let c32 = c8 .before .before .before .before .before .before .before .before .before .before .before .before .before .before .before .before .before .before .before .before .before .before .before .before in
-    omega (arith, c32 .clear-program .kept, c8 .clear-from .kept)
+    let c32 = c .before .before .before .before .before .before .before .before .before .before .before .before .before .before .before .before .before .before .before .before .before .before .before .before .before .before .before .before .before .before .before .before in
+    (c32 .clear-program .kept .0)
 
 same-length-2 : tie.Need-same-length-2
 same-length-2 c =
-    let c8 = c .before .before .before .before .before .before .before .before in
-    let c32 = c8 .before .before .before .before .before .before .before .before .before .before .before .before .before .before .before .before .before .before .before .before .before .before .before .before in
-    omega (arith, c32 .clear-program .kept, c8 .clear-from .kept)
+    let c32 = c .before .before .before .before .before .before .before .before .before .before .before .before .before .before .before .before .before .before .before .before .before .before .before .before .before .before .before .before .before .before .before .before in
+    (c32 .clear-program .kept .1 .0)
 
 same-length-3 : tie.Need-same-length-3
 same-length-3 c =
-    let c8 = c .before .before .before .before .before .before .before .before in
-    let c32 = c8 .before .before .before .before .before .before .before .before .before .before .before .before .before .before .before .before .before .before .before .before .before .before .before .before in
-    omega (arith, c32 .clear-program .kept, c8 .clear-from .kept)
+    let c32 = c .before .before .before .before .before .before .before .before .before .before .before .before .before .before .before .before .before .before .before .before .before .before .before .before .before .before .before .before .before .before .before .before in
+    (c32 .clear-program .kept .1 .1 .0)
 
 same-length-4 : tie.Need-same-length-4
 same-length-4 c =
-    let c8 = c .before .before .before .before .before .before .before .before in
-    let c32 = c8 .before .before .before .before .before .before .before .before .before .before .before .before .before .before .before .before .before .before .before .before .before .before .before .before in
-    omega (arith, c32 .clear-program .kept, c8 .clear-from .kept)
+    let c32 = c .before .before .before .before .before .before .before .before .before .before .before .before .before .before .before .before .before .before .before .before .before .before .before .before .before .before .before .before .before .before .before .before in
+    (c32 .clear-program .kept .1 .1 .1 .0)
 
 same-length-5 : tie.Need-same-length-5
 same-length-5 c =
-    let c8 = c .before .before .before .before .before .before .before .before in
-    let c32 = c8 .before .before .before .before .before .before .before .before .before .before .before .before .before .before .before .before .before .before .before .before .before .before .before .before in
-    omega (arith, c32 .clear-program .kept, c8 .clear-from .kept)
+    let c32 = c .before .before .before .before .before .before .before .before .before .before .before .before .before .before .before .before .before .before .before .before .before .before .before .before .before .before .before .before .before .before .before .before in
+    (c32 .clear-program .kept .1 .1 .1 .1 .0)
 
 same-length-6 : tie.Need-same-length-6
 same-length-6 c =
-    let c8 = c .before .before .before .before .before .before .before .before in
-    let c32 = c8 .before .before .before .before .before .before .before .before .before .before .before .before .before .before .before .before .before .before .before .before .before .before .before .before in
-    omega (arith, c32 .clear-program .kept, c8 .clear-from .kept)
+    let c32 = c .before .before .before .before .before .before .before .before .before .before .before .before .before .before .before .before .before .before .before .before .before .before .before .before .before .before .before .before .before .before .before .before in
+    (c32 .clear-program .kept .1 .1 .1 .1 .1 .0)
 
 same-length-7 : tie.Need-same-length-7
 same-length-7 c =
-    let c8 = c .before .before .before .before .before .before .before .before in
-    let c32 = c8 .before .before .before .before .before .before .before .before .before .before .before .before .before .before .before .before .before .before .before .before .before .before .before .before in
-    omega (arith, c32 .clear-program .kept, c8 .clear-from .kept)
+    let c32 = c .before .before .before .before .before .before .before .before .before .before .before .before .before .before .before .before .before .before .before .before .before .before .before .before .before .before .before .before .before .before .before .before in
+    (c32 .clear-program .kept .1 .1 .1 .1 .1 .1 .0)
 
 same-length-8 : tie.Need-same-length-8
 same-length-8 c =
-    let c8 = c .before .before .before .before .before .before .before .before in
-    let c32 = c8 .before .before .before .before .before .before .before .before .before .before .before .before .before .before .before .before .before .before .before .before .before .before .before .before in
-    omega (arith, c32 .clear-program .kept, c8 .clear-from .kept)
+    let c32 = c .before .before .before .before .before .before .before .before .before .before .before .before .before .before .before .before .before .before .before .before .before .before .before .before .before .before .before .before .before .before .before .before in
+    (c32 .clear-program .kept .1 .1 .1 .1 .1 .1 .1 .0)
 
 same-length-9 : tie.Need-same-length-9
 same-length-9 c =
-    let c8 = c .before .before .before .before .before .before .before .before in
-    let c32 = c8 .before .before .before .before .before .before .before .before .before .before .before .before .before .before .before .before .before .before .before .before .before .before .before .before in
-    omega (arith, c32 .clear-program .kept, c8 .clear-from .kept)
+    let c32 = c .before .before .before .before .before .before .before .before .before .before .before .before .before .before .before .before .before .before .before .before .before .before .before .before .before .before .before .before .before .before .before .before in
+    (c32 .clear-program .kept .1 .1 .1 .1 .1 .1 .1 .1 .0)
 
 same-length-10 : tie.Need-same-length-10
 same-length-10 c =
-    let c8 = c .before .before .before .before .before .before .before .before in
-    let c32 = c8 .before .before .before .before .before .before .before .before .before .before .before .before .before .before .before .before .before .before .before .before .before .before .before .before in
-    omega (arith, c32 .clear-program .kept, c8 .clear-from .kept)
+    let c32 = c .before .before .before .before .before .before .before .before .before .before .before .before .before .before .before .before .before .before .before .before .before .before .before .before .before .before .before .before .before .before .before .before in
+    (c32 .clear-program .kept .1 .1 .1 .1 .1 .1 .1 .1 .1 .0)
 
 same-length-11 : tie.Need-same-length-11
 same-length-11 c =
     let c8 = c .before .before .before .before .before .before .before .before in
-    let c32 = c8 .before .before .before .before .before .before .before .before .before .before .before .before .before .before .before .before .before .before .before .before .before .before .before .before in
-    omega (arith, c32 .clear-program .kept, c8 .clear-from .kept)
+    (c8 .clear-from .kept .0)
 
 same-length-12 : tie.Need-same-length-12
 same-length-12 c =
-    let c8 = c .before .before .before .before .before .before .before .before in
-    let c32 = c8 .before .before .before .before .before .before .before .before .before .before .before .before .before .before .before .before .before .before .before .before .before .before .before .before in
-    omega (arith, c32 .clear-program .kept, c8 .clear-from .kept)
+    let c32 = c .before .before .before .before .before .before .before .before .before .before .before .before .before .before .before .before .before .before .before .before .before .before .before .before .before .before .before .before .before .before .before .before in
+    (c32 .clear-program .kept .1 .1 .1 .1 .1 .1 .1 .1 .1 .1 .0)
 
 returns : tie.Need-returns
 returns c =
@@ -108,97 +95,87 @@ same-length-13 : tie.Need-same-length-13
 same-length-13 c =
     let c27 = c .before .before .before .before .before .before .before .before .before .before .before .before .before .before .before .before .before .before .before .before .before .before .before .before .before .before .before in
     let c66 = c27 .before .before .before .before .before .before .before .before .before .before .before .before .before .before .before .before .before .before .before .before .before .before .before .before .before .before .before .before .before .before .before .before .before .before .before .before .before .before .before in
-    let c87 = c66 .before .before .before .before .before .before .before .before .before .before .before .before .before .before .before .before .before .before .before .before .before in
-    let c111 = c87 .before .before .before .before .before .before .before .before .before .before .before .before .before .before .before .before .before .before .before .before .before .before .before .before in
-    omega (arith, c27 .clear-program2 .kept, c111 .clear-program .kept, c .before .before .before .clear-from2 .kept, c87 .clear-from .kept, c66 .work .kept)
+    let c111 = c66 .before .before .before .before .before .before .before .before .before .before .before .before .before .before .before .before .before .before .before .before .before .before .before .before .before .before .before .before .before .before .before .before .before .before .before .before .before .before .before .before .before .before .before .before .before in
+    (c27 .clear-program2 .kept .0) ∙ (c66 .work .kept .1 .1 .0) ∙ (c111 .clear-program .kept .0)
 
 same-length-14 : tie.Need-same-length-14
 same-length-14 c =
     let c27 = c .before .before .before .before .before .before .before .before .before .before .before .before .before .before .before .before .before .before .before .before .before .before .before .before .before .before .before in
     let c66 = c27 .before .before .before .before .before .before .before .before .before .before .before .before .before .before .before .before .before .before .before .before .before .before .before .before .before .before .before .before .before .before .before .before .before .before .before .before .before .before .before in
-    let c87 = c66 .before .before .before .before .before .before .before .before .before .before .before .before .before .before .before .before .before .before .before .before .before in
-    let c111 = c87 .before .before .before .before .before .before .before .before .before .before .before .before .before .before .before .before .before .before .before .before .before .before .before .before in
-    omega (arith, c27 .clear-program2 .kept, c111 .clear-program .kept, c .before .before .before .clear-from2 .kept, c87 .clear-from .kept, c66 .work .kept)
+    let c111 = c66 .before .before .before .before .before .before .before .before .before .before .before .before .before .before .before .before .before .before .before .before .before .before .before .before .before .before .before .before .before .before .before .before .before .before .before .before .before .before .before .before .before .before .before .before .before in
+    (c27 .clear-program2 .kept .1 .0) ∙ (c66 .work .kept .1 .1 .1 .0) ∙ (c111 .clear-program .kept .1 .0)
 
 same-length-15 : tie.Need-same-length-15
 same-length-15 c =
     let c27 = c .before .before .before .before .before .before .before .before .before .before .before .before .before .before .before .before .before .before .before .before .before .before .before .before .before .before .before in
     let c66 = c27 .before .before .before .before .before .before .before .before .before .before .before .before .before .before .before .before .before .before .before .before .before .before .before .before .before .before .before .before .before .before .before .before .before .before .before .before .before .before .before in
-    let c87 = c66 .before .before .before .before .before .before .before .before .before .before .before .before .before .before .before .before .before .before .before .before .before in
-    let c111 = c87 .before .before .before .before .before .before .before .before .before .before .before .before .before .before .before .before .before .before .before .before .before .before .before .before in
-    omega (arith, c27 .clear-program2 .kept, c111 .clear-program .kept, c .before .before .before .clear-from2 .kept, c87 .clear-from .kept, c66 .work .kept)
+    let c111 = c66 .before .before .before .before .before .before .before .before .before .before .before .before .before .before .before .before .before .before .before .before .before .before .before .before .before .before .before .before .before .before .before .before .before .before .before .before .before .before .before .before .before .before .before .before .before in
+    (c27 .clear-program2 .kept .1 .1 .0) ∙ (c66 .work .kept .1 .1 .1 .1 .0) ∙ (c111 .clear-program .kept .1 .1 .0)
 
 same-length-16 : tie.Need-same-length-16
 same-length-16 c =
     let c27 = c .before .before .before .before .before .before .before .before .before .before .before .before .before .before .before .before .before .before .before .before .before .before .before .before .before .before .before in
     let c66 = c27 .before .before .before .before .before .before .before .before .before .before .before .before .before .before .before .before .before .before .before .before .before .before .before .before .before .before .before .before .before .before .before .before .before .before .before .before .before .before .before in
-    let c87 = c66 .before .before .before .before .before .before .before .before .before .before .before .before .before .before .before .before .before .before .before .before .before in
-    let c111 = c87 .before .before .before .before .before .before .before .before .before .before .before .before .before .before .before .before .before .before .before .before .before .before .before .before in
-    omega (arith, c27 .clear-program2 .kept, c111 .clear-program .kept, c .before .before .before .clear-from2 .kept, c87 .clear-from .kept, c66 .work .kept)
+    let c111 = c66 .before .before .before .before .before .before .before .before .before .before .before .before .before .before .before .before .before .before .before .before .before .before .before .before .before .before .before .before .before .before .before .before .before .before .before .before .before .before .before .before .before .before .before .before .before in
+    (c27 .clear-program2 .kept .1 .1 .1 .0) ∙ (c66 .work .kept .1 .1 .1 .1 .1 .0) ∙ (c111 .clear-program .kept .1 .1 .1 .0)
 
 same-length-17 : tie.Need-same-length-17
 same-length-17 c =
     let c27 = c .before .before .before .before .before .before .before .before .before .before .before .before .before .before .before .before .before .before .before .before .before .before .before .before .before .before .before in
     let c66 = c27 .before .before .before .before .before .before .before .before .before .before .before .before .before .before .before .before .before .before .before .before .before .before .before .before .before .before .before .before .before .before .before .before .before .before .before .before .before .before .before in
-    let c87 = c66 .before .before .before .before .before .before .before .before .before .before .before .before .before .before .before .before .before .before .before .before .before in
-    let c111 = c87 .before .before .before .before .before .before .before .before .before .before .before .before .before .before .before .before .before .before .before .before .before .before .before .before in
-    omega (arith, c27 .clear-program2 .kept, c111 .clear-program .kept, c .before .before .before .clear-from2 .kept, c87 .clear-from .kept, c66 .work .kept)
+    let c111 = c66 .before .before .before .before .before .before .before .before .before .before .before .before .before .before .before .before .before .before .before .before .before .before .before .before .before .before .before .before .before .before .before .before .before .before .before .before .before .before .before .before .before .before .before .before .before in
+    (c27 .clear-program2 .kept .1 .1 .1 .1 .0) ∙ (c66 .work .kept .1 .1 .1 .1 .1 .1 .0) ∙ (c111 .clear-program .kept .1 .1 .1 .1 .0)
 
 same-length-18 : tie.Need-same-length-18
 same-length-18 c =
     let c27 = c .before .before .before .before .before .before .before .before .before .before .before .before .before .before .before .before .before .before .before .before .before .before .before .before .before .before .before in
     let c66 = c27 .before .before .before .before .before .before .before .before .before .before .before .before .before .before .before .before .before .before .before .before .before .before .before .before .before .before .before .before .before .before .before .before .before .before .before .before .before .before .before in
-    let c87 = c66 .before .before .before .before .before .before .before .before .before .before .before .before .before .before .before .before .before .before .before .before .before in
-    let c111 = c87 .before .before .before .before .before .before .before .before .before .before .before .before .before .before .before .before .before .before .before .before .before .before .before .before in
-    omega (arith, c27 .clear-program2 .kept, c111 .clear-program .kept, c .before .before .before .clear-from2 .kept, c87 .clear-from .kept, c66 .work .kept)
+    let c111 = c66 .before .before .before .before .before .before .before .before .before .before .before .before .before .before .before .before .before .before .before .before .before .before .before .before .before .before .before .before .before .before .before .before .before .before .before .before .before .before .before .before .before .before .before .before .before in
+    (c27 .clear-program2 .kept .1 .1 .1 .1 .1 .0) ∙ (c66 .work .kept .1 .1 .1 .1 .1 .1 .1 .0) ∙ (c111 .clear-program .kept .1 .1 .1 .1 .1 .0)
 
 same-length-19 : tie.Need-same-length-19
 same-length-19 c =
     let c27 = c .before .before .before .before .before .before .before .before .before .before .before .before .before .before .before .before .before .before .before .before .before .before .before .before .before .before .before in
     let c66 = c27 .before .before .before .before .before .before .before .before .before .before .before .before .before .before .before .before .before .before .before .before .before .before .before .before .before .before .before .before .before .before .before .before .before .before .before .before .before .before .before in
-    let c87 = c66 .before .before .before .before .before .before .before .before .before .before .before .before .before .before .before .before .before .before .before .before .before in
-    let c111 = c87 .before .before .before .before .before .before .before .before .before .before .before .before .before .before .before .before .before .before .before .before .before .before .before .before in
-    omega (arith, c27 .clear-program2 .kept, c111 .clear-program .kept, c .before .before .before .clear-from2 .kept, c87 .clear-from .kept, c66 .work .kept)
+    let c111 = c66 .before .before .before .before .before .before .before .before .before .before .before .before .before .before .before .before .before .before .before .before .before .before .before .before .before .before .before .before .before .before .before .before .before .before .before .before .before .before .before .before .before .before .before .before .before in
+    (c27 .clear-program2 .kept .1 .1 .1 .1 .1 .1 .0) ∙ (c66 .work .kept .1 .1 .1 .1 .1 .1 .1 .1 .0) ∙ (c111 .clear-program .kept .1 .1 .1 .1 .1 .1 .0)
 
 same-length-20 : tie.Need-same-length-20
 same-length-20 c =
     let c27 = c .before .before .before .before .before .before .before .before .before .before .before .before .before .before .before .before .before .before .before .before .before .before .before .before .before .before .before in
     let c66 = c27 .before .before .before .before .before .before .before .before .before .before .before .before .before .before .before .before .before .before .before .before .before .before .before .before .before .before .before .before .before .before .before .before .before .before .before .before .before .before .before in
-    let c87 = c66 .before .before .before .before .before .before .before .before .before .before .before .before .before .before .before .before .before .before .before .before .before in
-    let c111 = c87 .before .before .before .before .before .before .before .before .before .before .before .before .before .before .before .before .before .before .before .before .before .before .before .before in
-    omega (arith, c27 .clear-program2 .kept, c111 .clear-program .kept, c .before .before .before .clear-from2 .kept, c87 .clear-from .kept, c66 .work .kept)
+    let c111 = c66 .before .before .before .before .before .before .before .before .before .before .before .before .before .before .before .before .before .before .before .before .before .before .before .before .before .before .before .before .before .before .before .before .before .before .before .before .before .before .before .before .before .before .before .before .before in
+    (c27 .clear-program2 .kept .1 .1 .1 .1 .1 .1 .1 .0) ∙ (c66 .work .kept .1 .1 .1 .1 .1 .1 .1 .1 .1 .0) ∙ (c111 .clear-program .kept .1 .1 .1 .1 .1 .1 .1 .0)
 
 same-length-21 : tie.Need-same-length-21
 same-length-21 c =
     let c27 = c .before .before .before .before .before .before .before .before .before .before .before .before .before .before .before .before .before .before .before .before .before .before .before .before .before .before .before in
     let c66 = c27 .before .before .before .before .before .before .before .before .before .before .before .before .before .before .before .before .before .before .before .before .before .before .before .before .before .before .before .before .before .before .before .before .before .before .before .before .before .before .before in
-    let c87 = c66 .before .before .before .before .before .before .before .before .before .before .before .before .before .before .before .before .before .before .before .before .before in
-    let c111 = c87 .before .before .before .before .before .before .before .before .before .before .before .before .before .before .before .before .before .before .before .before .before .before .before .before in
-    omega (arith, c27 .clear-program2 .kept, c111 .clear-program .kept, c .before .before .before .clear-from2 .kept, c87 .clear-from .kept, c66 .work .kept)
+    let c111 = c66 .before .before .before .before .before .before .before .before .before .before .before .before .before .before .before .before .before .before .before .before .before .before .before .before .before .before .before .before .before .before .before .before .before .before .before .before .before .before .before .before .before .before .before .before .before in
+    (c27 .clear-program2 .kept .1 .1 .1 .1 .1 .1 .1 .1 .0) ∙ (c66 .work .kept .1 .1 .1 .1 .1 .1 .1 .1 .1 .1 .0) ∙
+    (c111 .clear-program .kept .1 .1 .1 .1 .1 .1 .1 .1 .0)
 
 same-length-22 : tie.Need-same-length-22
 same-length-22 c =
     let c27 = c .before .before .before .before .before .before .before .before .before .before .before .before .before .before .before .before .before .before .before .before .before .before .before .before .before .before .before in
     let c66 = c27 .before .before .before .before .before .before .before .before .before .before .before .before .before .before .before .before .before .before .before .before .before .before .before .before .before .before .before .before .before .before .before .before .before .before .before .before .before .before .before in
-    let c87 = c66 .before .before .before .before .before .before .before .before .before .before .before .before .before .before .before .before .before .before .before .before .before in
-    let c111 = c87 .before .before .before .before .before .before .before .before .before .before .before .before .before .before .before .before .before .before .before .before .before .before .before .before in
-    omega (arith, c27 .clear-program2 .kept, c111 .clear-program .kept, c .before .before .before .clear-from2 .kept, c87 .clear-from .kept, c66 .work .kept)
+    let c111 = c66 .before .before .before .before .before .before .before .before .before .before .before .before .before .before .before .before .before .before .before .before .before .before .before .before .before .before .before .before .before .before .before .before .before .before .before .before .before .before .before .before .before .before .before .before .before in
+    (c27 .clear-program2 .kept .1 .1 .1 .1 .1 .1 .1 .1 .1 .0) ∙ (c66 .work .kept .1 .1 .1 .1 .1 .1 .1 .1 .1 .1 .1 .0) ∙
+    (c111 .clear-program .kept .1 .1 .1 .1 .1 .1 .1 .1 .1 .0)
 
 same-length-23 : tie.Need-same-length-23
 same-length-23 c =
-    let c27 = c .before .before .before .before .before .before .before .before .before .before .before .before .before .before .before .before .before .before .before .before .before .before .before .before .before .before .before in
-    let c66 = c27 .before .before .before .before .before .before .before .before .before .before .before .before .before .before .before .before .before .before .before .before .before .before .before .before .before .before .before .before .before .before .before .before .before .before .before .before .before .before .before in
+    let c66 = c .before .before .before .before .before .before .before .before .before .before .before .before .before .before .before .before .before .before .before .before .before .before .before .before .before .before .before .before .before .before .before .before .before .before .before .before .before .before .before .before .before .before .before .before .before .before .before .before .before .before .before .before .before .before .before .before .before .before .before .before .before .before .before .before .before .before in
     let c87 = c66 .before .before .before .before .before .before .before .before .before .before .before .before .before .before .before .before .before .before .before .before .before in
-    let c111 = c87 .before .before .before .before .before .before .before .before .before .before .before .before .before .before .before .before .before .before .before .before .before .before .before .before in
-    omega (arith, c27 .clear-program2 .kept, c111 .clear-program .kept, c .before .before .before .clear-from2 .kept, c87 .clear-from .kept, c66 .work .kept)
+    (c .before .before .before .clear-from2 .kept .0) ∙ (c66 .work .kept .1 .1 .1 .1 .1 .1 .1 .1 .1 .1 .1 .1 .0) ∙ (c87 .clear-from .kept .0)
 
 same-length-24 : tie.Need-same-length-24
 same-length-24 c =
     let c27 = c .before .before .before .before .before .before .before .before .before .before .before .before .before .before .before .before .before .before .before .before .before .before .before .before .before .before .before in
     let c66 = c27 .before .before .before .before .before .before .before .before .before .before .before .before .before .before .before .before .before .before .before .before .before .before .before .before .before .before .before .before .before .before .before .before .before .before .before .before .before .before .before in
-    let c87 = c66 .before .before .before .before .before .before .before .before .before .before .before .before .before .before .before .before .before .before .before .before .before in
-    let c111 = c87 .before .before .before .before .before .before .before .before .before .before .before .before .before .before .before .before .before .before .before .before .before .before .before .before in
-    omega (arith, c27 .clear-program2 .kept, c111 .clear-program .kept, c .before .before .before .clear-from2 .kept, c87 .clear-from .kept, c66 .work .kept)
+    let c111 = c66 .before .before .before .before .before .before .before .before .before .before .before .before .before .before .before .before .before .before .before .before .before .before .before .before .before .before .before .before .before .before .before .before .before .before .before .before .before .before .before .before .before .before .before .before .before in
+    (c27 .clear-program2 .kept .1 .1 .1 .1 .1 .1 .1 .1 .1 .1 .0) ∙ (c66 .work .kept .1 .1 .1 .1 .1 .1 .1 .1 .1 .1 .1 .1 .1 .0) ∙
+    (c111 .clear-program .kept .1 .1 .1 .1 .1 .1 .1 .1 .1 .1 .0)
 
 returns-2 : tie.Need-returns-2
 returns-2 c =
@@ -253,97 +230,87 @@ same-length-25 : tie.Need-same-length-25
 same-length-25 c =
     let c23 = c .before .before .before .before .before .before .before .before .before .before .before .before .before .before .before .before .before .before .before .before .before .before .before in
     let c64 = c23 .before .before .before .before .before .before .before .before .before .before .before .before .before .before .before .before .before .before .before .before .before .before .before .before .before .before .before .before .before .before .before .before .before .before .before .before .before .before .before .before .before in
-    let c85 = c64 .before .before .before .before .before .before .before .before .before .before .before .before .before .before .before .before .before .before .before .before .before in
-    let c109 = c85 .before .before .before .before .before .before .before .before .before .before .before .before .before .before .before .before .before .before .before .before .before .before .before .before in
-    omega (arith, c23 .clear-program3 .kept, c109 .clear-program .kept, c85 .clear-from .kept, c64 .work .kept)
+    let c109 = c64 .before .before .before .before .before .before .before .before .before .before .before .before .before .before .before .before .before .before .before .before .before .before .before .before .before .before .before .before .before .before .before .before .before .before .before .before .before .before .before .before .before .before .before .before .before in
+    (c23 .clear-program3 .kept .0) ∙ (c64 .work .kept .1 .1 .0) ∙ (c109 .clear-program .kept .0)
 
 same-length-26 : tie.Need-same-length-26
 same-length-26 c =
     let c23 = c .before .before .before .before .before .before .before .before .before .before .before .before .before .before .before .before .before .before .before .before .before .before .before in
     let c64 = c23 .before .before .before .before .before .before .before .before .before .before .before .before .before .before .before .before .before .before .before .before .before .before .before .before .before .before .before .before .before .before .before .before .before .before .before .before .before .before .before .before .before in
-    let c85 = c64 .before .before .before .before .before .before .before .before .before .before .before .before .before .before .before .before .before .before .before .before .before in
-    let c109 = c85 .before .before .before .before .before .before .before .before .before .before .before .before .before .before .before .before .before .before .before .before .before .before .before .before in
-    omega (arith, c23 .clear-program3 .kept, c109 .clear-program .kept, c85 .clear-from .kept, c64 .work .kept)
+    let c109 = c64 .before .before .before .before .before .before .before .before .before .before .before .before .before .before .before .before .before .before .before .before .before .before .before .before .before .before .before .before .before .before .before .before .before .before .before .before .before .before .before .before .before .before .before .before .before in
+    (c23 .clear-program3 .kept .1 .0) ∙ (c64 .work .kept .1 .1 .1 .0) ∙ (c109 .clear-program .kept .1 .0)
 
 same-length-27 : tie.Need-same-length-27
 same-length-27 c =
     let c23 = c .before .before .before .before .before .before .before .before .before .before .before .before .before .before .before .before .before .before .before .before .before .before .before in
     let c64 = c23 .before .before .before .before .before .before .before .before .before .before .before .before .before .before .before .before .before .before .before .before .before .before .before .before .before .before .before .before .before .before .before .before .before .before .before .before .before .before .before .before .before in
-    let c85 = c64 .before .before .before .before .before .before .before .before .before .before .before .before .before .before .before .before .before .before .before .before .before in
-    let c109 = c85 .before .before .before .before .before .before .before .before .before .before .before .before .before .before .before .before .before .before .before .before .before .before .before .before in
-    omega (arith, c23 .clear-program3 .kept, c109 .clear-program .kept, c85 .clear-from .kept, c64 .work .kept)
+    let c109 = c64 .before .before .before .before .before .before .before .before .before .before .before .before .before .before .before .before .before .before .before .before .before .before .before .before .before .before .before .before .before .before .before .before .before .before .before .before .before .before .before .before .before .before .before .before .before in
+    (c23 .clear-program3 .kept .1 .1 .0) ∙ (c64 .work .kept .1 .1 .1 .1 .0) ∙ (c109 .clear-program .kept .1 .1 .0)
 
 same-length-28 : tie.Need-same-length-28
 same-length-28 c =
     let c23 = c .before .before .before .before .before .before .before .before .before .before .before .before .before .before .before .before .before .before .before .before .before .before .before in
     let c64 = c23 .before .before .before .before .before .before .before .before .before .before .before .before .before .before .before .before .before .before .before .before .before .before .before .before .before .before .before .before .before .before .before .before .before .before .before .before .before .before .before .before .before in
-    let c85 = c64 .before .before .before .before .before .before .before .before .before .before .before .before .before .before .before .before .before .before .before .before .before in
-    let c109 = c85 .before .before .before .before .before .before .before .before .before .before .before .before .before .before .before .before .before .before .before .before .before .before .before .before in
-    omega (arith, c23 .clear-program3 .kept, c109 .clear-program .kept, c85 .clear-from .kept, c64 .work .kept)
+    let c109 = c64 .before .before .before .before .before .before .before .before .before .before .before .before .before .before .before .before .before .before .before .before .before .before .before .before .before .before .before .before .before .before .before .before .before .before .before .before .before .before .before .before .before .before .before .before .before in
+    (c23 .clear-program3 .kept .1 .1 .1 .0) ∙ (c64 .work .kept .1 .1 .1 .1 .1 .0) ∙ (c109 .clear-program .kept .1 .1 .1 .0)
 
 same-length-29 : tie.Need-same-length-29
 same-length-29 c =
     let c23 = c .before .before .before .before .before .before .before .before .before .before .before .before .before .before .before .before .before .before .before .before .before .before .before in
     let c64 = c23 .before .before .before .before .before .before .before .before .before .before .before .before .before .before .before .before .before .before .before .before .before .before .before .before .before .before .before .before .before .before .before .before .before .before .before .before .before .before .before .before .before in
-    let c85 = c64 .before .before .before .before .before .before .before .before .before .before .before .before .before .before .before .before .before .before .before .before .before in
-    let c109 = c85 .before .before .before .before .before .before .before .before .before .before .before .before .before .before .before .before .before .before .before .before .before .before .before .before in
-    omega (arith, c23 .clear-program3 .kept, c109 .clear-program .kept, c85 .clear-from .kept, c64 .work .kept)
+    let c109 = c64 .before .before .before .before .before .before .before .before .before .before .before .before .before .before .before .before .before .before .before .before .before .before .before .before .before .before .before .before .before .before .before .before .before .before .before .before .before .before .before .before .before .before .before .before .before in
+    (c23 .clear-program3 .kept .1 .1 .1 .1 .0) ∙ (c64 .work .kept .1 .1 .1 .1 .1 .1 .0) ∙ (c109 .clear-program .kept .1 .1 .1 .1 .0)
 
 same-length-30 : tie.Need-same-length-30
 same-length-30 c =
     let c23 = c .before .before .before .before .before .before .before .before .before .before .before .before .before .before .before .before .before .before .before .before .before .before .before in
     let c64 = c23 .before .before .before .before .before .before .before .before .before .before .before .before .before .before .before .before .before .before .before .before .before .before .before .before .before .before .before .before .before .before .before .before .before .before .before .before .before .before .before .before .before in
-    let c85 = c64 .before .before .before .before .before .before .before .before .before .before .before .before .before .before .before .before .before .before .before .before .before in
-    let c109 = c85 .before .before .before .before .before .before .before .before .before .before .before .before .before .before .before .before .before .before .before .before .before .before .before .before in
-    omega (arith, c23 .clear-program3 .kept, c109 .clear-program .kept, c85 .clear-from .kept, c64 .work .kept)
+    let c109 = c64 .before .before .before .before .before .before .before .before .before .before .before .before .before .before .before .before .before .before .before .before .before .before .before .before .before .before .before .before .before .before .before .before .before .before .before .before .before .before .before .before .before .before .before .before .before in
+    (c23 .clear-program3 .kept .1 .1 .1 .1 .1 .0) ∙ (c64 .work .kept .1 .1 .1 .1 .1 .1 .1 .0) ∙ (c109 .clear-program .kept .1 .1 .1 .1 .1 .0)
 
 same-length-31 : tie.Need-same-length-31
 same-length-31 c =
     let c23 = c .before .before .before .before .before .before .before .before .before .before .before .before .before .before .before .before .before .before .before .before .before .before .before in
     let c64 = c23 .before .before .before .before .before .before .before .before .before .before .before .before .before .before .before .before .before .before .before .before .before .before .before .before .before .before .before .before .before .before .before .before .before .before .before .before .before .before .before .before .before in
-    let c85 = c64 .before .before .before .before .before .before .before .before .before .before .before .before .before .before .before .before .before .before .before .before .before in
-    let c109 = c85 .before .before .before .before .before .before .before .before .before .before .before .before .before .before .before .before .before .before .before .before .before .before .before .before in
-    omega (arith, c23 .clear-program3 .kept, c109 .clear-program .kept, c85 .clear-from .kept, c64 .work .kept)
+    let c109 = c64 .before .before .before .before .before .before .before .before .before .before .before .before .before .before .before .before .before .before .before .before .before .before .before .before .before .before .before .before .before .before .before .before .before .before .before .before .before .before .before .before .before .before .before .before .before in
+    (c23 .clear-program3 .kept .1 .1 .1 .1 .1 .1 .0) ∙ (c64 .work .kept .1 .1 .1 .1 .1 .1 .1 .1 .0) ∙ (c109 .clear-program .kept .1 .1 .1 .1 .1 .1 .0)
 
 same-length-32 : tie.Need-same-length-32
 same-length-32 c =
     let c23 = c .before .before .before .before .before .before .before .before .before .before .before .before .before .before .before .before .before .before .before .before .before .before .before in
     let c64 = c23 .before .before .before .before .before .before .before .before .before .before .before .before .before .before .before .before .before .before .before .before .before .before .before .before .before .before .before .before .before .before .before .before .before .before .before .before .before .before .before .before .before in
-    let c85 = c64 .before .before .before .before .before .before .before .before .before .before .before .before .before .before .before .before .before .before .before .before .before in
-    let c109 = c85 .before .before .before .before .before .before .before .before .before .before .before .before .before .before .before .before .before .before .before .before .before .before .before .before in
-    omega (arith, c23 .clear-program3 .kept, c109 .clear-program .kept, c85 .clear-from .kept, c64 .work .kept)
+    let c109 = c64 .before .before .before .before .before .before .before .before .before .before .before .before .before .before .before .before .before .before .before .before .before .before .before .before .before .before .before .before .before .before .before .before .before .before .before .before .before .before .before .before .before .before .before .before .before in
+    (c23 .clear-program3 .kept .1 .1 .1 .1 .1 .1 .1 .0) ∙ (c64 .work .kept .1 .1 .1 .1 .1 .1 .1 .1 .1 .0) ∙ (c109 .clear-program .kept .1 .1 .1 .1 .1 .1 .1 .0)
 
 same-length-33 : tie.Need-same-length-33
 same-length-33 c =
     let c23 = c .before .before .before .before .before .before .before .before .before .before .before .before .before .before .before .before .before .before .before .before .before .before .before in
     let c64 = c23 .before .before .before .before .before .before .before .before .before .before .before .before .before .before .before .before .before .before .before .before .before .before .before .before .before .before .before .before .before .before .before .before .before .before .before .before .before .before .before .before .before in
-    let c85 = c64 .before .before .before .before .before .before .before .before .before .before .before .before .before .before .before .before .before .before .before .before .before in
-    let c109 = c85 .before .before .before .before .before .before .before .before .before .before .before .before .before .before .before .before .before .before .before .before .before .before .before .before in
-    omega (arith, c23 .clear-program3 .kept, c109 .clear-program .kept, c85 .clear-from .kept, c64 .work .kept)
+    let c109 = c64 .before .before .before .before .before .before .before .before .before .before .before .before .before .before .before .before .before .before .before .before .before .before .before .before .before .before .before .before .before .before .before .before .before .before .before .before .before .before .before .before .before .before .before .before .before in
+    (c23 .clear-program3 .kept .1 .1 .1 .1 .1 .1 .1 .1 .0) ∙ (c64 .work .kept .1 .1 .1 .1 .1 .1 .1 .1 .1 .1 .0) ∙
+    (c109 .clear-program .kept .1 .1 .1 .1 .1 .1 .1 .1 .0)
 
 same-length-34 : tie.Need-same-length-34
 same-length-34 c =
     let c23 = c .before .before .before .before .before .before .before .before .before .before .before .before .before .before .before .before .before .before .before .before .before .before .before in
     let c64 = c23 .before .before .before .before .before .before .before .before .before .before .before .before .before .before .before .before .before .before .before .before .before .before .before .before .before .before .before .before .before .before .before .before .before .before .before .before .before .before .before .before .before in
-    let c85 = c64 .before .before .before .before .before .before .before .before .before .before .before .before .before .before .before .before .before .before .before .before .before in
-    let c109 = c85 .before .before .before .before .before .before .before .before .before .before .before .before .before .before .before .before .before .before .before .before .before .before .before .before in
-    omega (arith, c23 .clear-program3 .kept, c109 .clear-program .kept, c85 .clear-from .kept, c64 .work .kept)
+    let c109 = c64 .before .before .before .before .before .before .before .before .before .before .before .before .before .before .before .before .before .before .before .before .before .before .before .before .before .before .before .before .before .before .before .before .before .before .before .before .before .before .before .before .before .before .before .before .before in
+    (c23 .clear-program3 .kept .1 .1 .1 .1 .1 .1 .1 .1 .1 .0) ∙ (c64 .work .kept .1 .1 .1 .1 .1 .1 .1 .1 .1 .1 .1 .0) ∙
+    (c109 .clear-program .kept .1 .1 .1 .1 .1 .1 .1 .1 .1 .0)
 
 same-length-35 : tie.Need-same-length-35
 same-length-35 c =
-    let c23 = c .before .before .before .before .before .before .before .before .before .before .before .before .before .before .before .before .before .before .before .before .before .before .before in
-    let c64 = c23 .before .before .before .before .before .before .before .before .before .before .before .before .before .before .before .before .before .before .before .before .before .before .before .before .before .before .before .before .before .before .before .before .before .before .before .before .before .before .before .before .before in
+    let c64 = c .before .before .before .before .before .before .before .before .before .before .before .before .before .before .before .before .before .before .before .before .before .before .before .before .before .before .before .before .before .before .before .before .before .before .before .before .before .before .before .before .before .before .before .before .before .before .before .before .before .before .before .before .before .before .before .before .before .before .before .before .before .before .before .before in
     let c85 = c64 .before .before .before .before .before .before .before .before .before .before .before .before .before .before .before .before .before .before .before .before .before in
-    let c109 = c85 .before .before .before .before .before .before .before .before .before .before .before .before .before .before .before .before .before .before .before .before .before .before .before .before in
-    omega (arith, c23 .clear-program3 .kept, c109 .clear-program .kept, c85 .clear-from .kept, c64 .work .kept)
+    (c64 .work .kept .1 .1 .1 .1 .1 .1 .1 .1 .1 .1 .1 .1 .0) ∙ (c85 .clear-from .kept .0)
 
 same-length-36 : tie.Need-same-length-36
 same-length-36 c =
     let c23 = c .before .before .before .before .before .before .before .before .before .before .before .before .before .before .before .before .before .before .before .before .before .before .before in
     let c64 = c23 .before .before .before .before .before .before .before .before .before .before .before .before .before .before .before .before .before .before .before .before .before .before .before .before .before .before .before .before .before .before .before .before .before .before .before .before .before .before .before .before .before in
-    let c85 = c64 .before .before .before .before .before .before .before .before .before .before .before .before .before .before .before .before .before .before .before .before .before in
-    let c109 = c85 .before .before .before .before .before .before .before .before .before .before .before .before .before .before .before .before .before .before .before .before .before .before .before .before in
-    omega (arith, c23 .clear-program3 .kept, c109 .clear-program .kept, c85 .clear-from .kept, c64 .work .kept)
+    let c109 = c64 .before .before .before .before .before .before .before .before .before .before .before .before .before .before .before .before .before .before .before .before .before .before .before .before .before .before .before .before .before .before .before .before .before .before .before .before .before .before .before .before .before .before .before .before .before in
+    (c23 .clear-program3 .kept .1 .1 .1 .1 .1 .1 .1 .1 .1 .1 .0) ∙ (c64 .work .kept .1 .1 .1 .1 .1 .1 .1 .1 .1 .1 .1 .1 .1 .0) ∙
+    (c109 .clear-program .kept .1 .1 .1 .1 .1 .1 .1 .1 .1 .1 .0)
 
 returns-3 : tie.Need-returns-3
 returns-3 c =
@@ -397,86 +364,74 @@ returns-3 c =
 same-length-37 : tie.Need-same-length-37
 same-length-37 c =
     let c32 = c .before .before .before .before .before .before .before .before .before .before .before .before .before .before .before .before .before .before .before .before .before .before .before .before .before .before .before .before .before .before .before .before in
-    let c53 = c32 .before .before .before .before .before .before .before .before .before .before .before .before .before .before .before .before .before .before .before .before .before in
-    let c77 = c53 .before .before .before .before .before .before .before .before .before .before .before .before .before .before .before .before .before .before .before .before .before .before .before .before in
-    omega (arith, c77 .clear-program .kept, c53 .clear-from .kept, c32 .work .kept)
+    let c77 = c32 .before .before .before .before .before .before .before .before .before .before .before .before .before .before .before .before .before .before .before .before .before .before .before .before .before .before .before .before .before .before .before .before .before .before .before .before .before .before .before .before .before .before .before .before .before in
+    (c32 .work .kept .1 .1 .0) ∙ (c77 .clear-program .kept .0)
 
 same-length-38 : tie.Need-same-length-38
 same-length-38 c =
     let c32 = c .before .before .before .before .before .before .before .before .before .before .before .before .before .before .before .before .before .before .before .before .before .before .before .before .before .before .before .before .before .before .before .before in
-    let c53 = c32 .before .before .before .before .before .before .before .before .before .before .before .before .before .before .before .before .before .before .before .before .before in
-    let c77 = c53 .before .before .before .before .before .before .before .before .before .before .before .before .before .before .before .before .before .before .before .before .before .before .before .before in
-    omega (arith, c77 .clear-program .kept, c53 .clear-from .kept, c32 .work .kept)
+    let c77 = c32 .before .before .before .before .before .before .before .before .before .before .before .before .before .before .before .before .before .before .before .before .before .before .before .before .before .before .before .before .before .before .before .before .before .before .before .before .before .before .before .before .before .before .before .before .before in
+    (c32 .work .kept .1 .1 .1 .0) ∙ (c77 .clear-program .kept .1 .0)
 
 same-length-39 : tie.Need-same-length-39
 same-length-39 c =
     let c32 = c .before .before .before .before .before .before .before .before .before .before .before .before .before .before .before .before .before .before .before .before .before .before .before .before .before .before .before .before .before .before .before .before in
-    let c53 = c32 .before .before .before .before .before .before .before .before .before .before .before .before .before .before .before .before .before .before .before .before .before in
-    let c77 = c53 .before .before .before .before .before .before .before .before .before .before .before .before .before .before .before .before .before .before .before .before .before .before .before .before in
-    omega (arith, c77 .clear-program .kept, c53 .clear-from .kept, c32 .work .kept)
+    let c77 = c32 .before .before .before .before .before .before .before .before .before .before .before .before .before .before .before .before .before .before .before .before .before .before .before .before .before .before .before .before .before .before .before .before .before .before .before .before .before .before .before .before .before .before .before .before .before in
+    (c32 .work .kept .1 .1 .1 .1 .0) ∙ (c77 .clear-program .kept .1 .1 .0)
 
 same-length-40 : tie.Need-same-length-40
 same-length-40 c =
     let c32 = c .before .before .before .before .before .before .before .before .before .before .before .before .before .before .before .before .before .before .before .before .before .before .before .before .before .before .before .before .before .before .before .before in
-    let c53 = c32 .before .before .before .before .before .before .before .before .before .before .before .before .before .before .before .before .before .before .before .before .before in
-    let c77 = c53 .before .before .before .before .before .before .before .before .before .before .before .before .before .before .before .before .before .before .before .before .before .before .before .before in
-    omega (arith, c77 .clear-program .kept, c53 .clear-from .kept, c32 .work .kept)
+    let c77 = c32 .before .before .before .before .before .before .before .before .before .before .before .before .before .before .before .before .before .before .before .before .before .before .before .before .before .before .before .before .before .before .before .before .before .before .before .before .before .before .before .before .before .before .before .before .before in
+    (c32 .work .kept .1 .1 .1 .1 .1 .0) ∙ (c77 .clear-program .kept .1 .1 .1 .0)
 
 same-length-41 : tie.Need-same-length-41
 same-length-41 c =
     let c32 = c .before .before .before .before .before .before .before .before .before .before .before .before .before .before .before .before .before .before .before .before .before .before .before .before .before .before .before .before .before .before .before .before in
-    let c53 = c32 .before .before .before .before .before .before .before .before .before .before .before .before .before .before .before .before .before .before .before .before .before in
-    let c77 = c53 .before .before .before .before .before .before .before .before .before .before .before .before .before .before .before .before .before .before .before .before .before .before .before .before in
-    omega (arith, c77 .clear-program .kept, c53 .clear-from .kept, c32 .work .kept)
+    let c77 = c32 .before .before .before .before .before .before .before .before .before .before .before .before .before .before .before .before .before .before .before .before .before .before .before .before .before .before .before .before .before .before .before .before .before .before .before .before .before .before .before .before .before .before .before .before .before in
+    (c32 .work .kept .1 .1 .1 .1 .1 .1 .0) ∙ (c77 .clear-program .kept .1 .1 .1 .1 .0)
 
 same-length-42 : tie.Need-same-length-42
 same-length-42 c =
     let c32 = c .before .before .before .before .before .before .before .before .before .before .before .before .before .before .before .before .before .before .before .before .before .before .before .before .before .before .before .before .before .before .before .before in
-    let c53 = c32 .before .before .before .before .before .before .before .before .before .before .before .before .before .before .before .before .before .before .before .before .before in
-    let c77 = c53 .before .before .before .before .before .before .before .before .before .before .before .before .before .before .before .before .before .before .before .before .before .before .before .before in
-    omega (arith, c77 .clear-program .kept, c53 .clear-from .kept, c32 .work .kept)
+    let c77 = c32 .before .before .before .before .before .before .before .before .before .before .before .before .before .before .before .before .before .before .before .before .before .before .before .before .before .before .before .before .before .before .before .before .before .before .before .before .before .before .before .before .before .before .before .before .before in
+    (c32 .work .kept .1 .1 .1 .1 .1 .1 .1 .0) ∙ (c77 .clear-program .kept .1 .1 .1 .1 .1 .0)
 
 same-length-43 : tie.Need-same-length-43
 same-length-43 c =
     let c32 = c .before .before .before .before .before .before .before .before .before .before .before .before .before .before .before .before .before .before .before .before .before .before .before .before .before .before .before .before .before .before .before .before in
-    let c53 = c32 .before .before .before .before .before .before .before .before .before .before .before .before .before .before .before .before .before .before .before .before .before in
-    let c77 = c53 .before .before .before .before .before .before .before .before .before .before .before .before .before .before .before .before .before .before .before .before .before .before .before .before in
-    omega (arith, c77 .clear-program .kept, c53 .clear-from .kept, c32 .work .kept)
+    let c77 = c32 .before .before .before .before .before .before .before .before .before .before .before .before .before .before .before .before .before .before .before .before .before .before .before .before .before .before .before .before .before .before .before .before .before .before .before .before .before .before .before .before .before .before .before .before .before in
+    (c32 .work .kept .1 .1 .1 .1 .1 .1 .1 .1 .0) ∙ (c77 .clear-program .kept .1 .1 .1 .1 .1 .1 .0)
 
 same-length-44 : tie.Need-same-length-44
 same-length-44 c =
     let c32 = c .before .before .before .before .before .before .before .before .before .before .before .before .before .before .before .before .before .before .before .before .before .before .before .before .before .before .before .before .before .before .before .before in
-    let c53 = c32 .before .before .before .before .before .before .before .before .before .before .before .before .before .before .before .before .before .before .before .before .before in
-    let c77 = c53 .before .before .before .before .before .before .before .before .before .before .before .before .before .before .before .before .before .before .before .before .before .before .before .before in
-    omega (arith, c77 .clear-program .kept, c53 .clear-from .kept, c32 .work .kept)
+    let c77 = c32 .before .before .before .before .before .before .before .before .before .before .before .before .before .before .before .before .before .before .before .before .before .before .before .before .before .before .before .before .before .before .before .before .before .before .before .before .before .before .before .before .before .before .before .before .before in
+    (c32 .work .kept .1 .1 .1 .1 .1 .1 .1 .1 .1 .0) ∙ (c77 .clear-program .kept .1 .1 .1 .1 .1 .1 .1 .0)
 
 same-length-45 : tie.Need-same-length-45
 same-length-45 c =
     let c32 = c .before .before .before .before .before .before .before .before .before .before .before .before .before .before .before .before .before .before .before .before .before .before .before .before .before .before .before .before .before .before .before .before in
-    let c53 = c32 .before .before .before .before .before .before .before .before .before .before .before .before .before .before .before .before .before .before .before .before .before in
-    let c77 = c53 .before .before .before .before .before .before .before .before .before .before .before .before .before .before .before .before .before .before .before .before .before .before .before .before in
-    omega (arith, c77 .clear-program .kept, c53 .clear-from .kept, c32 .work .kept)
+    let c77 = c32 .before .before .before .before .before .before .before .before .before .before .before .before .before .before .before .before .before .before .before .before .before .before .before .before .before .before .before .before .before .before .before .before .before .before .before .before .before .before .before .before .before .before .before .before .before in
+    (c32 .work .kept .1 .1 .1 .1 .1 .1 .1 .1 .1 .1 .0) ∙ (c77 .clear-program .kept .1 .1 .1 .1 .1 .1 .1 .1 .0)
 
 same-length-46 : tie.Need-same-length-46
 same-length-46 c =
     let c32 = c .before .before .before .before .before .before .before .before .before .before .before .before .before .before .before .before .before .before .before .before .before .before .before .before .before .before .before .before .before .before .before .before in
-    let c53 = c32 .before .before .before .before .before .before .before .before .before .before .before .before .before .before .before .before .before .before .before .before .before in
-    let c77 = c53 .before .before .before .before .before .before .before .before .before .before .before .before .before .before .before .before .before .before .before .before .before .before .before .before in
-    omega (arith, c77 .clear-program .kept, c53 .clear-from .kept, c32 .work .kept)
+    let c77 = c32 .before .before .before .before .before .before .before .before .before .before .before .before .before .before .before .before .before .before .before .before .before .before .before .before .before .before .before .before .before .before .before .before .before .before .before .before .before .before .before .before .before .before .before .before .before in
+    (c32 .work .kept .1 .1 .1 .1 .1 .1 .1 .1 .1 .1 .1 .0) ∙ (c77 .clear-program .kept .1 .1 .1 .1 .1 .1 .1 .1 .1 .0)
 
 same-length-47 : tie.Need-same-length-47
 same-length-47 c =
     let c32 = c .before .before .before .before .before .before .before .before .before .before .before .before .before .before .before .before .before .before .before .before .before .before .before .before .before .before .before .before .before .before .before .before in
     let c53 = c32 .before .before .before .before .before .before .before .before .before .before .before .before .before .before .before .before .before .before .before .before .before in
-    let c77 = c53 .before .before .before .before .before .before .before .before .before .before .before .before .before .before .before .before .before .before .before .before .before .before .before .before in
-    omega (arith, c77 .clear-program .kept, c53 .clear-from .kept, c32 .work .kept)
+    (c32 .work .kept .1 .1 .1 .1 .1 .1 .1 .1 .1 .1 .1 .1 .0) ∙ (c53 .clear-from .kept .0)
 
 same-length-48 : tie.Need-same-length-48
 same-length-48 c =
     let c32 = c .before .before .before .before .before .before .before .before .before .before .before .before .before .before .before .before .before .before .before .before .before .before .before .before .before .before .before .before .before .before .before .before in
-    let c53 = c32 .before .before .before .before .before .before .before .before .before .before .before .before .before .before .before .before .before .before .before .before .before in
-    let c77 = c53 .before .before .before .before .before .before .before .before .before .before .before .before .before .before .before .before .before .before .before .before .before .before .before .before in
-    omega (arith, c77 .clear-program .kept, c53 .clear-from .kept, c32 .work .kept)
+    let c77 = c32 .before .before .before .before .before .before .before .before .before .before .before .before .before .before .before .before .before .before .before .before .before .before .before .before .before .before .before .before .before .before .before .before .before .before .before .before .before .before .before .before .before .before .before .before .before in
+    (c32 .work .kept .1 .1 .1 .1 .1 .1 .1 .1 .1 .1 .1 .1 .1 .0) ∙ (c77 .clear-program .kept .1 .1 .1 .1 .1 .1 .1 .1 .1 .1 .0)
 
 returns-4 : tie.Need-returns-4
 returns-4 c =

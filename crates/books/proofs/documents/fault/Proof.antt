@@ -1,5 +1,6 @@
 -- `books::documents::fault` meets its contract: the state between functions, and back. Assumes nothing.
 -- Made from Proof.answers by `answers make`: edit that file, and not this one.
+use Rattle.bodies.proofs.Leaves.{faults}
 use Rattle.books.proofs.DeedWays.{fault-deeds}
 use Rattle.words.specs.Record.{tokenAt}
 use Rattle.books.proofs.documents.fault.Statement.{statement}
@@ -10,8 +11,8 @@ returns : tie.Need-returns
 returns c =
     let c5 = c .before .before .before .before .before in
     let c8 = c5 .before .before .before in
-    fault-deeds (c8 .args .number) (tokenAt (c8 .args .tree .now) (c8 .args .at)) (c5 .working .ensures) (c .before .before .before .fault .ensures)
-    (c .resumed .ensures)
+    fault-deeds (c8 .args .number) (tokenAt (c8 .args .tree .now) (c8 .args .at)) (c5 .working .ensures) (faults (c8 .args .tree .now) (c8 .args .at)
+    (c8 .args .number) (c .before .before .before .fault .ensures)) (c .resumed .ensures)
 
 pub fault-spec : {M : Type 1} → statement M
 fault-spec =

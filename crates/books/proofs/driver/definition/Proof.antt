@@ -1,25 +1,25 @@
 -- `books::driver::definition` meets its contract: a way for each kind. Assumes nothing.
 -- Made from Proof.answers by `answers make`: edit that file, and not this one.
+use mathlib.Core.Path.{_∙_}
 use Rattle.books.proofs.DefinitionWays.{definition-local, definition-include, definition-model, definition-public-model, definition-function, definition-public-function, definition-implement, definition-apply}
 use Rattle.books.proofs.driver.definition.Statement.{statement}
 use Rattle.books.proofs.driver.definition.Tie as tie
 use borrow.Author.Needs.{needs}
-use native.Mathlib.Omega.{arith}
 
 same-length : tie.Need-same-length
 same-length c =
     let c6 = c .before .before .before .before .before .before in
-    omega (arith, c6 .local-definition .kept)
+    (c6 .local-definition .kept .1 .1 .1 .1 .0)
 
 same-length-2 : tie.Need-same-length-2
 same-length-2 c =
     let c6 = c .before .before .before .before .before .before in
-    omega (arith, c6 .local-definition .kept)
+    (c6 .local-definition .kept .1 .1 .1 .1 .1 .0)
 
 same-length-3 : tie.Need-same-length-3
 same-length-3 c =
     let c6 = c .before .before .before .before .before .before in
-    omega (arith, c6 .local-definition .kept)
+    (c6 .local-definition .kept .1 .1 .1 .1 .1 .1 .0)
 
 returns : tie.Need-returns
 returns c =
@@ -29,10 +29,10 @@ returns c =
     definition-local (c11 .field .ensures) (c10 .if1 .taken) (c6 .local-definition .ensures)
 
 same-length-4 : tie.Need-same-length-4
-same-length-4 c = omega (arith, c .before .before .include-definition .kept)
+same-length-4 c = (c .before .before .include-definition .kept .1 .1 .1 .1 .0)
 
 same-length-5 : tie.Need-same-length-5
-same-length-5 c = omega (arith, c .before .before .include-definition .kept)
+same-length-5 c = refl
 
 returns-2 : tie.Need-returns-2
 returns-2 c =
@@ -43,27 +43,27 @@ returns-2 c =
 same-length-6 : tie.Need-same-length-6
 same-length-6 c =
     let c11 = c .before .before .before .before .before .before .before .before .before .before .before in
-    omega (arith, c11 .model-definition .kept)
+    (c11 .model-definition .kept .1 .1 .1 .1 .0)
 
 same-length-7 : tie.Need-same-length-7
 same-length-7 c =
     let c11 = c .before .before .before .before .before .before .before .before .before .before .before in
-    omega (arith, c11 .model-definition .kept)
+    (c11 .model-definition .kept .1 .1 .1 .1 .1 .0)
 
 same-length-8 : tie.Need-same-length-8
 same-length-8 c =
     let c11 = c .before .before .before .before .before .before .before .before .before .before .before in
-    omega (arith, c11 .model-definition .kept)
+    (c11 .model-definition .kept .1 .1 .1 .1 .1 .1 .0)
 
 same-length-9 : tie.Need-same-length-9
 same-length-9 c =
     let c11 = c .before .before .before .before .before .before .before .before .before .before .before in
-    omega (arith, c11 .model-definition .kept)
+    (c11 .model-definition .kept .1 .1 .1 .1 .1 .1 .1 .0)
 
 same-length-10 : tie.Need-same-length-10
 same-length-10 c =
     let c11 = c .before .before .before .before .before .before .before .before .before .before .before in
-    omega (arith, c11 .model-definition .kept)
+    (c11 .model-definition .kept .1 .1 .1 .1 .1 .1 .1 .1 .0)
 
 returns-3 : tie.Need-returns-3
 returns-3 c =
@@ -75,32 +75,30 @@ returns-3 c =
 same-length-11 : tie.Need-same-length-11
 same-length-11 c =
     let c14 = c .before .before .before .before .before .before .before .before .before .before .before .before .before .before in
-    omega (arith, c14 .model-definition2 .kept, c .before .before .publish .kept)
+    (c14 .model-definition2 .kept .1 .1 .1 .1 .0)
 
 same-length-12 : tie.Need-same-length-12
 same-length-12 c =
     let c14 = c .before .before .before .before .before .before .before .before .before .before .before .before .before .before in
-    omega (arith, c14 .model-definition2 .kept, c .before .before .publish .kept)
+    (c14 .model-definition2 .kept .1 .1 .1 .1 .1 .0)
 
 same-length-13 : tie.Need-same-length-13
 same-length-13 c =
     let c14 = c .before .before .before .before .before .before .before .before .before .before .before .before .before .before in
-    omega (arith, c14 .model-definition2 .kept, c .before .before .publish .kept)
+    (c14 .model-definition2 .kept .1 .1 .1 .1 .1 .1 .0)
 
 same-length-14 : tie.Need-same-length-14
 same-length-14 c =
     let c14 = c .before .before .before .before .before .before .before .before .before .before .before .before .before .before in
-    omega (arith, c14 .model-definition2 .kept, c .before .before .publish .kept)
+    (c14 .model-definition2 .kept .1 .1 .1 .1 .1 .1 .1 .0)
 
 same-length-15 : tie.Need-same-length-15
-same-length-15 c =
-    let c14 = c .before .before .before .before .before .before .before .before .before .before .before .before .before .before in
-    omega (arith, c14 .model-definition2 .kept, c .before .before .publish .kept)
+same-length-15 c = (c .before .before .publish .kept .0)
 
 same-length-16 : tie.Need-same-length-16
 same-length-16 c =
     let c14 = c .before .before .before .before .before .before .before .before .before .before .before .before .before .before in
-    omega (arith, c14 .model-definition2 .kept, c .before .before .publish .kept)
+    (c14 .model-definition2 .kept .1 .1 .1 .1 .1 .1 .1 .1 .0)
 
 returns-4 : tie.Need-returns-4
 returns-4 c =
@@ -114,37 +112,37 @@ returns-4 c =
 same-length-17 : tie.Need-same-length-17
 same-length-17 c =
     let c15 = c .before .before .before .before .before .before .before .before .before .before .before .before .before .before .before in
-    omega (arith, c15 .function-definition .kept)
+    (c15 .function-definition .kept .1 .1 .1 .1 .0)
 
 same-length-18 : tie.Need-same-length-18
 same-length-18 c =
     let c15 = c .before .before .before .before .before .before .before .before .before .before .before .before .before .before .before in
-    omega (arith, c15 .function-definition .kept)
+    (c15 .function-definition .kept .1 .1 .1 .1 .1 .0)
 
 same-length-19 : tie.Need-same-length-19
 same-length-19 c =
     let c15 = c .before .before .before .before .before .before .before .before .before .before .before .before .before .before .before in
-    omega (arith, c15 .function-definition .kept)
+    (c15 .function-definition .kept .1 .1 .1 .1 .1 .1 .0)
 
 same-length-20 : tie.Need-same-length-20
 same-length-20 c =
     let c15 = c .before .before .before .before .before .before .before .before .before .before .before .before .before .before .before in
-    omega (arith, c15 .function-definition .kept)
+    (c15 .function-definition .kept .1 .1 .1 .1 .1 .1 .1 .0)
 
 same-length-21 : tie.Need-same-length-21
 same-length-21 c =
     let c15 = c .before .before .before .before .before .before .before .before .before .before .before .before .before .before .before in
-    omega (arith, c15 .function-definition .kept)
+    (c15 .function-definition .kept .1 .1 .1 .1 .1 .1 .1 .1 .0)
 
 same-length-22 : tie.Need-same-length-22
 same-length-22 c =
     let c15 = c .before .before .before .before .before .before .before .before .before .before .before .before .before .before .before in
-    omega (arith, c15 .function-definition .kept)
+    (c15 .function-definition .kept .1 .1 .1 .1 .1 .1 .1 .1 .1 .0)
 
 same-length-23 : tie.Need-same-length-23
 same-length-23 c =
     let c15 = c .before .before .before .before .before .before .before .before .before .before .before .before .before .before .before in
-    omega (arith, c15 .function-definition .kept)
+    (c15 .function-definition .kept .1 .1 .1 .1 .1 .1 .1 .1 .1 .1 .0)
 
 returns-5 : tie.Need-returns-5
 returns-5 c =
@@ -156,42 +154,40 @@ returns-5 c =
 same-length-24 : tie.Need-same-length-24
 same-length-24 c =
     let c18 = c .before .before .before .before .before .before .before .before .before .before .before .before .before .before .before .before .before .before in
-    omega (arith, c .before .before .publish2 .kept, c18 .function-definition2 .kept)
+    (c18 .function-definition2 .kept .1 .1 .1 .1 .0)
 
 same-length-25 : tie.Need-same-length-25
 same-length-25 c =
     let c18 = c .before .before .before .before .before .before .before .before .before .before .before .before .before .before .before .before .before .before in
-    omega (arith, c .before .before .publish2 .kept, c18 .function-definition2 .kept)
+    (c18 .function-definition2 .kept .1 .1 .1 .1 .1 .0)
 
 same-length-26 : tie.Need-same-length-26
 same-length-26 c =
     let c18 = c .before .before .before .before .before .before .before .before .before .before .before .before .before .before .before .before .before .before in
-    omega (arith, c .before .before .publish2 .kept, c18 .function-definition2 .kept)
+    (c18 .function-definition2 .kept .1 .1 .1 .1 .1 .1 .0)
 
 same-length-27 : tie.Need-same-length-27
 same-length-27 c =
     let c18 = c .before .before .before .before .before .before .before .before .before .before .before .before .before .before .before .before .before .before in
-    omega (arith, c .before .before .publish2 .kept, c18 .function-definition2 .kept)
+    (c18 .function-definition2 .kept .1 .1 .1 .1 .1 .1 .1 .0)
 
 same-length-28 : tie.Need-same-length-28
-same-length-28 c =
-    let c18 = c .before .before .before .before .before .before .before .before .before .before .before .before .before .before .before .before .before .before in
-    omega (arith, c .before .before .publish2 .kept, c18 .function-definition2 .kept)
+same-length-28 c = (c .before .before .publish2 .kept .0)
 
 same-length-29 : tie.Need-same-length-29
 same-length-29 c =
     let c18 = c .before .before .before .before .before .before .before .before .before .before .before .before .before .before .before .before .before .before in
-    omega (arith, c .before .before .publish2 .kept, c18 .function-definition2 .kept)
+    (c18 .function-definition2 .kept .1 .1 .1 .1 .1 .1 .1 .1 .0)
 
 same-length-30 : tie.Need-same-length-30
 same-length-30 c =
     let c18 = c .before .before .before .before .before .before .before .before .before .before .before .before .before .before .before .before .before .before in
-    omega (arith, c .before .before .publish2 .kept, c18 .function-definition2 .kept)
+    (c18 .function-definition2 .kept .1 .1 .1 .1 .1 .1 .1 .1 .1 .0)
 
 same-length-31 : tie.Need-same-length-31
 same-length-31 c =
     let c18 = c .before .before .before .before .before .before .before .before .before .before .before .before .before .before .before .before .before .before in
-    omega (arith, c .before .before .publish2 .kept, c18 .function-definition2 .kept)
+    (c18 .function-definition2 .kept .1 .1 .1 .1 .1 .1 .1 .1 .1 .1 .0)
 
 returns-6 : tie.Need-returns-6
 returns-6 c =
@@ -205,66 +201,40 @@ returns-6 c =
 same-length-32 : tie.Need-same-length-32
 same-length-32 c =
     let c14 = c .before .before .before .before .before .before .before .before .before .before .before .before .before .before in
-    omega (
-      arith,
-      c14 .implement-definition .kept,
-    )
+    (c14 .implement-definition .kept .1 .1 .1 .1 .1 .0)
 
 same-length-33 : tie.Need-same-length-33
 same-length-33 c =
     let c14 = c .before .before .before .before .before .before .before .before .before .before .before .before .before .before in
-    omega (
-      arith,
-      c14 .implement-definition .kept,
-    )
+    (c14 .implement-definition .kept .1 .1 .1 .1 .1 .1 .0)
 
 same-length-34 : tie.Need-same-length-34
 same-length-34 c =
     let c14 = c .before .before .before .before .before .before .before .before .before .before .before .before .before .before in
-    omega (
-      arith,
-      c14 .implement-definition .kept,
-    )
+    (c14 .implement-definition .kept .1 .1 .1 .1 .1 .1 .1 .0)
 
 same-length-35 : tie.Need-same-length-35
 same-length-35 c =
     let c14 = c .before .before .before .before .before .before .before .before .before .before .before .before .before .before in
-    omega (
-      arith,
-      c14 .implement-definition .kept,
-    )
+    (c14 .implement-definition .kept .1 .1 .1 .1 .1 .1 .1 .1 .0)
 
 same-length-36 : tie.Need-same-length-36
-same-length-36 c =
-    let c14 = c .before .before .before .before .before .before .before .before .before .before .before .before .before .before in
-    omega (
-      arith,
-      c14 .implement-definition .kept,
-    )
+same-length-36 c = refl
 
 same-length-37 : tie.Need-same-length-37
 same-length-37 c =
     let c14 = c .before .before .before .before .before .before .before .before .before .before .before .before .before .before in
-    omega (
-      arith,
-      c14 .implement-definition .kept,
-    )
+    (c14 .implement-definition .kept .1 .1 .1 .1 .1 .1 .1 .1 .1 .0)
 
 same-length-38 : tie.Need-same-length-38
 same-length-38 c =
     let c14 = c .before .before .before .before .before .before .before .before .before .before .before .before .before .before in
-    omega (
-      arith,
-      c14 .implement-definition .kept,
-    )
+    (c14 .implement-definition .kept .1 .1 .1 .1 .1 .1 .1 .1 .1 .1 .0)
 
 same-length-39 : tie.Need-same-length-39
 same-length-39 c =
     let c14 = c .before .before .before .before .before .before .before .before .before .before .before .before .before .before in
-    omega (
-      arith,
-      c14 .implement-definition .kept,
-    )
+    (c14 .implement-definition .kept .1 .1 .1 .1 .1 .1 .1 .1 .1 .1 .1 .0)
 
 returns-7 : tie.Need-returns-7
 returns-7 c =
@@ -274,16 +244,16 @@ returns-7 c =
     definition-implement (c30 .field .ensures) (c23 .if7 .taken) (c14 .implement-definition .ensures)
 
 same-length-40 : tie.Need-same-length-40
-same-length-40 c = omega (arith, c .before .before .before .before .apply-definition .kept)
+same-length-40 c = refl
 
 same-length-41 : tie.Need-same-length-41
-same-length-41 c = omega (arith, c .before .before .before .before .apply-definition .kept)
+same-length-41 c = (c .before .before .before .before .apply-definition .kept .1 .1 .1 .1 .1 .1 .0)
 
 same-length-42 : tie.Need-same-length-42
-same-length-42 c = omega (arith, c .before .before .before .before .apply-definition .kept)
+same-length-42 c = refl
 
 same-length-43 : tie.Need-same-length-43
-same-length-43 c = omega (arith, c .before .before .before .before .apply-definition .kept)
+same-length-43 c = (c .before .before .before .before .apply-definition .kept .1 .1 .1 .1 .1 .1 .1 .0)
 
 returns-8 : tie.Need-returns-8
 returns-8 c =

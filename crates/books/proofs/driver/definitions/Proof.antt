@@ -2,7 +2,7 @@
 -- Made from Proof.answers by `answers make`: edit that file, and not this one.
 use Rattle.books.proofs.DefinitionWays.{calm-definition}
 use Rattle.books.proofs.PuttingAway.{definitions-end, definitions-more}
-use Rattle.books.proofs.Tokens.{skip-more}
+use Rattle.bodies.proofs.Tokens.{skip-more}
 use Rattle.books.specs.Shelf.{Shelf, shelf}
 use Rattle.books.specs.Driving.{MeetsDefinitions}
 use lib.ListN.{length}
@@ -10,6 +10,7 @@ use mathlib.Core.Path.{_≡_, refl}
 use Prim.Native.Nat.{ℕ, _-_}
 use Rattle.books.proofs.driver.definitions.Statement.{statement}
 use Rattle.books.proofs.driver.definitions.Tie as tie
+use borrow.Author.Needs.{needs}
 use native.Mathlib.Omega.{arith}
 
 abbrev Inv-loop : tie.InvT-loop
@@ -110,7 +111,7 @@ definitions-spec =
     Inv-loop
     μ-loop
     loop-holds
-    (λ c κs. tt)
+    (λ c κs. search needs)
     (λ c κs. tt)
     loop-less
     loop-again

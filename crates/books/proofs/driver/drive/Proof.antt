@@ -5,7 +5,7 @@ use Rattle.books.proofs.Rounds.{drive-end, drive-ring, round-full, roun
 use Rattle.books.specs.declared.documents.Book.{Book}
 use Rattle.books.specs.Driving.{Drives}
 use lib.ListN.{length}
-use mathlib.Core.Path.{_≡_, refl}
+use mathlib.Core.Path.{_≡_, refl, _∙_}
 use mathlib.Core.List.{List}
 use Prim.Native.Nat.{ℕ, _-_}
 use Rattle.books.proofs.driver.drive.Statement.{statement}
@@ -44,67 +44,67 @@ loop-holds c =
 same-length : tie.Need-same-length Inv-loop μ-loop
 same-length c =
     let c10 = c .before .before .before .before .before .before .before .before .before .before in
-    omega (arith, c .before .before .ring .kept, c10 .loop .inv)
+    (c10 .loop .inv .1)
 
 same-length-2 : tie.Need-same-length-2 Inv-loop μ-loop
 same-length-2 c =
     let c10 = c .before .before .before .before .before .before .before .before .before .before in
-    omega (arith, c .before .before .ring .kept, c10 .loop .inv)
+    (c10 .loop .inv .2)
 
 same-length-3 : tie.Need-same-length-3 Inv-loop μ-loop
 same-length-3 c =
     let c10 = c .before .before .before .before .before .before .before .before .before .before in
-    omega (arith, c .before .before .ring .kept, c10 .loop .inv)
+    (c10 .loop .inv .3)
 
 same-length-4 : tie.Need-same-length-4 Inv-loop μ-loop
 same-length-4 c =
     let c10 = c .before .before .before .before .before .before .before .before .before .before in
-    omega (arith, c .before .before .ring .kept, c10 .loop .inv)
+    (c10 .loop .inv .4)
 
 same-length-5 : tie.Need-same-length-5 Inv-loop μ-loop
 same-length-5 c =
     let c10 = c .before .before .before .before .before .before .before .before .before .before in
-    omega (arith, c .before .before .ring .kept, c10 .loop .inv)
+    (c10 .loop .inv .5)
 
 same-length-6 : tie.Need-same-length-6 Inv-loop μ-loop
 same-length-6 c =
     let c10 = c .before .before .before .before .before .before .before .before .before .before in
-    omega (arith, c .before .before .ring .kept, c10 .loop .inv)
+    (c10 .loop .inv .6)
 
 same-length-7 : tie.Need-same-length-7 Inv-loop μ-loop
 same-length-7 c =
     let c10 = c .before .before .before .before .before .before .before .before .before .before in
-    omega (arith, c .before .before .ring .kept, c10 .loop .inv)
+    (c10 .loop .inv .7)
 
 same-length-8 : tie.Need-same-length-8 Inv-loop μ-loop
 same-length-8 c =
     let c10 = c .before .before .before .before .before .before .before .before .before .before in
-    omega (arith, c .before .before .ring .kept, c10 .loop .inv)
+    (c10 .loop .inv .8)
 
 same-length-9 : tie.Need-same-length-9 Inv-loop μ-loop
 same-length-9 c =
     let c10 = c .before .before .before .before .before .before .before .before .before .before in
-    omega (arith, c .before .before .ring .kept, c10 .loop .inv)
+    (c10 .loop .inv .9)
 
 same-length-10 : tie.Need-same-length-10 Inv-loop μ-loop
 same-length-10 c =
     let c10 = c .before .before .before .before .before .before .before .before .before .before in
-    omega (arith, c .before .before .ring .kept, c10 .loop .inv)
+    (c10 .loop .inv .10)
 
 same-length-11 : tie.Need-same-length-11 Inv-loop μ-loop
 same-length-11 c =
     let c10 = c .before .before .before .before .before .before .before .before .before .before in
-    omega (arith, c .before .before .ring .kept, c10 .loop .inv)
+    (c .before .before .ring .kept .1 .1 .0) ∙ (c10 .loop .inv .11)
 
 same-length-12 : tie.Need-same-length-12 Inv-loop μ-loop
 same-length-12 c =
     let c10 = c .before .before .before .before .before .before .before .before .before .before in
-    omega (arith, c .before .before .ring .kept, c10 .loop .inv)
+    (c10 .loop .inv .12)
 
 same-length-13 : tie.Need-same-length-13 Inv-loop μ-loop
 same-length-13 c =
     let c10 = c .before .before .before .before .before .before .before .before .before .before in
-    omega (arith, c .before .before .ring .kept, c10 .loop .inv)
+    (c10 .loop .inv .13)
 
 returns : tie.Need-returns Inv-loop μ-loop
 returns c =
@@ -119,93 +119,79 @@ returns c =
 same-length-14 : tie.Need-same-length-14 Inv-loop μ-loop
 same-length-14 c =
     let c24 = c .before .before .before .before .before .before .before .before .before .before .before .before .before .before .before .before .before .before .before .before .before .before .before .before in
-    let c40 = c24 .before .before .before .before .before .before .before .before .before .before .before .before .before .before .before .before in
-    let c49 = c40 .before .before .before .before .before .before .before .before .before in
-    omega (arith, c24 .document .kept, c40 .bring .kept, c49 .loop .inv)
+    let c49 = c24 .before .before .before .before .before .before .before .before .before .before .before .before .before .before .before .before .before .before .before .before .before .before .before .before .before in
+    (c24 .document .kept .1 .1 .1 .1 .1 .0) ∙ (c49 .loop .inv .1)
 
 same-length-15 : tie.Need-same-length-15 Inv-loop μ-loop
 same-length-15 c =
     let c24 = c .before .before .before .before .before .before .before .before .before .before .before .before .before .before .before .before .before .before .before .before .before .before .before .before in
-    let c40 = c24 .before .before .before .before .before .before .before .before .before .before .before .before .before .before .before .before in
-    let c49 = c40 .before .before .before .before .before .before .before .before .before in
-    omega (arith, c24 .document .kept, c40 .bring .kept, c49 .loop .inv)
+    let c49 = c24 .before .before .before .before .before .before .before .before .before .before .before .before .before .before .before .before .before .before .before .before .before .before .before .before .before in
+    (c24 .document .kept .1 .1 .1 .1 .1 .1 .0) ∙ (c49 .loop .inv .2)
 
 same-length-16 : tie.Need-same-length-16 Inv-loop μ-loop
 same-length-16 c =
     let c24 = c .before .before .before .before .before .before .before .before .before .before .before .before .before .before .before .before .before .before .before .before .before .before .before .before in
-    let c40 = c24 .before .before .before .before .before .before .before .before .before .before .before .before .before .before .before .before in
-    let c49 = c40 .before .before .before .before .before .before .before .before .before in
-    omega (arith, c24 .document .kept, c40 .bring .kept, c49 .loop .inv)
+    let c49 = c24 .before .before .before .before .before .before .before .before .before .before .before .before .before .before .before .before .before .before .before .before .before .before .before .before .before in
+    (c24 .document .kept .1 .1 .1 .1 .1 .1 .1 .0) ∙ (c49 .loop .inv .3)
 
 same-length-17 : tie.Need-same-length-17 Inv-loop μ-loop
 same-length-17 c =
     let c24 = c .before .before .before .before .before .before .before .before .before .before .before .before .before .before .before .before .before .before .before .before .before .before .before .before in
-    let c40 = c24 .before .before .before .before .before .before .before .before .before .before .before .before .before .before .before .before in
-    let c49 = c40 .before .before .before .before .before .before .before .before .before in
-    omega (arith, c24 .document .kept, c40 .bring .kept, c49 .loop .inv)
+    let c49 = c24 .before .before .before .before .before .before .before .before .before .before .before .before .before .before .before .before .before .before .before .before .before .before .before .before .before in
+    (c24 .document .kept .1 .1 .1 .1 .1 .1 .1 .1 .0) ∙ (c49 .loop .inv .4)
 
 same-length-18 : tie.Need-same-length-18 Inv-loop μ-loop
 same-length-18 c =
     let c24 = c .before .before .before .before .before .before .before .before .before .before .before .before .before .before .before .before .before .before .before .before .before .before .before .before in
-    let c40 = c24 .before .before .before .before .before .before .before .before .before .before .before .before .before .before .before .before in
-    let c49 = c40 .before .before .before .before .before .before .before .before .before in
-    omega (arith, c24 .document .kept, c40 .bring .kept, c49 .loop .inv)
+    let c49 = c24 .before .before .before .before .before .before .before .before .before .before .before .before .before .before .before .before .before .before .before .before .before .before .before .before .before in
+    (c24 .document .kept .1 .1 .1 .1 .1 .1 .1 .1 .1 .0) ∙ (c49 .loop .inv .5)
 
 same-length-19 : tie.Need-same-length-19 Inv-loop μ-loop
 same-length-19 c =
     let c24 = c .before .before .before .before .before .before .before .before .before .before .before .before .before .before .before .before .before .before .before .before .before .before .before .before in
-    let c40 = c24 .before .before .before .before .before .before .before .before .before .before .before .before .before .before .before .before in
-    let c49 = c40 .before .before .before .before .before .before .before .before .before in
-    omega (arith, c24 .document .kept, c40 .bring .kept, c49 .loop .inv)
+    let c49 = c24 .before .before .before .before .before .before .before .before .before .before .before .before .before .before .before .before .before .before .before .before .before .before .before .before .before in
+    (c24 .document .kept .1 .1 .1 .1 .1 .1 .1 .1 .1 .1 .0) ∙ (c49 .loop .inv .6)
 
 same-length-20 : tie.Need-same-length-20 Inv-loop μ-loop
 same-length-20 c =
     let c24 = c .before .before .before .before .before .before .before .before .before .before .before .before .before .before .before .before .before .before .before .before .before .before .before .before in
-    let c40 = c24 .before .before .before .before .before .before .before .before .before .before .before .before .before .before .before .before in
-    let c49 = c40 .before .before .before .before .before .before .before .before .before in
-    omega (arith, c24 .document .kept, c40 .bring .kept, c49 .loop .inv)
+    let c49 = c24 .before .before .before .before .before .before .before .before .before .before .before .before .before .before .before .before .before .before .before .before .before .before .before .before .before in
+    (c24 .document .kept .1 .1 .1 .1 .1 .1 .1 .1 .1 .1 .1 .0) ∙ (c49 .loop .inv .7)
 
 same-length-21 : tie.Need-same-length-21 Inv-loop μ-loop
 same-length-21 c =
     let c24 = c .before .before .before .before .before .before .before .before .before .before .before .before .before .before .before .before .before .before .before .before .before .before .before .before in
-    let c40 = c24 .before .before .before .before .before .before .before .before .before .before .before .before .before .before .before .before in
-    let c49 = c40 .before .before .before .before .before .before .before .before .before in
-    omega (arith, c24 .document .kept, c40 .bring .kept, c49 .loop .inv)
+    let c49 = c24 .before .before .before .before .before .before .before .before .before .before .before .before .before .before .before .before .before .before .before .before .before .before .before .before .before in
+    (c24 .document .kept .1 .1 .1 .1 .1 .1 .1 .1 .1 .1 .1 .1 .0) ∙ (c49 .loop .inv .8)
 
 same-length-22 : tie.Need-same-length-22 Inv-loop μ-loop
 same-length-22 c =
     let c24 = c .before .before .before .before .before .before .before .before .before .before .before .before .before .before .before .before .before .before .before .before .before .before .before .before in
-    let c40 = c24 .before .before .before .before .before .before .before .before .before .before .before .before .before .before .before .before in
-    let c49 = c40 .before .before .before .before .before .before .before .before .before in
-    omega (arith, c24 .document .kept, c40 .bring .kept, c49 .loop .inv)
+    let c49 = c24 .before .before .before .before .before .before .before .before .before .before .before .before .before .before .before .before .before .before .before .before .before .before .before .before .before in
+    (c24 .document .kept .1 .1 .1 .1 .1 .1 .1 .1 .1 .1 .1 .1 .1 .0) ∙ (c49 .loop .inv .9)
 
 same-length-23 : tie.Need-same-length-23 Inv-loop μ-loop
 same-length-23 c =
     let c24 = c .before .before .before .before .before .before .before .before .before .before .before .before .before .before .before .before .before .before .before .before .before .before .before .before in
-    let c40 = c24 .before .before .before .before .before .before .before .before .before .before .before .before .before .before .before .before in
-    let c49 = c40 .before .before .before .before .before .before .before .before .before in
-    omega (arith, c24 .document .kept, c40 .bring .kept, c49 .loop .inv)
+    let c49 = c24 .before .before .before .before .before .before .before .before .before .before .before .before .before .before .before .before .before .before .before .before .before .before .before .before .before in
+    (c24 .document .kept .1 .1 .1 .1 .1 .1 .1 .1 .1 .1 .1 .1 .1 .1 .0) ∙ (c49 .loop .inv .10)
 
 same-length-24 : tie.Need-same-length-24 Inv-loop μ-loop
 same-length-24 c =
     let c24 = c .before .before .before .before .before .before .before .before .before .before .before .before .before .before .before .before .before .before .before .before .before .before .before .before in
-    let c40 = c24 .before .before .before .before .before .before .before .before .before .before .before .before .before .before .before .before in
-    let c49 = c40 .before .before .before .before .before .before .before .before .before in
-    omega (arith, c24 .document .kept, c40 .bring .kept, c49 .loop .inv)
+    let c49 = c24 .before .before .before .before .before .before .before .before .before .before .before .before .before .before .before .before .before .before .before .before .before .before .before .before .before in
+    (c24 .document .kept .1 .1 .1 .1 .1 .1 .1 .1 .1 .1 .1 .1 .1 .1 .1 .0) ∙ (c49 .loop .inv .11)
 
 same-length-25 : tie.Need-same-length-25 Inv-loop μ-loop
 same-length-25 c =
-    let c24 = c .before .before .before .before .before .before .before .before .before .before .before .before .before .before .before .before .before .before .before .before .before .before .before .before in
-    let c40 = c24 .before .before .before .before .before .before .before .before .before .before .before .before .before .before .before .before in
+    let c40 = c .before .before .before .before .before .before .before .before .before .before .before .before .before .before .before .before .before .before .before .before .before .before .before .before .before .before .before .before .before .before .before .before .before .before .before .before .before .before .before .before in
     let c49 = c40 .before .before .before .before .before .before .before .before .before in
-    omega (arith, c24 .document .kept, c40 .bring .kept, c49 .loop .inv)
+    (c40 .bring .kept .0) ∙ (c49 .loop .inv .12)
 
 same-length-26 : tie.Need-same-length-26 Inv-loop μ-loop
 same-length-26 c =
-    let c24 = c .before .before .before .before .before .before .before .before .before .before .before .before .before .before .before .before .before .before .before .before .before .before .before .before in
-    let c40 = c24 .before .before .before .before .before .before .before .before .before .before .before .before .before .before .before .before in
-    let c49 = c40 .before .before .before .before .before .before .before .before .before in
-    omega (arith, c24 .document .kept, c40 .bring .kept, c49 .loop .inv)
+    let c49 = c .before .before .before .before .before .before .before .before .before .before .before .before .before .before .before .before .before .before .before .before .before .before .before .before .before .before .before .before .before .before .before .before .before .before .before .before .before .before .before .before .before .before .before .before .before .before .before .before .before in
+    (c49 .loop .inv .13)
 
 returns-2 : tie.Need-returns-2 Inv-loop μ-loop
 returns-2 c =
@@ -223,93 +209,79 @@ returns-2 c =
 same-length-27 : tie.Need-same-length-27 Inv-loop μ-loop
 same-length-27 c =
     let c26 = c .before .before .before .before .before .before .before .before .before .before .before .before .before .before .before .before .before .before .before .before .before .before .before .before .before .before in
-    let c42 = c26 .before .before .before .before .before .before .before .before .before .before .before .before .before .before .before .before in
-    let c51 = c42 .before .before .before .before .before .before .before .before .before in
-    omega (arith, c26 .document .kept, c42 .bring .kept, c51 .loop .inv)
+    let c51 = c26 .before .before .before .before .before .before .before .before .before .before .before .before .before .before .before .before .before .before .before .before .before .before .before .before .before in
+    (c26 .document .kept .1 .1 .1 .1 .1 .0) ∙ (c51 .loop .inv .1)
 
 same-length-28 : tie.Need-same-length-28 Inv-loop μ-loop
 same-length-28 c =
     let c26 = c .before .before .before .before .before .before .before .before .before .before .before .before .before .before .before .before .before .before .before .before .before .before .before .before .before .before in
-    let c42 = c26 .before .before .before .before .before .before .before .before .before .before .before .before .before .before .before .before in
-    let c51 = c42 .before .before .before .before .before .before .before .before .before in
-    omega (arith, c26 .document .kept, c42 .bring .kept, c51 .loop .inv)
+    let c51 = c26 .before .before .before .before .before .before .before .before .before .before .before .before .before .before .before .before .before .before .before .before .before .before .before .before .before in
+    (c26 .document .kept .1 .1 .1 .1 .1 .1 .0) ∙ (c51 .loop .inv .2)
 
 same-length-29 : tie.Need-same-length-29 Inv-loop μ-loop
 same-length-29 c =
     let c26 = c .before .before .before .before .before .before .before .before .before .before .before .before .before .before .before .before .before .before .before .before .before .before .before .before .before .before in
-    let c42 = c26 .before .before .before .before .before .before .before .before .before .before .before .before .before .before .before .before in
-    let c51 = c42 .before .before .before .before .before .before .before .before .before in
-    omega (arith, c26 .document .kept, c42 .bring .kept, c51 .loop .inv)
+    let c51 = c26 .before .before .before .before .before .before .before .before .before .before .before .before .before .before .before .before .before .before .before .before .before .before .before .before .before in
+    (c26 .document .kept .1 .1 .1 .1 .1 .1 .1 .0) ∙ (c51 .loop .inv .3)
 
 same-length-30 : tie.Need-same-length-30 Inv-loop μ-loop
 same-length-30 c =
     let c26 = c .before .before .before .before .before .before .before .before .before .before .before .before .before .before .before .before .before .before .before .before .before .before .before .before .before .before in
-    let c42 = c26 .before .before .before .before .before .before .before .before .before .before .before .before .before .before .before .before in
-    let c51 = c42 .before .before .before .before .before .before .before .before .before in
-    omega (arith, c26 .document .kept, c42 .bring .kept, c51 .loop .inv)
+    let c51 = c26 .before .before .before .before .before .before .before .before .before .before .before .before .before .before .before .before .before .before .before .before .before .before .before .before .before in
+    (c26 .document .kept .1 .1 .1 .1 .1 .1 .1 .1 .0) ∙ (c51 .loop .inv .4)
 
 same-length-31 : tie.Need-same-length-31 Inv-loop μ-loop
 same-length-31 c =
     let c26 = c .before .before .before .before .before .before .before .before .before .before .before .before .before .before .before .before .before .before .before .before .before .before .before .before .before .before in
-    let c42 = c26 .before .before .before .before .before .before .before .before .before .before .before .before .before .before .before .before in
-    let c51 = c42 .before .before .before .before .before .before .before .before .before in
-    omega (arith, c26 .document .kept, c42 .bring .kept, c51 .loop .inv)
+    let c51 = c26 .before .before .before .before .before .before .before .before .before .before .before .before .before .before .before .before .before .before .before .before .before .before .before .before .before in
+    (c26 .document .kept .1 .1 .1 .1 .1 .1 .1 .1 .1 .0) ∙ (c51 .loop .inv .5)
 
 same-length-32 : tie.Need-same-length-32 Inv-loop μ-loop
 same-length-32 c =
     let c26 = c .before .before .before .before .before .before .before .before .before .before .before .before .before .before .before .before .before .before .before .before .before .before .before .before .before .before in
-    let c42 = c26 .before .before .before .before .before .before .before .before .before .before .before .before .before .before .before .before in
-    let c51 = c42 .before .before .before .before .before .before .before .before .before in
-    omega (arith, c26 .document .kept, c42 .bring .kept, c51 .loop .inv)
+    let c51 = c26 .before .before .before .before .before .before .before .before .before .before .before .before .before .before .before .before .before .before .before .before .before .before .before .before .before in
+    (c26 .document .kept .1 .1 .1 .1 .1 .1 .1 .1 .1 .1 .0) ∙ (c51 .loop .inv .6)
 
 same-length-33 : tie.Need-same-length-33 Inv-loop μ-loop
 same-length-33 c =
     let c26 = c .before .before .before .before .before .before .before .before .before .before .before .before .before .before .before .before .before .before .before .before .before .before .before .before .before .before in
-    let c42 = c26 .before .before .before .before .before .before .before .before .before .before .before .before .before .before .before .before in
-    let c51 = c42 .before .before .before .before .before .before .before .before .before in
-    omega (arith, c26 .document .kept, c42 .bring .kept, c51 .loop .inv)
+    let c51 = c26 .before .before .before .before .before .before .before .before .before .before .before .before .before .before .before .before .before .before .before .before .before .before .before .before .before in
+    (c26 .document .kept .1 .1 .1 .1 .1 .1 .1 .1 .1 .1 .1 .0) ∙ (c51 .loop .inv .7)
 
 same-length-34 : tie.Need-same-length-34 Inv-loop μ-loop
 same-length-34 c =
     let c26 = c .before .before .before .before .before .before .before .before .before .before .before .before .before .before .before .before .before .before .before .before .before .before .before .before .before .before in
-    let c42 = c26 .before .before .before .before .before .before .before .before .before .before .before .before .before .before .before .before in
-    let c51 = c42 .before .before .before .before .before .before .before .before .before in
-    omega (arith, c26 .document .kept, c42 .bring .kept, c51 .loop .inv)
+    let c51 = c26 .before .before .before .before .before .before .before .before .before .before .before .before .before .before .before .before .before .before .before .before .before .before .before .before .before in
+    (c26 .document .kept .1 .1 .1 .1 .1 .1 .1 .1 .1 .1 .1 .1 .0) ∙ (c51 .loop .inv .8)
 
 same-length-35 : tie.Need-same-length-35 Inv-loop μ-loop
 same-length-35 c =
     let c26 = c .before .before .before .before .before .before .before .before .before .before .before .before .before .before .before .before .before .before .before .before .before .before .before .before .before .before in
-    let c42 = c26 .before .before .before .before .before .before .before .before .before .before .before .before .before .before .before .before in
-    let c51 = c42 .before .before .before .before .before .before .before .before .before in
-    omega (arith, c26 .document .kept, c42 .bring .kept, c51 .loop .inv)
+    let c51 = c26 .before .before .before .before .before .before .before .before .before .before .before .before .before .before .before .before .before .before .before .before .before .before .before .before .before in
+    (c26 .document .kept .1 .1 .1 .1 .1 .1 .1 .1 .1 .1 .1 .1 .1 .0) ∙ (c51 .loop .inv .9)
 
 same-length-36 : tie.Need-same-length-36 Inv-loop μ-loop
 same-length-36 c =
     let c26 = c .before .before .before .before .before .before .before .before .before .before .before .before .before .before .before .before .before .before .before .before .before .before .before .before .before .before in
-    let c42 = c26 .before .before .before .before .before .before .before .before .before .before .before .before .before .before .before .before in
-    let c51 = c42 .before .before .before .before .before .before .before .before .before in
-    omega (arith, c26 .document .kept, c42 .bring .kept, c51 .loop .inv)
+    let c51 = c26 .before .before .before .before .before .before .before .before .before .before .before .before .before .before .before .before .before .before .before .before .before .before .before .before .before in
+    (c26 .document .kept .1 .1 .1 .1 .1 .1 .1 .1 .1 .1 .1 .1 .1 .1 .0) ∙ (c51 .loop .inv .10)
 
 same-length-37 : tie.Need-same-length-37 Inv-loop μ-loop
 same-length-37 c =
     let c26 = c .before .before .before .before .before .before .before .before .before .before .before .before .before .before .before .before .before .before .before .before .before .before .before .before .before .before in
-    let c42 = c26 .before .before .before .before .before .before .before .before .before .before .before .before .before .before .before .before in
-    let c51 = c42 .before .before .before .before .before .before .before .before .before in
-    omega (arith, c26 .document .kept, c42 .bring .kept, c51 .loop .inv)
+    let c51 = c26 .before .before .before .before .before .before .before .before .before .before .before .before .before .before .before .before .before .before .before .before .before .before .before .before .before in
+    (c26 .document .kept .1 .1 .1 .1 .1 .1 .1 .1 .1 .1 .1 .1 .1 .1 .1 .0) ∙ (c51 .loop .inv .11)
 
 same-length-38 : tie.Need-same-length-38 Inv-loop μ-loop
 same-length-38 c =
-    let c26 = c .before .before .before .before .before .before .before .before .before .before .before .before .before .before .before .before .before .before .before .before .before .before .before .before .before .before in
-    let c42 = c26 .before .before .before .before .before .before .before .before .before .before .before .before .before .before .before .before in
+    let c42 = c .before .before .before .before .before .before .before .before .before .before .before .before .before .before .before .before .before .before .before .before .before .before .before .before .before .before .before .before .before .before .before .before .before .before .before .before .before .before .before .before .before .before in
     let c51 = c42 .before .before .before .before .before .before .before .before .before in
-    omega (arith, c26 .document .kept, c42 .bring .kept, c51 .loop .inv)
+    (c42 .bring .kept .0) ∙ (c51 .loop .inv .12)
 
 same-length-39 : tie.Need-same-length-39 Inv-loop μ-loop
 same-length-39 c =
-    let c26 = c .before .before .before .before .before .before .before .before .before .before .before .before .before .before .before .before .before .before .before .before .before .before .before .before .before .before in
-    let c42 = c26 .before .before .before .before .before .before .before .before .before .before .before .before .before .before .before .before in
-    let c51 = c42 .before .before .before .before .before .before .before .before .before in
-    omega (arith, c26 .document .kept, c42 .bring .kept, c51 .loop .inv)
+    let c51 = c .before .before .before .before .before .before .before .before .before .before .before .before .before .before .before .before .before .before .before .before .before .before .before .before .before .before .before .before .before .before .before .before .before .before .before .before .before .before .before .before .before .before .before .before .before .before .before .before .before .before .before in
+    (c51 .loop .inv .13)
 
 returns-3 : tie.Need-returns-3 Inv-loop μ-loop
 returns-3 c =
@@ -346,62 +318,62 @@ loop-again c =
     let c51 = c50 .before in
     let c55 = c51 .before .before .before .before in (
       c6 .if2 .left,
-      omega (arith, c30 .document .kept, c46 .bring .kept, c .before .before .add .kept, c55 .loop .inv .1),
-      omega (arith, c30 .document .kept, c46 .bring .kept, c .before .before .add .kept, c55 .loop .inv .2),
-      omega (arith, c30 .document .kept, c46 .bring .kept, c .before .before .add .kept, c55 .loop .inv .3),
-      omega (arith, c30 .document .kept, c46 .bring .kept, c .before .before .add .kept, c55 .loop .inv .4),
-      omega (arith, c30 .document .kept, c46 .bring .kept, c .before .before .add .kept, c55 .loop .inv .5),
-      omega (arith, c30 .document .kept, c46 .bring .kept, c .before .before .add .kept, c55 .loop .inv .6),
-      omega (arith, c30 .document .kept, c46 .bring .kept, c .before .before .add .kept, c55 .loop .inv .7),
-      omega (arith, c30 .document .kept, c46 .bring .kept, c .before .before .add .kept, c55 .loop .inv .8),
-      omega (arith, c30 .document .kept, c46 .bring .kept, c .before .before .add .kept, c55 .loop .inv .9),
-      omega (arith, c30 .document .kept, c46 .bring .kept, c .before .before .add .kept, c55 .loop .inv .10),
-      omega (arith, c30 .document .kept, c46 .bring .kept, c .before .before .add .kept, c55 .loop .inv .11),
-      omega (arith, c30 .document .kept, c46 .bring .kept, c .before .before .add .kept, c55 .loop .inv .12),
-      omega (arith, c30 .document .kept, c46 .bring .kept, c .before .before .add .kept, c55 .loop .inv .13),
+      c30 .document .kept .1 .1 .1 .1 .1 .0 ∙ c55 .loop .inv .1,
+      c30 .document .kept .1 .1 .1 .1 .1 .1 .0 ∙ c55 .loop .inv .2,
+      c30 .document .kept .1 .1 .1 .1 .1 .1 .1 .0 ∙ c55 .loop .inv .3,
+      c30 .document .kept .1 .1 .1 .1 .1 .1 .1 .1 .0 ∙ c55 .loop .inv .4,
+      c30 .document .kept .1 .1 .1 .1 .1 .1 .1 .1 .1 .0 ∙ c55 .loop .inv .5,
+      c30 .document .kept .1 .1 .1 .1 .1 .1 .1 .1 .1 .1 .0 ∙ c55 .loop .inv .6,
+      c30 .document .kept .1 .1 .1 .1 .1 .1 .1 .1 .1 .1 .1 .0 ∙ c55 .loop .inv .7,
+      c30 .document .kept .1 .1 .1 .1 .1 .1 .1 .1 .1 .1 .1 .1 .0 ∙ c55 .loop .inv .8,
+      c30 .document .kept .1 .1 .1 .1 .1 .1 .1 .1 .1 .1 .1 .1 .1 .0 ∙ c55 .loop .inv .9,
+      c30 .document .kept .1 .1 .1 .1 .1 .1 .1 .1 .1 .1 .1 .1 .1 .1 .0 ∙ c55 .loop .inv .10,
+      c30 .document .kept .1 .1 .1 .1 .1 .1 .1 .1 .1 .1 .1 .1 .1 .1 .1 .0 ∙ c55 .loop .inv .11,
+      c46 .bring .kept .0 ∙ c55 .loop .inv .12,
+      c .before .before .add .kept .0 ∙ c55 .loop .inv .13,
       λ s′ c′ k′ f′ m′ p′ t′ l′ u′ n′ b′ e′ o′ row place h. c55 .loop .inv .14 s′ c′ k′ f′ m′ p′ t′ l′ u′ n′ b′ e′ o′ row place
           (round-more (c51 .next-ready .ensures) (c50 .if1 .left) (c48 .entry-word .ensures) refl refl (c46 .bring .ensures) (c43 .skip .ensures)
           (c30 .document .ensures) calm-definition (c6 .if2 .left) (c .before .before .before .before .if3 .left) (c .before .before .add .ensures .words) h),
     )
 
 same-length-40 : tie.Need-same-length-40 Inv-loop μ-loop
-same-length-40 c = omega (arith, c .before .loop .inv)
+same-length-40 c = (c .before .loop .inv .1)
 
 same-length-41 : tie.Need-same-length-41 Inv-loop μ-loop
-same-length-41 c = omega (arith, c .before .loop .inv)
+same-length-41 c = (c .before .loop .inv .2)
 
 same-length-42 : tie.Need-same-length-42 Inv-loop μ-loop
-same-length-42 c = omega (arith, c .before .loop .inv)
+same-length-42 c = (c .before .loop .inv .3)
 
 same-length-43 : tie.Need-same-length-43 Inv-loop μ-loop
-same-length-43 c = omega (arith, c .before .loop .inv)
+same-length-43 c = (c .before .loop .inv .4)
 
 same-length-44 : tie.Need-same-length-44 Inv-loop μ-loop
-same-length-44 c = omega (arith, c .before .loop .inv)
+same-length-44 c = (c .before .loop .inv .5)
 
 same-length-45 : tie.Need-same-length-45 Inv-loop μ-loop
-same-length-45 c = omega (arith, c .before .loop .inv)
+same-length-45 c = (c .before .loop .inv .6)
 
 same-length-46 : tie.Need-same-length-46 Inv-loop μ-loop
-same-length-46 c = omega (arith, c .before .loop .inv)
+same-length-46 c = (c .before .loop .inv .7)
 
 same-length-47 : tie.Need-same-length-47 Inv-loop μ-loop
-same-length-47 c = omega (arith, c .before .loop .inv)
+same-length-47 c = (c .before .loop .inv .8)
 
 same-length-48 : tie.Need-same-length-48 Inv-loop μ-loop
-same-length-48 c = omega (arith, c .before .loop .inv)
+same-length-48 c = (c .before .loop .inv .9)
 
 same-length-49 : tie.Need-same-length-49 Inv-loop μ-loop
-same-length-49 c = omega (arith, c .before .loop .inv)
+same-length-49 c = (c .before .loop .inv .10)
 
 same-length-50 : tie.Need-same-length-50 Inv-loop μ-loop
-same-length-50 c = omega (arith, c .before .loop .inv)
+same-length-50 c = (c .before .loop .inv .11)
 
 same-length-51 : tie.Need-same-length-51 Inv-loop μ-loop
-same-length-51 c = omega (arith, c .before .loop .inv)
+same-length-51 c = (c .before .loop .inv .12)
 
 same-length-52 : tie.Need-same-length-52 Inv-loop μ-loop
-same-length-52 c = omega (arith, c .before .loop .inv)
+same-length-52 c = (c .before .loop .inv .13)
 
 returns-4 : tie.Need-returns-4 Inv-loop μ-loop
 returns-4 c = c .before .loop .inv .14 _ _ _ _ _ _ _ _ _ _ _ _ _ 0 _ (drive-end calm-definition (c .loop-test .left) refl)
@@ -432,7 +404,7 @@ drive-spec =
     returns
     (λ c κs. search needs)
     (λ c κs. tt)
-    (λ c κs. tt)
+    (λ c κs. search needs)
     (λ c κs. tt)
     same-length-14
     same-length-15

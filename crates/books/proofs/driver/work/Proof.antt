@@ -10,22 +10,20 @@ use borrow.Author.Needs.{needs}
 use native.Mathlib.Omega.{arith}
 
 same-length : tie.Need-same-length
-same-length c = omega (arith, c .before .before .before .before .first-constants .kept)
+same-length c = (c .before .before .before .before .first-constants .kept .0)
 
 returns : tie.Need-returns
 returns c = work-huge (c .before .if1 .taken)
 
 same-length-2 : tie.Need-same-length-2
 same-length-2 c =
-    let c5 = c .before .before .before .before .before in
-    let c10 = c5 .before .before .before .before .before in
-    omega (arith, c10 .first-constants .kept, c5 .take-books .kept)
+    let c10 = c .before .before .before .before .before .before .before .before .before .before in
+    (c10 .first-constants .kept .0)
 
 same-length-3 : tie.Need-same-length-3
 same-length-3 c =
     let c5 = c .before .before .before .before .before in
-    let c10 = c5 .before .before .before .before .before in
-    omega (arith, c10 .first-constants .kept, c5 .take-books .kept)
+    (c5 .take-books .kept .1 .1 .1 .1 .0)
 
 returns-2 : tie.Need-returns-2
 returns-2 c =
@@ -43,86 +41,64 @@ drive-requires c κs =
 same-length-4 : tie.Need-same-length-4
 same-length-4 c =
     let c25 = c .before .before .before .before .before .before .before .before .before .before .before .before .before .before .before .before .before .before .before .before .before .before .before .before .before in
-    let c44 = c25 .before .before .before .before .before .before .before .before .before .before .before .before .before .before .before .before .before .before .before in
-    let c49 = c44 .before .before .before .before .before in
-    omega (arith, c49 .first-constants .kept, c44 .take-books .kept, c25 .drive .kept)
+    (c25 .drive .kept .1 .1 .1 .1 .0)
 
 same-length-5 : tie.Need-same-length-5
 same-length-5 c =
     let c25 = c .before .before .before .before .before .before .before .before .before .before .before .before .before .before .before .before .before .before .before .before .before .before .before .before .before in
-    let c44 = c25 .before .before .before .before .before .before .before .before .before .before .before .before .before .before .before .before .before .before .before in
-    let c49 = c44 .before .before .before .before .before in
-    omega (arith, c49 .first-constants .kept, c44 .take-books .kept, c25 .drive .kept)
+    let c49 = c25 .before .before .before .before .before .before .before .before .before .before .before .before .before .before .before .before .before .before .before .before .before .before .before .before in
+    (c25 .drive .kept .1 .1 .1 .1 .1 .0) ∙ (c49 .first-constants .kept .0)
 
 same-length-6 : tie.Need-same-length-6
 same-length-6 c =
     let c25 = c .before .before .before .before .before .before .before .before .before .before .before .before .before .before .before .before .before .before .before .before .before .before .before .before .before in
-    let c44 = c25 .before .before .before .before .before .before .before .before .before .before .before .before .before .before .before .before .before .before .before in
-    let c49 = c44 .before .before .before .before .before in
-    omega (arith, c49 .first-constants .kept, c44 .take-books .kept, c25 .drive .kept)
+    (c25 .drive .kept .1 .1 .1 .1 .1 .1 .0)
 
 same-length-7 : tie.Need-same-length-7
 same-length-7 c =
     let c25 = c .before .before .before .before .before .before .before .before .before .before .before .before .before .before .before .before .before .before .before .before .before .before .before .before .before in
-    let c44 = c25 .before .before .before .before .before .before .before .before .before .before .before .before .before .before .before .before .before .before .before in
-    let c49 = c44 .before .before .before .before .before in
-    omega (arith, c49 .first-constants .kept, c44 .take-books .kept, c25 .drive .kept)
+    (c25 .drive .kept .1 .1 .1 .1 .1 .1 .1 .0)
 
 same-length-8 : tie.Need-same-length-8
 same-length-8 c =
     let c25 = c .before .before .before .before .before .before .before .before .before .before .before .before .before .before .before .before .before .before .before .before .before .before .before .before .before in
-    let c44 = c25 .before .before .before .before .before .before .before .before .before .before .before .before .before .before .before .before .before .before .before in
-    let c49 = c44 .before .before .before .before .before in
-    omega (arith, c49 .first-constants .kept, c44 .take-books .kept, c25 .drive .kept)
+    (c25 .drive .kept .1 .1 .1 .1 .1 .1 .1 .1 .0)
 
 same-length-9 : tie.Need-same-length-9
 same-length-9 c =
     let c25 = c .before .before .before .before .before .before .before .before .before .before .before .before .before .before .before .before .before .before .before .before .before .before .before .before .before in
-    let c44 = c25 .before .before .before .before .before .before .before .before .before .before .before .before .before .before .before .before .before .before .before in
-    let c49 = c44 .before .before .before .before .before in
-    omega (arith, c49 .first-constants .kept, c44 .take-books .kept, c25 .drive .kept)
+    (c25 .drive .kept .1 .1 .1 .1 .1 .1 .1 .1 .1 .0)
 
 same-length-10 : tie.Need-same-length-10
 same-length-10 c =
     let c25 = c .before .before .before .before .before .before .before .before .before .before .before .before .before .before .before .before .before .before .before .before .before .before .before .before .before in
-    let c44 = c25 .before .before .before .before .before .before .before .before .before .before .before .before .before .before .before .before .before .before .before in
-    let c49 = c44 .before .before .before .before .before in
-    omega (arith, c49 .first-constants .kept, c44 .take-books .kept, c25 .drive .kept)
+    (c25 .drive .kept .1 .1 .1 .1 .1 .1 .1 .1 .1 .1 .0)
 
 same-length-11 : tie.Need-same-length-11
 same-length-11 c =
     let c25 = c .before .before .before .before .before .before .before .before .before .before .before .before .before .before .before .before .before .before .before .before .before .before .before .before .before in
-    let c44 = c25 .before .before .before .before .before .before .before .before .before .before .before .before .before .before .before .before .before .before .before in
-    let c49 = c44 .before .before .before .before .before in
-    omega (arith, c49 .first-constants .kept, c44 .take-books .kept, c25 .drive .kept)
+    (c25 .drive .kept .1 .1 .1 .1 .1 .1 .1 .1 .1 .1 .1 .0)
 
 same-length-12 : tie.Need-same-length-12
 same-length-12 c =
     let c25 = c .before .before .before .before .before .before .before .before .before .before .before .before .before .before .before .before .before .before .before .before .before .before .before .before .before in
-    let c44 = c25 .before .before .before .before .before .before .before .before .before .before .before .before .before .before .before .before .before .before .before in
-    let c49 = c44 .before .before .before .before .before in
-    omega (arith, c49 .first-constants .kept, c44 .take-books .kept, c25 .drive .kept)
+    (c25 .drive .kept .1 .1 .1 .1 .1 .1 .1 .1 .1 .1 .1 .1 .0)
 
 same-length-13 : tie.Need-same-length-13
 same-length-13 c =
     let c25 = c .before .before .before .before .before .before .before .before .before .before .before .before .before .before .before .before .before .before .before .before .before .before .before .before .before in
-    let c44 = c25 .before .before .before .before .before .before .before .before .before .before .before .before .before .before .before .before .before .before .before in
-    let c49 = c44 .before .before .before .before .before in
-    omega (arith, c49 .first-constants .kept, c44 .take-books .kept, c25 .drive .kept)
+    (c25 .drive .kept .1 .1 .1 .1 .1 .1 .1 .1 .1 .1 .1 .1 .1 .0)
 
 same-length-14 : tie.Need-same-length-14
 same-length-14 c =
     let c25 = c .before .before .before .before .before .before .before .before .before .before .before .before .before .before .before .before .before .before .before .before .before .before .before .before .before in
-    let c44 = c25 .before .before .before .before .before .before .before .before .before .before .before .before .before .before .before .before .before .before .before in
-    let c49 = c44 .before .before .before .before .before in
-    omega (arith, c49 .first-constants .kept, c44 .take-books .kept, c25 .drive .kept)
+    (c25 .drive .kept .1 .1 .1 .1 .1 .1 .1 .1 .1 .1 .1 .1 .1 .1 .0)
 
 same-length-15 : tie.Need-same-length-15
 same-length-15 c =
     let c25 = c .before .before .before .before .before .before .before .before .before .before .before .before .before .before .before .before .before .before .before .before .before .before .before .before .before in
     let c44 = c25 .before .before .before .before .before .before .before .before .before .before .before .before .before .before .before .before .before .before .before in
-    let c49 = c44 .before .before .before .before .before in
-    omega (arith, c49 .first-constants .kept, c44 .take-books .kept, c25 .drive .kept)
+    (c25 .drive .kept .1 .1 .1 .1 .1 .1 .1 .1 .1 .1 .1 .1 .1 .1 .1 .0) ∙ (c44 .take-books .kept .1 .1 .1 .1 .0)
 
 returns-3 : tie.Need-returns-3
 returns-3 c =

@@ -1,7 +1,7 @@
 -- `books::functions::implement_functions` meets its contract. The invariant: what finishes from here finishes the whole. Assumes nothing.
 -- Made from Proof.answers by `answers make`: edit that file, and not this one.
 use Rattle.books.proofs.ImplementWays.{all-end, all-next}
-use Rattle.books.proofs.Tokens.{skip-more}
+use Rattle.bodies.proofs.Tokens.{skip-more}
 use Rattle.books.specs.Implementing.{ImplementsAll}
 use Rattle.books.specs.declared.documents.Book.{Book}
 use lib.ListN.{length}
@@ -10,6 +10,7 @@ use Prim.Native.Nat.{ℕ, _-_}
 use mathlib.Core.List.{List}
 use Rattle.books.proofs.functions.implement_functions.Statement.{statement}
 use Rattle.books.proofs.functions.implement_functions.Tie as tie
+use borrow.Author.Needs.{needs}
 use native.Mathlib.Omega.{arith}
 
 abbrev Inv-loop : tie.InvT-loop
@@ -75,7 +76,7 @@ implement-functions-spec =
     Inv-loop
     μ-loop
     loop-holds
-    (λ c κs. tt)
+    (λ c κs. search needs)
     (λ c κs. tt)
     loop-less
     loop-again

@@ -1,7 +1,7 @@
 -- `books::functions::implement_methods` meets its contract. The invariant: what finishes from here finishes the whole. Assumes nothing.
 -- Made from Proof.answers by `answers make`: edit that file, and not this one.
 use Rattle.books.proofs.ImplementWays.{methods-end, methods-past, methods-next}
-use Rattle.books.proofs.Tokens.{skip-more}
+use Rattle.bodies.proofs.Tokens.{skip-more}
 use Rattle.books.specs.Implementing.{ImplementsMethods}
 use Rattle.books.specs.declared.documents.Book.{Book}
 use lib.ListN.{length}
@@ -57,7 +57,7 @@ implement-methods-spec =
     (λ c κs. search needs)
     (λ c κs. tt)
     (λ c. omega arith)
-    (λ c κs. tt)
+    (λ c κs. search needs)
     loop-less
     loop-again
     (λ c. search needs)

@@ -1,5 +1,6 @@
 -- `books::functions::parameter` meets its contract: with the mark set, a new name, and one that is there. Assumes nothing.
 -- Made from Proof.answers by `answers make`: edit that file, and not this one.
+use Rattle.bodies.proofs.Leaves.{faults}
 use Rattle.books.proofs.FunctionWays.{parameter-full, parameter-new, parameter-there}
 use Rattle.books.proofs.functions.parameter.Statement.{statement}
 use Rattle.books.proofs.functions.parameter.Tie as tie
@@ -27,9 +28,10 @@ returns-3 c =
     let c13 = c12 .before in
     let c14 = c13 .before in
     let c15 = c14 .before in
+    let c20 = c15 .before .before .before .before .before in
     parameter-there (c15 .if1 .left) (c14 .field .ensures) (c13 .field2 .ensures) (c12 .instance-by .ensures) (c11 .with-parameters .ensures)
     (c9 .define-local .ensures) (c .before .before .before .before .enum-told2 .given .1)
-    (c .before .before .fault .ensures)
+    (faults (c20 .args .tree .now) (c20 .args .at) 7 (c .before .before .fault .ensures))
 
 pub parameter-spec : {M : Type 1} → statement M
 parameter-spec =

@@ -6,7 +6,7 @@ use mathlib.Core.Bool.{Bool}
 use mathlib.Core.List.{List}
 use lib.ListN.{length}
 use Rattle.books.specs.Solving.{Includes}
-use Rattle.books.proofs.Tokens.{skip-more}
+use Rattle.bodies.proofs.Tokens.{skip-more}
 use Rattle.books.proofs.BundleWays.{includes-end, includes-other, includes-more}
 use Rattle.books.proofs.solver.add_includes.Statement.{statement}
 use Rattle.books.proofs.solver.add_includes.Tie as tie
@@ -68,7 +68,7 @@ add-includes-spec =
     (λ c κs. search needs)
     (λ c κs. tt)
     (λ c κs. tt)
-    (λ c κs. tt)
+    (λ c κs. search needs)
     loop-less
     loop-again
     (λ c. search needs)

@@ -5,7 +5,7 @@ use mathlib.Core.Path.{sym, _∙_}
 use mathlib.Core.Bool.{Bool}
 use borrow.Author.Tests.{not-true, not-false}
 use Rattle.books.specs.Solving.{AllIncluded}
-use Rattle.books.proofs.Tokens.{skip-more}
+use Rattle.bodies.proofs.Tokens.{skip-more}
 use Rattle.books.proofs.BookWays.{all-end, all-other, all-more, all-not}
 use Rattle.books.proofs.solver.all_in.Statement.{statement}
 use Rattle.books.proofs.solver.all_in.Tie as tie
@@ -69,7 +69,7 @@ all-in-spec =
     (λ c κs. search needs)
     (λ c κs. tt)
     returns-2
-    (λ c κs. tt)
+    (λ c κs. search needs)
     loop-less
     loop-again
     returns-3)

@@ -2,7 +2,7 @@
 -- Made from Proof.answers by `answers make`: edit that file, and not this one.
 use Prim.Native.Nat.{ℕ, _-_, _≤_}
 use Rattle.books.specs.Solving.{FindsDocument}
-use Rattle.books.proofs.Tokens.{skip-more}
+use Rattle.bodies.proofs.Tokens.{skip-more}
 use Rattle.books.proofs.BookWays.{find-end, find-here, find-more}
 use Rattle.books.proofs.solver.find_document.Statement.{statement}
 use Rattle.books.proofs.solver.find_document.Tie as tie
@@ -57,7 +57,7 @@ find-document-spec =
     loop-holds
     (λ c κs. search needs)
     returns
-    (λ c κs. tt)
+    (λ c κs. search needs)
     loop-less
     loop-again
     returns-2)

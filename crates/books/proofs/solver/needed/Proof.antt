@@ -4,7 +4,7 @@ use Prim.Native.Nat.{ℕ, _-_}
 use mathlib.Core.Path.{_≡_, refl, ap}
 use mathlib.Core.List.{List}
 use lib.ListN.{length}
-use Rattle.books.proofs.Tokens.{skip-more}
+use Rattle.bodies.proofs.Tokens.{skip-more}
 use Rattle.books.proofs.BundleWays.{NeededFrom, needed-end, needed-stop, needed-more, needed-start}
 use Rattle.books.proofs.solver.needed.Statement.{statement}
 use Rattle.books.proofs.solver.needed.Tie as tie
@@ -107,7 +107,7 @@ needed-spec =
     same-length-2
     returns
     copy-requires
-    (λ c κs. tt)
+    (λ c κs. search needs)
     loop-less
     loop-again
     same-length-3

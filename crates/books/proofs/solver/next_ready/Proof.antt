@@ -50,7 +50,7 @@ next-ready-spec =
     μ-loop
     loop-holds
     (λ c κs. search needs)
-    (λ c κs. tt)
+    (λ c κs. search needs)
     (λ c. omega arith)
     (λ c κs. tt)
     returns

@@ -6,7 +6,7 @@ use mathlib.Core.Bool.{Bool}
 use mathlib.Core.List.{List}
 use lib.ListN.{length}
 use Rattle.books.specs.Solving.{Reaches}
-use Rattle.books.proofs.Tokens.{skip-more}
+use Rattle.bodies.proofs.Tokens.{skip-more}
 use Rattle.books.proofs.BundleWays.{reach-end, reach-past, reach-more}
 use Rattle.books.proofs.solver.reach.Statement.{statement}
 use Rattle.books.proofs.solver.reach.Tie as tie
@@ -81,7 +81,7 @@ reach-spec =
     Inv-loop
     μ-loop
     loop-holds
-    (λ c κs. tt)
+    (λ c κs. search needs)
     (λ c κs. search needs)
     (λ c κs. tt)
     (λ c. omega arith)

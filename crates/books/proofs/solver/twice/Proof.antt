@@ -5,7 +5,7 @@ use mathlib.Core.Path.{_≡_, refl}
 use mathlib.Core.List.{List}
 use lib.ListN.{length}
 use Rattle.building.specs.declared.scopes.Found.{Found}
-use Rattle.books.proofs.Tokens.{skip-more}
+use Rattle.bodies.proofs.Tokens.{skip-more}
 use Rattle.books.proofs.BundleWays.{TwiceFrom, twice-end, twice-here, twice-more, twice-whole}
 use Rattle.books.proofs.solver.twice.Statement.{statement}
 use Rattle.books.proofs.solver.twice.Tie as tie
@@ -73,7 +73,7 @@ twice-spec =
     (λ c κs. tt)
     same-length
     returns
-    (λ c κs. tt)
+    (λ c κs. search needs)
     loop-less
     loop-again
     (λ c. search needs)

@@ -1,0 +1,12 @@
+pub mod Balanced
+pub mod Steps
+pub mod Leaves
+pub mod Tokens
+pub mod Runs
+pub mod Loops
+pub mod ExpressionWays
+pub mod StatementWays
+pub mod VariableWays
+pub mod InfixWays
+pub mod IfWays
+pub mod LoopWays

@@ -1,0 +1,28 @@
+-- `bodies::global` meets its contract: the number that was answered is the definition's where nothing is full. Assumes nothing.
+-- Made from Proof.answers by `answers make`: edit that file, and not this one.
+use Rattle.bodies.proofs.Leaves.{global-acts}
+use Rattle.words.specs.Codes.{numberOf}
+use Rattle.bodies.proofs.global.Statement.{statement}
+use Rattle.bodies.proofs.global.Tie as tie
+use borrow.Author.Needs.{needs}
+
+returns : tie.Need-returns
+returns c =
+    let c7 = c .before .before .before .before .before .before .before in
+    let c12 = c7 .before .before .before .before .before in
+    let c16 = c12 .before .before .before .before in
+    global-acts (numberOf (c16 .args .opcode)) (c16 .args .name) (c16 .args .position) (c12 .add-constant .ensures) (c7 .mark-global .ensures)
+    (c .before .before .before .before .to-instruction .ensures)
+    (c .before .before .emit .ensures)
+
+pub global-spec : {M : Type 1} → statement M
+global-spec =
+    tie.close
+    (tie.spec
+    (λ c κs. search needs)
+    (λ c κs. search needs)
+    (λ c κs. search needs)
+    (λ c κs. search needs)
+    (λ c. search needs)
+    (λ c. search needs)
+    returns)

@@ -1,0 +1,20 @@
+-- `bodies::loop_start` meets its contract: four routines do the one step. Assumes nothing.
+-- Made from Proof.answers by `answers make`: edit that file, and not this one.
+use Rattle.bodies.proofs.Loops.{start-acts}
+use Rattle.bodies.proofs.loop_start.Statement.{statement}
+use Rattle.bodies.proofs.loop_start.Tie as tie
+use borrow.Author.Needs.{needs}
+
+returns : tie.Need-returns
+returns c = start-acts (c .before .before .before .define-anonymous-local .ensures) (c .before .before .define-anonymous-local2 .ensures)
+    (c .before .enter-scope .ensures) (c .enter-break-scope .ensures)
+
+pub loop-start-spec : {M : Type 1} → statement M
+loop-start-spec =
+    tie.close
+    (tie.spec
+    (λ c κs. search needs)
+    (λ c κs. search needs)
+    (λ c κs. search needs)
+    (λ c κs. search needs)
+    returns)

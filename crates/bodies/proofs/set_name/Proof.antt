@@ -1,0 +1,19 @@
+-- `bodies::set_name` meets its contract: the name is the target's token, the position the assignment's. Assumes nothing.
+-- Made from Proof.answers by `answers make`: edit that file, and not this one.
+use Rattle.bodies.proofs.Tokens.{set-name-way}
+use Rattle.bodies.proofs.set_name.Statement.{statement}
+use Rattle.bodies.proofs.set_name.Tie as tie
+use borrow.Author.Needs.{needs}
+
+returns : tie.Need-returns
+returns c =
+    let c7 = c .before .before .before .before .before .before .before in
+    let c8 = c7 .before in
+    let c14 = c8 .before .before .before .before .before .before in
+    set-name-way (c14 .args .tree .now) (c14 .args .at) (c14 .args .token) (c8 .field .ensures) (c7 .field2 .ensures)
+    (c .before .before .before .before .name .ensures)
+
+pub set-name-spec : {M : Type 1} → statement M
+set-name-spec =
+    tie.close
+    (tie.spec (λ c κs. search needs) (λ c κs. search needs) (λ c κs. search needs) (λ c. search needs) (λ c. search needs) returns)
