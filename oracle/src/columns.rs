@@ -88,12 +88,18 @@ fn line(text: &[u8]) -> Option<[u64; 4]> {
     (row <= MAX_PLACE && column <= MAX_PLACE).then_some([kind, span, row << 16 | column, value])
 }
 
-/// Column file to words.
-pub fn read_column(bytes: &[u8]) -> Answer<u64> {
+/// The words of a column file, whatever they say, or row 1.
+pub fn read_words(bytes: &[u8]) -> Result<Vec<u64>, Refusal> {
     let mut words = Vec::new();
     for (number, text) in (1..).zip(bytes.split_inclusive(|&byte| byte == b'\n')) {
         words.extend(text.strip_suffix(b"\n").and_then(line).ok_or((BAD_LINE, number))?);
     }
+    Ok(words)
+}
+
+/// Column file to words.
+pub fn read_column(bytes: &[u8]) -> Answer<u64> {
+    let words = read_words(bytes)?;
     if words.len() / RECORD_WORDS > MAX_RECORDS {
         return Err((BAD_LENGTH, 0));
     }

@@ -29,3 +29,4 @@ pub mod records;
 pub mod sample;
 pub mod shape;
 pub mod speed;
+pub mod stored;

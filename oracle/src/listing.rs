@@ -1,10 +1,18 @@
-//! The listing of 01 ("Bench pieces"): what the program `listing` prints for a column file. Buffer
-//! lengths are not part of this reading; the caller cuts.
+//! The listing of 01 ("Bench pieces") of a column file, and what the program `listing` prints for
+//! one with its fixed buffers.
 
-use crate::areas::{answer, Answer, Delivery, Lengths};
+use crate::areas::{answer, Answer, Delivery, Lengths, ENTRY_WORDS};
 use crate::columns::column_to_records;
 use crate::model::compile;
 use crate::records::RECORD_WORDS;
+
+/// The buffers of the program (docs/FORMAT.md): bytes of input and output, entries of each area.
+pub const INPUT_BYTES: usize = 65_504;
+pub const OUTPUT_BYTES: usize = 65_490;
+pub const AREA_ENTRIES: usize = 1_000;
+
+/// A line of the listing with its newline.
+pub const LINE_BYTES: usize = 74;
 
 const FIELDS: usize = 8;
 /// Widths 4, six of 8, and 21.
@@ -130,4 +138,21 @@ pub fn listing_of_column(bytes: &[u8], lengths: &Lengths) -> Vec<u8> {
     let words = &read.out[..bytes.len() / crate::columns::LINE_BYTES * RECORD_WORDS];
     let run = compile(words, lengths);
     listing(&answer(&run.reply, &run.areas))
+}
+
+/// The areas of the program, in words.
+pub fn program_lengths() -> Lengths {
+    ENTRY_WORDS.map(|words| AREA_ENTRIES * words)
+}
+
+/// What the program prints: the listing, or row 9, place 0, where input or listing is too long.
+pub fn printed(bytes: &[u8]) -> Vec<u8> {
+    if bytes.len() > INPUT_BYTES {
+        return refusal(9, 0, &[]);
+    }
+    let whole = listing_of_column(bytes, &program_lengths());
+    if whole.len() > OUTPUT_BYTES {
+        return refusal(9, 0, &[]);
+    }
+    whole
 }

@@ -19,8 +19,9 @@ oracle compare [--seed S] [--count N] [--large] [--ours] [--stop]
     the Rust and the model (and the library) over N bundles; --stop ends at the first difference
 oracle case --seed S --index I [--large] [--column]
     the words of one bundle, or its column file
-oracle listing
-    a column file on standard input, its listing out
+oracle listing [--program]
+    a column file on standard input, its listing out; --program gives what the program `listing`
+    prints, with its buffers
 oracle hostile [--ours] [--stack BYTES] [--size N]
     bundles at the limits on a small stack, with seconds; --ours compares the library with the model;
     N is the size of those that cost its square
@@ -122,10 +123,14 @@ fn run_case(arguments: &[String]) -> ExitCode {
     ExitCode::SUCCESS
 }
 
-fn run_listing() -> ExitCode {
+fn run_listing(arguments: &[String]) -> ExitCode {
     let mut bytes = Vec::new();
     std::io::stdin().read_to_end(&mut bytes).expect("standard input is readable");
-    let out = listing::listing_of_column(&bytes, &[PLENTY * 8; 12]);
+    let out = if has(arguments, "--program") {
+        listing::printed(&bytes)
+    } else {
+        listing::listing_of_column(&bytes, &[PLENTY * 8; 12])
+    };
     std::io::stdout().write_all(&out).expect("standard output is open");
     ExitCode::SUCCESS
 }
@@ -220,7 +225,7 @@ fn main() -> ExitCode {
     match arguments.first().map(String::as_str) {
         Some("compare") => run_compare(&arguments),
         Some("case") => run_case(&arguments),
-        Some("listing") => run_listing(),
+        Some("listing") => run_listing(&arguments),
         Some("hostile") => run_hostile(&arguments),
         Some("convert") => run_convert(&arguments),
         Some("bench") => run_bench(&arguments),

@@ -52,28 +52,28 @@ pub fn for_node(name: u64, enumerable: Node, body: Vec<Node>) -> Node {
     Node::new(kind::FOR, at(2, 1), 0, children)
 }
 
-fn break_node() -> Node {
+pub fn break_node() -> Node {
     leaf(kind::BREAK, 0)
 }
 
-fn include(file: u64, names: &[(u64, u64)]) -> Node {
+pub fn include(file: u64, names: &[(u64, u64)]) -> Node {
     let names = names.iter().flat_map(|&(public, alias)| [name_node(public), name_node(alias)]).collect();
     Node::new(kind::INCLUDE, at(1, 1), file, names)
 }
 
-fn named(kind: u64, name: u64, children: Vec<Node>) -> Node {
+pub fn named(kind: u64, name: u64, children: Vec<Node>) -> Node {
     Node::new(kind, at(1, 7), name, children)
 }
 
-fn locals(kind: u64, pairs: Vec<(u64, Node)>) -> Node {
+pub fn locals(kind: u64, pairs: Vec<(u64, Node)>) -> Node {
     Node::new(kind, 0, 0, pairs.into_iter().flat_map(|(name, value)| [name_node(name), value]).collect())
 }
 
-fn absent() -> Node {
+pub fn absent() -> Node {
     Node::leaf(kind::ABSENT, 0, 0)
 }
 
-fn apply(source: u64, target: u64) -> Node {
+pub fn apply(source: u64, target: u64) -> Node {
     Node::new(kind::APPLY, 0, 0, vec![name_node(source), name_node(target)])
 }
 
@@ -103,12 +103,13 @@ pub fn deep(bottom: usize) -> Vec<u64> {
 }
 
 /// Compound targets inside compound targets: each doubles the work.
+pub fn doubling(times: usize) -> Node {
+    (0..times)
+        .fold(identifier(5), |inner, _| infix(6, get(kind::INDEX_GET, inner, leaf(kind::NULL, 0)), leaf(kind::NULL, 0)))
+}
+
 pub fn doubled(times: usize) -> Vec<u64> {
-    let mut inner = identifier(5);
-    for _ in 0..times {
-        inner = infix(6, get(kind::INDEX_GET, inner, leaf(kind::NULL, 0)), leaf(kind::NULL, 0));
-    }
-    body(&[], vec![statement(inner)])
+    body(&[], vec![statement(doubling(times))])
 }
 
 pub fn with_text(text: u64) -> Vec<u64> {

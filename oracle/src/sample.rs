@@ -4,15 +4,15 @@
 use crate::areas::{answer, Lengths, AREAS, ENTRY_WORDS};
 use crate::columns::{column_to_records, damaged, lines, records_to_column, LINE_BYTES};
 use crate::generate::{case, Sizes};
-use crate::listing::listing_of_column;
 use crate::model::compile;
 use crate::pieces;
 use crate::random::Random;
 use crate::real::{run, Outcome};
 use crate::records::{kind, records};
+use crate::stored;
 use std::collections::{BTreeMap, BTreeSet};
 
-/// No file is longer, so that a small buffer holds any of them.
+/// No file of numbers is longer, so that a small buffer holds any of them.
 const FILE_BYTES: usize = 60_000;
 const SEED: u64 = 2026;
 const GENERATED_RECORDS: usize = 80;
@@ -245,30 +245,34 @@ fn line_cases() -> Vec<String> {
     cases
 }
 
-/// Column files with what `listing` prints for them; lengths that no piece comes near.
+/// Cases named for an item in the index; the others that show it are counted.
+const NAMED: usize = 4;
+
+/// Column files with what `listing` prints for them, and their index: each item that must be shown
+/// with cases that show it, then each case.
 fn add_listings(files: &mut Files) {
-    let plenty: Lengths = std::array::from_fn(|i| 1000 * ENTRY_WORDS[i]);
-    let chosen = [
-        "models and methods through aliases",
-        "ring of two and one behind",
-        "error 5 three times",
-        "book twice",
-        "repeated top-level names",
-        "all leaves",
-        "no records",
-        "level 65",
-        "context locals read and set",
-    ];
-    let more = pieces::more().into_iter().filter(|(name, _)| chosen.contains(name));
-    for (number, (_, words)) in (1..).zip(pieces::bench().into_iter().chain(more)) {
-        let file = lines(&words);
-        files.insert(format!("listing-{number:02}.out"), listing_of_column(&file, &plenty));
-        files.insert(format!("listing-{number:02}.col"), file);
+    let cases = stored::cases();
+    let shown: Vec<BTreeSet<String>> = cases.iter().map(stored::Case::shows).collect();
+    let name = |number: usize| format!("listing-{:03}", number + 1);
+    let mut index = String::new();
+    for item in stored::items() {
+        let having: Vec<String> = (0..cases.len()).filter(|&i| shown[i].contains(&item)).map(name).collect();
+        assert!(!having.is_empty(), "no listing shows {item}");
+        let named = having[..NAMED.min(having.len())].join(" ");
+        index += &match having.len() - NAMED.min(having.len()) {
+            0 => format!("item {item}: {named}\n"),
+            others => format!("item {item}: {named} and {others} more\n"),
+        };
     }
-    let mut broken = lines(&pieces::example());
-    broken[LINE_BYTES + 3] = b'x';
-    files.insert("listing-90.out".to_string(), listing_of_column(&broken, &plenty));
-    files.insert("listing-90.col".to_string(), broken);
+    for (number, case) in cases.iter().enumerate() {
+        if let Some(words) = case.words() {
+            assert_shared(&case.name, &words);
+        }
+        index += &format!("{}: {}\n", name(number), case.line());
+        files.insert(format!("{}.out", name(number)), case.out());
+        files.insert(format!("{}.col", name(number)), case.file.clone());
+    }
+    files.insert("listings.txt".to_string(), index.into_bytes());
 }
 
 /// Features that the sample must show, whatever it was drawn from.

@@ -5,7 +5,8 @@ use oracle::compare::{compare, judge_side, lengths, shrink, Model, Plan, Side, T
 use oracle::generate::{case, Sizes};
 use oracle::model::compile;
 use oracle::random::Random;
-use oracle::{areas, sample};
+use oracle::{areas, columns, listing, pieces, sample, stored};
+use std::collections::BTreeSet;
 use std::path::Path;
 
 fn assert_alike(seed: u64, count: u64, sizes: Sizes) -> Tally {
@@ -56,13 +57,40 @@ const FINGERPRINT_LARGE: u64 = 11_613_912_711_025_851_840;
 fn the_sample_is_current() {
     let folder = Path::new(env!("CARGO_MANIFEST_DIR")).join("sample");
     let files = sample::files();
-    assert!(files.values().map(Vec::len).sum::<usize>() < 300_000);
+    let size = |of_listings: bool| -> usize {
+        files
+            .iter()
+            .filter(|(name, _)| name.starts_with("listing-") == of_listings)
+            .map(|(_, content)| content.len())
+            .sum()
+    };
+    assert!(size(false) < 300_000 && size(true) < 1_500_000);
     for (name, content) in &files {
         let kept = std::fs::read(folder.join(name)).unwrap_or_else(|e| panic!("{name}: {e}; run the sample command"));
         assert!(kept == *content, "{name} is not what the sample command writes");
     }
     let kept = std::fs::read_dir(&folder).expect("the sample is there").count();
     assert_eq!(kept, files.len() + 1, "a file beside the sample and its README");
+}
+
+/// The crate of the program `listing` has 01's example as what it reads and prints in every check.
+#[test]
+fn the_program_holds_the_example() {
+    let folder = Path::new(env!("CARGO_MANIFEST_DIR")).join("../crates/listing");
+    let kept = |name: &str| std::fs::read(folder.join(name)).expect("the file is there");
+    let file = columns::lines(&pieces::example());
+    assert_eq!((kept("stdin"), kept("stdout")), (file.clone(), listing::printed(&file)));
+}
+
+/// Each item has a case, and no two cases are the same file.
+#[test]
+fn the_stored_listings_show_every_item() {
+    let cases = stored::cases();
+    for item in stored::items() {
+        assert!(cases.iter().any(|case| case.shows().contains(&item)), "no listing shows {item}");
+    }
+    let files: BTreeSet<&[u8]> = cases.iter().map(|case| case.file.as_slice()).collect();
+    assert_eq!(files.len(), cases.len());
 }
 
 /// Reads one sample file as a replay does: a stream of numbers.
