@@ -1,6 +1,6 @@
 -- `books::driver::definition` meets its contract: a way for each kind. Assumes nothing.
 -- Made from Proof.answers by `answers make`: edit that file, and not this one.
-use mathlib.Core.Path.{_∙_}
+use mathlib.Core.Path.{_∙_, refl}
 use Rattle.books.proofs.DefinitionWays.{definition-local, definition-include, definition-model, definition-public-model, definition-function, definition-public-function, definition-implement, definition-apply}
 use Rattle.books.proofs.driver.definition.Statement.{statement}
 use Rattle.books.proofs.driver.definition.Tie as tie
