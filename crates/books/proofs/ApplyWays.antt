@@ -26,12 +26,18 @@ use Rattle.building.specs.Found.{foundOf}
 use Rattle.building.specs.Held.{Filled}
 use Rattle.books.specs.declared.documents.Book as struct
 use Rattle.books.specs.Shelf.{shelf, Keeping}
-use Rattle.books.specs.Modelling.{InsertsMethod, FindsModel, noMethod, methodsFrom, CopiesMethod, CopiesFrom, CopiesMethods, Applies}
+use Rattle.books.specs.Modelling.{InsertsMethod, FindsModel, noMethod, methodsFrom, CopiesMethod, CopiesMethods, Applies}
 use Rattle.books.proofs.ModelCalm.{calm-methods, calm-find-model}
 use Rattle.books.proofs.Shelving.{keeping-longer, unfilled, full-deeds}
 use Rattle.books.proofs.Pairs.{found-at, found-none, filled-past, rows-count, row-word}
 use Rattle.books.proofs.MethodWays.{methodWords}
 use Rattle.books.proofs.Copying.{inserts-grow, methods-then, methods-none, keeping-marked, methods-step, methods-all}
+
+-- the loop over the first methods
+pub record CopiesFrom (source target i count : ℕ) (s : struct.Book) (t : List ℕ) (s′ : struct.Book) (t′ : List ℕ) : Type 0 where
+  pub meets : (c k f m p l u n b e : List ℕ) (κ : Limits) (ps : List ℕ) (w : Book) → (s .full ≡ 0 → count ≤ length (w .context .methods))
+      → Keeping κ ps (shelf s c k f m p t l u n b e) w
+      → Keeping κ ps (shelf s′ c k f m p t′ l u n b e) (addMethods (some target) (methodsFrom source i (count - i) (w .context .methods)) w)
 
 -- a method's words, also behind the methods
 method-word : {t : List ℕ} {n : ℕ} (xs : List Method) → Filled 3 t (entriesFrom methodEntry 0 xs) n → (i k : ℕ) → k < 3

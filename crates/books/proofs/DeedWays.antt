@@ -37,7 +37,8 @@ use Rattle.building.proofs.ContextLaws.{Grown, grown, over, Defines, there, new
 use Rattle.books.specs.declared.documents.Book as struct
 use Rattle.bodies.specs.Meets.{OnErrors}
 use Rattle.books.specs.Shelf.{Shelf, shelf, Stock, Fitted, Keeping}
-use Rattle.books.specs.Deeds.{resumedBook, withLocals, ErrorsDo, ConstantsPlace, LocalsSeek, Below, LocalsValue}
+use Rattle.books.specs.Deeds.{resumedBook, ErrorsDo, ConstantsPlace, LocalsSeek, Below, LocalsValue}
+use Rattle.books.proofs.Counts.{withLocals}
 use Rattle.books.proofs.Calm.{calm-local, calm-value}
 use Rattle.books.proofs.Shelving.{keeping-longer}
 use Rattle.books.proofs.Resuming.{codeSoFar, held-working, keeping-held}

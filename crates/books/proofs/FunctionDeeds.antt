@@ -33,7 +33,8 @@ use Rattle.building.proofs.Notes.{over-longer}
 use Rattle.books.specs.declared.documents.Book as struct
 use Rattle.books.specs.Shelf.{shelf, Keeping}
 use Rattle.books.specs.Deeds.{resumedBook, ErrorsDo, ConstantsPlace, LocalsSeek, LocalsValue, Below}
-use Rattle.books.specs.Adding.{entering, Bounded, ended, baseOf, Built, Makes, AddsFunction, DropsFunction, AddsPlain, DefinesFunction}
+use Rattle.books.specs.Adding.{Bounded, ended, baseOf, Built, Makes, AddsFunction, DropsFunction, AddsPlain, DefinesFunction}
+use Rattle.books.proofs.Counts.{entering}
 use Rattle.books.proofs.Calm.{Calm, Calms, calm-trans, calm-error, calm-constant, calm-local, calm-value}
 use Rattle.books.proofs.Shelving.{unfilled}
 use Rattle.books.proofs.Resuming.{keeping-resumed}

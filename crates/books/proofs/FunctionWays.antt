@@ -1,6 +1,6 @@
 -- One lemma for each way through the routines that compile a function's parameters and its base. With the mark set nothing that is found says anything,
 -- so they return at once. Assumes nothing.
-use Prim.Native.Nat.{ℕ, zero, suc, _+_, _≤_, _<_}
+use Prim.Native.Nat.{ℕ, suc, _+_, _≤_, _<_}
 use native.Mathlib.Omega.{arith}
 use mathlib.Core.Path.{_≡_, refl, sym, ap, subst, _∙_}
 use mathlib.Core.Bool.{Bool, true, false, cond, _||_}
@@ -11,28 +11,28 @@ use lib.Dec.{eqb}
 use borrow.Author.Tests.{eqb-true}
 use Rattle.words.specs.Ast.{Token, Statement, Statements, ∅ₛ, _∷ₛ_, Local, Return, For, Break, Rescue, Expr}
 use Rattle.words.specs.Record.{tokenAt, kindAt, valueAt}
-use Rattle.definition.specs.FunctionState.{defineLocal, newFunctionState, emitReturn, getLastPosition}
+use Rattle.definition.specs.FunctionState.{defineLocal, newFunctionState, getLastPosition}
 use Rattle.definition.specs.FunctionState as method
 use Rattle.definition.specs.Uses.{Limits}
 use Rattle.definition.specs.Compiler.{Work, doing, withFunction, pushError, skip}
 use Rattle.definition.specs.Compiler.{bareBy, compileBare, compileParameter, compileParameters, compileStatements, andThen}
 use Rattle.definition.specs.Compiler.{compileFunctionDefinitionBase}
 use Rattle.definition.specs.Program.{Entries}
-use Rattle.definition.proofs.Steady.{steady-parameter, steady-parameters, steady-function, steady-trans, steady-statements}
-use Rattle.tree.specs.At.{Head, Leaf, ParametersAt, StatementsAt, FunctionAt, sizeF, sizeS, sizeSs, kindS, isParameter}
-use Rattle.tree.proofs.View.{headS, sizeS-pos, kindS-in}
+use Rattle.definition.proofs.Steady.{steady-parameter, steady-parameters}
+use Rattle.tree.specs.At.{Leaf, ParametersAt, StatementsAt, sizeSs, kindS, isParameter}
+use Rattle.tree.proofs.View.{headS}
 use Rattle.building.specs.declared.function_state.FunctionState.{FunctionState}
 use Rattle.building.specs.declared.scopes.Defined.{Defined}
 use Rattle.building.specs.declared.scopes.Found.the-variants.{At, Nothing}
-use Rattle.building.specs.Emission.{coded, parametersC, lastPositionC, emitReturnC, unlessFull}
+use Rattle.building.specs.Emission.{coded, parametersC, lastPositionC, emitReturnC}
 use Rattle.building.specs.State.{withParameters}
 use Rattle.building.specs.Found.{foundOf, wrapped}
 use Rattle.building.specs.Scopes.{naming, Defines}
-use Rattle.building.specs.Held.{Machine, machine, Held, isOpen, LocalsHeld}
+use Rattle.building.specs.Held.{Machine, machine, Held, isOpen}
 use Rattle.building.proofs.StateLaws.{parameters-law}
 use Rattle.building.proofs.EmissionLaws.{held-coded, return-law, last-position-law}
 use Rattle.building.proofs.ScopeLaws.{define-law, define-found}
-use Rattle.building.proofs.Notes.{held-longer, back}
+use Rattle.building.proofs.Notes.{held-longer}
 use Rattle.bodies.specs.Meets.{Inside, OnErrors}
 use Rattle.bodies.specs.Members.{MeetsSs}
 use Rattle.books.specs.Making.{instanceBy, MeetsParameter, MeetsParameters, ParametersEnd, MeetsBase}

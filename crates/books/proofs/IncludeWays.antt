@@ -2,12 +2,9 @@
 use Prim.Native.Nat.{ℕ, _+_, _-_, _≤_, _<_}
 use native.Mathlib.Omega.{arith}
 use mathlib.Core.Path.{_≡_, refl, sym, ap, _∙_}
-use mathlib.Core.Bool.{false}
 use mathlib.Core.Option.{Option, none, some}
 use mathlib.Core.List.{List, [], _∷_}
 use lib.ListN.{length}
-use lib.Dec.{eqb}
-use borrow.Author.Tests.{eq-eqb, ne-eqb}
 use Rattle.words.specs.Ast.{Token, Alias}
 use Rattle.words.specs.Areas.{entryField}
 use Rattle.words.specs.Record.{valueAt}
@@ -21,19 +18,11 @@ use Rattle.building.specs.Found.{foundOf}
 use Rattle.books.specs.declared.documents.Book as struct
 use Rattle.books.specs.Shelf.{shelf, Keeping, Shelved}
 use Rattle.books.specs.Deeds.{LocalsSeek, Below, LocalsValue}
-use Rattle.books.specs.Including.{isPublic, findBookC, findPublicC, publicConstant, includedBy, includedC, LocalsInclude, TakesName, TakesNames}
+use Rattle.books.specs.Including.{findBookC, findPairC, publicConstant, includedBy, includedC, LocalsInclude, TakesName, TakesNames}
 use Rattle.books.proofs.Calm.{calm-local, calm-give, calm-alias}
 use Rattle.books.proofs.Shelving.{keeping-longer, unfilled}
 use Rattle.books.proofs.DeedWays.{defined-below}
 use Rattle.books.proofs.PublicNames.{included-law}
-
--- `is_public`
-module _ (index name : ℕ) (w : List ℕ) (i : ℕ) {there : ℕ} (h₀ : there ≡ entryField 3 i 0 w) where
-  pub public-other : (there ≡ index → ⊥) → false ≡ isPublic index name w i
-  public-other ne = rw (← h₀, ne-eqb there index ne)
-
-  pub public-name : there ≡ index → {other : ℕ} → other ≡ entryField 3 i 1 w → eqb other name ≡ isPublic index name w i
-  public-name q h₁ = rw (← h₀, ← h₁, eq-eqb there index q)
 
 -- `included_name`
 module _ (many count file name : ℕ) (books w : List ℕ) {there : Found} (searched : there ≡ foundOf (findBookC many file books)) where
@@ -44,24 +33,24 @@ module _ (many count file name : ℕ) (books w : List ℕ) {there : Found} (sear
       go none q = refl
       go (some j) q = absurd (let y : _≡_ {A = ℕ} 0 1 = cc in omega arith)
 
-  included-known : {j : ℕ} → there ≡ At j → includedC many count file name books w ≡ publicConstant (findPublicC 0 count j name w) w
+  included-known : {j : ℕ} → there ≡ At j → includedC many count file name books w ≡ publicConstant (findPairC 3 0 count j name w) w
   included-known {j} is = go (findBookC many file books) (sym searched ∙ is)
     where
-      go : (o : Option ℕ) → foundOf o ≡ At j → includedBy o count name w ≡ publicConstant (findPublicC 0 count j name w) w
+      go : (o : Option ℕ) → foundOf o ≡ At j → includedBy o count name w ≡ publicConstant (findPairC 3 0 count j name w) w
       go none q = absurd (let y : _≡_ {A = ℕ} 0 1 = cc in omega arith)
       go (some i) q = let same : i ≡ j = cc in rw same
 
-  pub included-none : {j : ℕ} → there ≡ At j → {found : Found} → found ≡ foundOf (findPublicC 0 count j name w) → found ≡ Nothing
+  pub included-none : {j : ℕ} → there ≡ At j → {found : Found} → found ≡ foundOf (findPairC 3 0 count j name w) → found ≡ Nothing
       → Nothing ≡ foundOf (includedC many count file name books w)
-  included-none {j} is hf lost = rw (included-known is) (go (findPublicC 0 count j name w) (sym hf ∙ lost))
+  included-none {j} is hf lost = rw (included-known is) (go (findPairC 3 0 count j name w) (sym hf ∙ lost))
     where
       go : (o : Option ℕ) → foundOf o ≡ Nothing → Nothing ≡ foundOf (publicConstant o w)
       go none q = refl
       go (some j) q = absurd (let y : _≡_ {A = ℕ} 0 1 = cc in omega arith)
 
-  pub included-some : {j : ℕ} → there ≡ At j → {found : Found} → found ≡ foundOf (findPublicC 0 count j name w) → {i : ℕ} → found ≡ At i
+  pub included-some : {j : ℕ} → there ≡ At j → {found : Found} → found ≡ foundOf (findPairC 3 0 count j name w) → {i : ℕ} → found ≡ At i
       → {constant : ℕ} → constant ≡ entryField 3 i 2 w → At constant ≡ foundOf (includedC many count file name books w)
-  included-some {j} is hf {i} at {constant} hc = rw (included-known is) (go (findPublicC 0 count j name w) (sym hf ∙ at))
+  included-some {j} is hf {i} at {constant} hc = rw (included-known is) (go (findPairC 3 0 count j name w) (sym hf ∙ at))
     where
       go : (o : Option ℕ) → foundOf o ≡ At i → At constant ≡ foundOf (publicConstant o w)
       go none q = absurd (let y : _≡_ {A = ℕ} 0 1 = cc in omega arith)

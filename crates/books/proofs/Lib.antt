@@ -1,5 +1,6 @@
 pub mod Calm
 pub mod Shelving
+pub mod Counts
 pub mod FunctionWays
 pub mod Delivering
 pub mod PuttingAway

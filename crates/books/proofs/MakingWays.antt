@@ -44,7 +44,8 @@ use Rattle.books.specs.declared.documents.Book as struct
 use Rattle.books.specs.Shelf.{shelf, Stock, Fitted, Keeping}
 use Rattle.books.specs.Deeds.{resumedBook}
 use Rattle.books.specs.Making.{MeetsBase}
-use Rattle.books.specs.Adding.{withFunctionCount, Bounded, ended, baseOf, Built, Makes, AddsFunction}
+use Rattle.books.specs.Adding.{Bounded, ended, baseOf, Built, Makes, AddsFunction}
+use Rattle.books.proofs.Counts.{withFunctionCount}
 use Rattle.books.proofs.Calm.{Calm}
 use Rattle.books.proofs.Resuming.{codeSoFar, held-working, named-same}
 

@@ -22,7 +22,9 @@ use Rattle.building.specs.Held.{Filled}
 use Rattle.building.proofs.ContextLaws.{took-law}
 use Rattle.books.specs.declared.documents.Book as struct
 use Rattle.books.specs.Shelf.{shelf, Stock, Keeping}
-use Rattle.books.specs.Modelling.{isPair, findPairC, withMethodCount, InsertsMethod, noMethod}
+use Rattle.books.specs.Including.{isPair, findPairC}
+use Rattle.books.specs.Modelling.{InsertsMethod, noMethod}
+use Rattle.books.proofs.Counts.{withMethodCount}
 use Rattle.books.proofs.ModelCalm.{calm-methods}
 use Rattle.books.proofs.Shelving.{full-deeds}
 use Rattle.books.proofs.Pairs.{found-at, found-none, insertBy, Inserting, there, new, inserting, patch-there, rows-count, rows-more, row-word, row-set}

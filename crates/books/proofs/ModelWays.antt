@@ -21,13 +21,18 @@ use Rattle.building.proofs.PoolLaws.{entries-more}
 use Rattle.books.specs.declared.documents.Book as struct
 use Rattle.books.specs.Shelf.{Shelf, shelf, Keeping, Deeds, Places}
 use Rattle.books.specs.Deeds.{ConstantsPlace, LocalsSeek, LocalsValue, Valuable}
-use Rattle.books.specs.Modelling.{withModelCount, Publishes, ModelsProperties, DeedsAlone, PlacesAlone, PlacesModel, DefinesModel}
+use Rattle.books.specs.Modelling.{Publishes, ModelsProperties, PlacesAlone, PlacesModel, DefinesModel}
+use Rattle.books.proofs.Counts.{withModelCount}
 use Rattle.books.proofs.Calm.{calm-local}
 use Rattle.books.proofs.ModelCalm.{calm-place-model}
 use Rattle.books.proofs.Shelving.{keeping-longer, unfilled}
 use Rattle.books.proofs.DeedWays.{defined-below}
 use Rattle.books.proofs.Stocking.{keeping-grown, stock-models, fitted-models}
 use Rattle.books.proofs.PropertyWays.{models-count}
+
+-- between definitions, where no model is under way: `Deeds` of what is compiled from no property
+pub record DeedsAlone (m m′ : Shelf) (deed : Deed) : Type 0 where
+  pub meets : (κ : Limits) (w : Book) → Keeping κ [] m w → Keeping κ [] m′ (deed w)
 
 -- what is compiled from any properties is so from none
 pub deeds-alone : {m m′ : Shelf} {deed : Deed} → Deeds m m′ deed → DeedsAlone m m′ deed

@@ -19,7 +19,7 @@ use Rattle.building.specs.declared.scopes.Found.{Found}
 use Rattle.building.specs.declared.scopes.Found.the-variants.{At, Nothing}
 use Rattle.building.specs.Found.{foundOf, firstFrom}
 use Rattle.building.specs.Held.{Filled}
-use Rattle.books.specs.Modelling.{isPair}
+use Rattle.books.specs.Including.{isPair}
 use Rattle.building.proofs.Filling.{room-fits, filled-at, set-append-add, filled-set, filled-field}
 
 -- an answer of the code, and the definition's

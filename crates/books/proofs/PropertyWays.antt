@@ -26,11 +26,19 @@ use Rattle.building.proofs.ContextLaws.{took-law}
 use Rattle.books.specs.declared.documents.Book as struct
 use Rattle.books.specs.Shelf.{Shelf, shelf, Stock, Keeping}
 use Rattle.books.specs.Deeds.{ErrorsDo}
-use Rattle.books.specs.Modelling.{isPair, findPairC, withPropertyCount, AddsProperty, AddsProperties, ModelsProperties}
+use Rattle.books.specs.Including.{isPair, findPairC}
+use Rattle.books.specs.Modelling.{AddsProperty, ModelsProperties}
+use Rattle.books.proofs.Counts.{withPropertyCount}
 use Rattle.books.proofs.ModelCalm.{calm-property}
 use Rattle.books.proofs.Shelving.{keeping-longer, unfilled}
 use Rattle.books.proofs.Pairs.{found-at, found-none, rowsFrom, rows-count, rows-more, row-word}
 use Rattle.books.proofs.Stocking.{keeping-grown, stock-properties, fitted-properties}
+
+-- the loop over a model's properties
+pub record AddsProperties (tree : List ℕ) (at end first : ℕ) (s : struct.Book) (p e : List ℕ) (s′ : struct.Book) (p′ e′ : List ℕ) : Type 0 where
+  pub meets : (c k f m t l u n b : List ℕ) (κ : Limits) (ps : List ℕ) (w : Book) (ts : List Token) → RunAt NameAt single ts tree at
+      → at + runSize single ts ≡ end → (s .full ≡ 0 → first ≡ propertiesOf (w .context .models)) → Keeping κ ps (shelf s c k f m p t l u n b e) w
+      → Keeping κ (compileProperties ts ps w .texts) (shelf s′ c k f m p′ t l u n b e′) (compileProperties ts ps w .book)
 
 abbrev propertyWords : ℕ → ℕ → List ℕ
 propertyWords i n = i ∷ n ∷ []

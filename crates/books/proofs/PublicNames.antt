@@ -18,7 +18,7 @@ use Rattle.definition.specs.Program.{Entries, entriesFrom, publicEntries, assem
 use Rattle.building.specs.Found.{firstFrom}
 use Rattle.building.proofs.Filling.{filled-field}
 use Rattle.books.specs.Shelf.{Shelf, Stock, Shelved}
-use Rattle.books.specs.Including.{isBook, isPublic, findPublicC, publicConstant, includedBy, includedC}
+use Rattle.books.specs.Including.{isBook, isPair, findPairC, publicConstant, includedBy, includedC}
 
 abbrev nobody : Assembly
 nobody = record { filename = 0; index = 0; publics = [] }
@@ -30,7 +30,7 @@ searched index name (e ∷ es) = cond (cond (eqb (getD e 0 0) index) (eqb (getD 
 
 public-search : (index name : ℕ) (w : List ℕ) (es : Entries) (i : ℕ)
     → ((j k : ℕ) → j < length es → k < 3 → entryField 3 (i + j) k w ≡ getD (getD es j []) k 0)
-    → publicConstant (firstFrom (isPublic index name w) (length es) i) w ≡ searched index name es
+    → publicConstant (firstFrom (isPair 3 index name w) (length es) i) w ≡ searched index name es
 unfolding firstFrom
 public-search index name w [] i each = refl
 public-search index name w (e ∷ es) i each =
@@ -38,13 +38,13 @@ public-search index name w (e ∷ es) i each =
     let w₀ : entryField 3 i 0 w ≡ getD e 0 0 = rw here at (each 0 0 (omega arith) (omega arith)) in
     let w₁ : entryField 3 i 1 w ≡ getD e 1 0 = rw here at (each 0 1 (omega arith) (omega arith)) in
     let w₂ : entryField 3 i 2 w ≡ getD e 2 0 = rw here at (each 0 2 (omega arith) (omega arith)) in
-    let rest : publicConstant (firstFrom (isPublic index name w) (length es) (i + 1)) w ≡ searched index name es =
+    let rest : publicConstant (firstFrom (isPair 3 index name w) (length es) (i + 1)) w ≡ searched index name es =
     public-search index name w es (i + 1) (λ j k h q. let next : i + suc j ≡ i + 1 + j = omega arith in rw next at (each (suc j) k (omega arith) q)) in
     rw (w₀, w₁) (go (cond (eqb (getD e 0 0) index) (eqb (getD e 1 0) name) false) w₂ rest)
   where
     go : (b : Bool) → entryField 3 i 2 w ≡ getD e 2 0
-        → publicConstant (firstFrom (isPublic index name w) (length es) (i + 1)) w ≡ searched index name es
-        → publicConstant (cond b (some i) (firstFrom (isPublic index name w) (length es) (i + 1))) w ≡ cond b (some (getD e 2 0)) (searched index name es)
+        → publicConstant (firstFrom (isPair 3 index name w) (length es) (i + 1)) w ≡ searched index name es
+        → publicConstant (cond b (some i) (firstFrom (isPair 3 index name w) (length es) (i + 1))) w ≡ cond b (some (getD e 2 0)) (searched index name es)
     go true q r = ap some q
     go false q r = r
 
@@ -148,7 +148,7 @@ included-law {m = m} {x = x} {books = books} file name S B =
     es = entriesFrom assemblyPublics 0 as′ ++ publicEntries (x .assembly .index) (x .assembly .publics)
 
     public : (j : ℕ) → j < length as′
-        → publicConstant (findPublicC 0 (m .book .publics) j name (m .publics)) (m .publics) ≡ findName name (getD as′ j nobody .publics)
+        → publicConstant (findPairC 3 0 (m .book .publics) j name (m .publics)) (m .publics) ≡ findName name (getD as′ j nobody .publics)
     public j h =
         let all : m .book .publics - 0 ≡ length es = sub-zero (m .book .publics) ∙ S .publics .count in
         let at : searched (0 + j) name (entriesFrom assemblyPublics 0 as′) ≡ findName name (getD as′ j nobody .publics) =

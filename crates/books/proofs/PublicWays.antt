@@ -23,7 +23,9 @@ use Rattle.building.specs.Held.{Filled}
 use Rattle.building.proofs.ContextLaws.{took-law}
 use Rattle.books.specs.declared.documents.Book as struct
 use Rattle.books.specs.Shelf.{Shelf, shelf, Stock, Keeping, Deeds, Places}
-use Rattle.books.specs.Modelling.{isPair, findPairC, withPublicCount, Publishes}
+use Rattle.books.specs.Including.{isPair, findPairC}
+use Rattle.books.specs.Modelling.{Publishes}
+use Rattle.books.proofs.Counts.{withPublicCount}
 use Rattle.books.proofs.ModelCalm.{calm-publish}
 use Rattle.books.proofs.Shelving.{keeping-longer}
 use Rattle.books.proofs.Pairs.{found-at, found-none, insertBy, Inserting, there, new, inserting, patch-there, rowsFrom, rows-count, rows-more}

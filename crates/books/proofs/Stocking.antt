@@ -16,7 +16,7 @@ use Rattle.building.proofs.Filling.{over-fits, over-here}
 use Rattle.building.proofs.ContextLaws.{Grown, grown, over}
 use Rattle.books.specs.declared.documents.Book as struct
 use Rattle.books.specs.Shelf.{Shelf, shelf, Stock, Fitted, Keeping}
-use Rattle.books.specs.Modelling.{withModelCount, withPropertyCount, withMethodCount, withPublicCount}
+use Rattle.books.proofs.Counts.{withModelCount, withPropertyCount, withMethodCount, withPublicCount}
 
 module _ {κ : Limits} {ps : List ℕ} {m : Shelf} {b : Book} (H : Keeping κ ps m b) (z : m .book .full ≡ 0) {ps′ : List ℕ} {m′ : Shelf} (area count : ℕ)
     (b′ : Book) (same : b′ .uses ≡ b .uses) where

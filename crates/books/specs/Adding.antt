@@ -14,50 +14,11 @@ use Rattle.definition.specs.Book.{Book, working, pushBookError, compileBase, ad
 use Rattle.definition.specs.Program.{entriesFrom, functionCode}
 use Rattle.building.specs.declared.function_state.FunctionState.{FunctionState}
 use Rattle.building.specs.declared.scopes.Found.{Found}
-use Rattle.building.specs.declared.taking.Taken.{Taken}
 use Rattle.building.specs.Found.{foundOf}
 use Rattle.building.specs.Held.{Machine, machine, Held}
 use Rattle.books.specs.declared.documents.Book as struct
 use Rattle.books.specs.Shelf.{Shelf, shelf, Keeping, Places}
 use Rattle.books.specs.Deeds.{Below}
-
--- the counts after an entry more of area 3
-abbrev pub withFunctionCount : Taken → struct.Book → struct.Book
-withFunctionCount t s = record {
-  full = t .full;
-  code = s .code;
-  constants = s .constants;
-  functions = t .count;
-  models = s .models;
-  properties = s .properties;
-  methods = s .methods;
-  locals = s .locals;
-  publics = s .publics;
-  errors = s .errors;
-  file = s .file;
-  «first_local» = s .«first_local»;
-  «first_public» = s .«first_public»;
-  «entry_point» = s .«entry_point»;
-}
-
--- the entry point anew
-abbrev pub entering : ℕ → struct.Book → struct.Book
-entering i s = record {
-  full = s .full;
-  code = s .code;
-  constants = s .constants;
-  functions = s .functions;
-  models = s .models;
-  properties = s .properties;
-  methods = s .methods;
-  locals = s .locals;
-  publics = s .publics;
-  errors = s .errors;
-  file = s .file;
-  «first_local» = s .«first_local»;
-  «first_public» = s .«first_public»;
-  «entry_point» = i;
-}
 
 -- within the limits on records and levels: its locals' number stands in 64 bits
 pub record Bounded (f : FunctionDefinition) : Type 0 where
@@ -74,6 +35,7 @@ ended w = record {
   uses = w .uses;
 }
 
+-- the work of `compile_function_definition_base`
 abbrev pub baseOf : FunctionDefinition → Book → Work
 baseOf f x = compileFunctionDefinitionBase (f .parameters) (f .body) (working x)
 
@@ -93,7 +55,7 @@ pub record AddsFunction (name : ℕ) (s : struct.Book) (r : FunctionState) (g : 
       → Built κ ps (shelf s c₀ k₀ g m p t l u n₀ b₀ e₀) x f (machine r c k n b e)
       → Keeping κ ps (shelf s′ c k g′ m p t l u n b e) (addFunction (compileBase f x .state) name (compileBase f x .book))
 
--- `drop`: the error is at the function's name
+-- `drop_instance`: error 8, at the function's name
 pub record DropsFunction (tree : List ℕ) (at : ℕ) (s : struct.Book) (r : FunctionState) (c e : List ℕ) (s′ : struct.Book) (c′ e′ : List ℕ) : Type 0 where
   pub drops : (f : FunctionDefinition) (c₀ k₀ n₀ b₀ e₀ k n b g m p t l u : List ℕ) (κ : Limits) (ps : List ℕ) (x : Book)
       → Built κ ps (shelf s c₀ k₀ g m p t l u n₀ b₀ e₀) x f (machine r c k n b e)

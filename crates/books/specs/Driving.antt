@@ -33,7 +33,7 @@ pub record MeetsDefinition (tree : List ℕ) (at end : ℕ) (books : List ℕ) (
   pub meets : (d : Definition) → DefinitionAt d tree at → at + sizeD d ≡ end → All LimitedFunction (functionsIn d) → (κ : Limits) (b : Book)
       → Shelved books (b .context .assemblies) → Keeping κ [] m b → Keeping κ [] m′ (compileDefinition d b)
 
--- those from a place up to the end
+-- `definitions`: those from a place up to the end
 pub record MeetsDefinitions (tree : List ℕ) (at end : ℕ) (books : List ℕ) (m m′ : Shelf) : Type 0 where
   pub meets : (ds : List Definition) → RunAt DefinitionAt sizeD ds tree at → at + runSize sizeD ds ≡ end
       → All (λ (d : Definition). All LimitedFunction (functionsIn d)) ds → (κ : Limits) (b : Book)
@@ -58,6 +58,7 @@ openedBook s index = record {
   «entry_point» = s .«entry_point»;
 }
 
+-- between two books it does not matter whose file is open
 abbrev pub nobody : Document
 nobody = record { filename = 0; definitions = [] }
 
@@ -115,6 +116,7 @@ pub data Came (κ : Limits) (s : struct.Book) (c k f m p t l u n b e books rest 
   came-ring : {left : List ℕ} → row ≡ 8 → place ≡ length left → Filled 4 e (entriesFrom errorEntry 0 (ringErrors left)) (s .errors)
       → Came κ s c k f m p t l u n b e books rest row place uses (Ring left)
 
+-- the mark is that of the first note beyond its area, and where there is none the work's ending is what the counts and areas say
 pub record Outcome (κ : Limits) (s : struct.Book) (c k f m p t l u n b e books rest : List ℕ) (row place : ℕ) (w : Worked) : Type 0 where
   pub full : Marks (firstOver κ (w .uses)) (s .full)
   pub came : s .full ≡ 0 → Came κ s c k f m p t l u n b e books rest row place (w .uses) (w .ending)
@@ -197,7 +199,7 @@ pub record Emptied (c k f m p t l u n b o : List ℕ) : Type 0 where
   pub breaks : Zero b
   pub books : Zero o
 
--- the counts of the beginning
+-- `begun`: the counts of the beginning
 abbrev pub begunBook : Taken → ℕ → struct.Book
 begunBook t constants = record {
   full = t .full;

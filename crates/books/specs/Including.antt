@@ -1,4 +1,4 @@
--- The names that an include takes from the books before: searches in areas 12 and 8, and what the routines of an include do
+-- What the routines of `documents.rt` promise for an include: the names that it takes from the books before, by searches in areas 12 and 8
 use Prim.Native.Nat.{ℕ, _+_, _-_}
 use mathlib.Core.Path.{_≡_}
 use mathlib.Core.Bool.{Bool, false, cond}
@@ -14,30 +14,31 @@ use Rattle.building.specs.Found.{firstFrom}
 use Rattle.books.specs.declared.documents.Book as struct
 use Rattle.books.specs.Shelf.{Shelf, shelf, Keeping, Shelved}
 
--- whether book i of area 12 is of a file, and the first that is
+-- whether book i of area 12 is of a file; `find_book`: the first that is
 abbrev pub isBook : ℕ → List ℕ → ℕ → Bool
 isBook file w i = eqb (entryField 1 i 0 w) file
 
 abbrev pub findBookC : ℕ → ℕ → List ℕ → Option ℕ
 findBookC many file w = firstFrom (isBook file w) many 0
 
--- whether entry i of area 8 is a book's public name, and the first that is
-abbrev pub isPublic : ℕ → ℕ → List ℕ → ℕ → Bool
-isPublic index name w i = cond (eqb (entryField 3 i 0 w) index) (eqb (entryField 3 i 1 w) name) false
+-- `is_pair`: whether the first two words of entry i are a and b
+abbrev pub isPair : ℕ → ℕ → ℕ → List ℕ → ℕ → Bool
+isPair width a b w i = cond (eqb (entryField width i 0 w) a) (eqb (entryField width i 1 w) b) false
 
-abbrev pub findPublicC : ℕ → ℕ → ℕ → ℕ → List ℕ → Option ℕ
-findPublicC start count index name w = firstFrom (isPublic index name w) (count - start) start
+-- `find_pair`: the first such entry from entry `from` on, up to the count
+abbrev pub findPairC : ℕ → ℕ → ℕ → ℕ → ℕ → List ℕ → Option ℕ
+findPairC width from count a b w = firstFrom (isPair width a b w) (count - from) from
 
--- its constant
+-- the constant of a public name, by its entry of area 8
 abbrev pub publicConstant : Option ℕ → List ℕ → Option ℕ
 publicConstant none w = none
 publicConstant (some i) w = some (entryField 3 i 2 w)
 
 abbrev pub includedBy : Option ℕ → ℕ → ℕ → List ℕ → Option ℕ
 includedBy none count name w = none
-includedBy (some j) count name w = publicConstant (findPublicC 0 count j name w) w
+includedBy (some j) count name w = publicConstant (findPairC 3 0 count j name w) w
 
--- `find_constant_index_by_include`
+-- `included_name`, the Rust's `find_constant_index_by_include`
 abbrev pub includedC : ℕ → ℕ → ℕ → ℕ → List ℕ → List ℕ → Option ℕ
 includedC many count file name books w = includedBy (findBookC many file books) count name w
 
@@ -49,11 +50,11 @@ pub record DeedsAmong (books : List ℕ) (m m′ : Shelf) (deed : Deed) : Type 0
 pub record LocalsInclude (books u : List ℕ) (s : struct.Book) (l : List ℕ) (s′ : struct.Book) (l′ : List ℕ) (deed : Deed) : Type 0 where
   pub deeds : (c k f m p t n b e : List ℕ) → DeedsAmong books (shelf s c k f m p t l u n b e) (shelf s′ c k f m p t l′ u n b e) deed
 
--- a pair of an include: the public name, and its local at the next place
+-- `alias`, a pair of an include: the public name, and its local at the next place
 pub record TakesName (tree : List ℕ) (at next file : ℕ) (books u : List ℕ) (s : struct.Book) (l : List ℕ) (s′ : struct.Book) (l′ : List ℕ) : Type 0 where
   pub takes : (a : Alias) → Leaf tree at 40 (a .publicName) → Leaf tree next 40 (a .alias) → LocalsInclude books u s l s′ l′ (compileAlias file a)
 
--- the pairs from a place up to the end
+-- `include_definition`: its pairs, from a place up to the end
 pub record TakesNames (tree : List ℕ) (at end file : ℕ) (books u : List ℕ) (s : struct.Book) (l : List ℕ) (s′ : struct.Book) (l′ : List ℕ) : Type 0 where
   pub takes : (as′ : List Alias) → RunAt AliasAt double as′ tree at → at + runSize double as′ ≡ end
       → LocalsInclude books u s l s′ l′ (compileIncludeDefinition file as′)

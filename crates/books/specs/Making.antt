@@ -14,7 +14,7 @@ use Rattle.definition.specs.Program.{Entries}
 use Rattle.building.specs.declared.function_state.FunctionState.{FunctionState}
 use Rattle.building.specs.Held.{Machine, machine, Held, LocalsHeld, isOpen}
 
--- whether a function is an instance's, after a parameter of a kind
+-- `instance_by`: whether a function is an instance's, after a parameter of a kind
 abbrev pub instanceBy : ℕ → Bool → Bool
 instanceBy kind before = cond (eqb kind 41) true before
 
@@ -28,7 +28,7 @@ pub record MeetsParameters (tree : List ℕ) (at end : ℕ) (s : FunctionState) 
   pub meets : (ts : List Token) → ParametersAt ts tree at → at + length ts ≡ end → (c k b : List ℕ) (κ : Limits) (E : Entries) (w : Work)
       → isOpen (w .function .scopes) ≡ true → Held κ E (machine s c k n b e) w → Held κ E (machine s′ c k n′ b e′) (compileParameters ts w)
 
--- where the parameters end and the body starts
+-- `parameters_end`: where the parameters end and the body starts
 pub record ParametersEnd (tree : List ℕ) (at end r : ℕ) : Type 0 where
   pub from : at ≤ r
   pub ends : (ts : List Token) (ss : Statements) → ParametersAt ts tree at → StatementsAt ss tree (at + length ts) → at + length ts + sizeSs ss ≡ end

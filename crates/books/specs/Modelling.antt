@@ -1,7 +1,7 @@
 -- What the routines of `models.rt` promise: whatever the areas that they do not have hold, counts and areas then stand for the deed's book
-use Prim.Native.Nat.{ℕ, zero, suc, _+_, _-_, _≤_}
+use Prim.Native.Nat.{ℕ, zero, suc, _+_}
 use mathlib.Core.Path.{_≡_}
-use mathlib.Core.Bool.{Bool, false, cond}
+use mathlib.Core.Bool.{cond}
 use mathlib.Core.Option.{Option, none, some}
 use mathlib.Core.List.{List, [], _∷_}
 use lib.ListN.{length, getD}
@@ -14,98 +14,12 @@ use Rattle.definition.specs.Uses.{Limits}
 use Rattle.definition.specs.Book as book
 use Rattle.definition.specs.Book.{Placed, addMethods, publish, propertiesOf, addProperty, compileProperties}
 use Rattle.definition.specs.FunctionState.{Entry}
-use Rattle.definition.specs.Book.{Method, Deed, findModelIndexByLocalName, methodsIn, compileApplyDefinition}
+use Rattle.definition.specs.Book.{Method, findModelIndexByLocalName, methodsIn, compileApplyDefinition}
 use Rattle.definition.specs.Book.{addBookConstant, addModel, defineContextLocal, setLocalValue, compileModelDefinition}
 use Rattle.tree.specs.At.{RunAt, runSize, NameAt, single, DefinitionAt}
-use Rattle.building.specs.declared.taking.Taken.{Taken}
 use Rattle.building.specs.declared.scopes.Found.{Found}
-use Rattle.building.specs.Found.{firstFrom}
 use Rattle.books.specs.declared.documents.Book.{Book}
 use Rattle.books.specs.Shelf.{Shelf, shelf, Keeping, Deeds, Seeks}
-
--- the counts after an entry more of area 4
-abbrev pub withModelCount : Taken → Book → Book
-withModelCount t s = record {
-  full = t .full;
-  code = s .code;
-  constants = s .constants;
-  functions = s .functions;
-  models = t .count;
-  properties = s .properties;
-  methods = s .methods;
-  locals = s .locals;
-  publics = s .publics;
-  errors = s .errors;
-  file = s .file;
-  «first_local» = s .«first_local»;
-  «first_public» = s .«first_public»;
-  «entry_point» = s .«entry_point»;
-}
-
--- the counts after an entry more of area 5
-abbrev pub withPropertyCount : Taken → Book → Book
-withPropertyCount t s = record {
-  full = t .full;
-  code = s .code;
-  constants = s .constants;
-  functions = s .functions;
-  models = s .models;
-  properties = t .count;
-  methods = s .methods;
-  locals = s .locals;
-  publics = s .publics;
-  errors = s .errors;
-  file = s .file;
-  «first_local» = s .«first_local»;
-  «first_public» = s .«first_public»;
-  «entry_point» = s .«entry_point»;
-}
-
--- the counts after an entry more of area 6
-abbrev pub withMethodCount : Taken → Book → Book
-withMethodCount t s = record {
-  full = t .full;
-  code = s .code;
-  constants = s .constants;
-  functions = s .functions;
-  models = s .models;
-  properties = s .properties;
-  methods = t .count;
-  locals = s .locals;
-  publics = s .publics;
-  errors = s .errors;
-  file = s .file;
-  «first_local» = s .«first_local»;
-  «first_public» = s .«first_public»;
-  «entry_point» = s .«entry_point»;
-}
-
--- the counts after an entry more of area 8
-abbrev pub withPublicCount : Taken → Book → Book
-withPublicCount t s = record {
-  full = t .full;
-  code = s .code;
-  constants = s .constants;
-  functions = s .functions;
-  models = s .models;
-  properties = s .properties;
-  methods = s .methods;
-  locals = s .locals;
-  publics = t .count;
-  errors = s .errors;
-  file = s .file;
-  «first_local» = s .«first_local»;
-  «first_public» = s .«first_public»;
-  «entry_point» = s .«entry_point»;
-}
-
--- whether the first two words of entry i are a and b
-abbrev pub isPair : ℕ → ℕ → ℕ → List ℕ → ℕ → Bool
-isPair width a b w i = cond (eqb (entryField width i 0 w) a) (eqb (entryField width i 1 w) b) false
-
--- the first such entry from entry `from` on, up to the count
-abbrev pub findPairC : ℕ → ℕ → ℕ → ℕ → ℕ → List ℕ → Option ℕ
-findPairC width from count a b w = firstFrom (isPair width a b w) (count - from) from
 
 -- `insert_method`: area 6
 pub record InsertsMethod (model name function : ℕ) (s : Book) (t : List ℕ) (s′ : Book) (t′ : List ℕ) : Type 0 where
@@ -123,19 +37,13 @@ pub record AddsProperty (tree : List ℕ) (at first : ℕ) (s : Book) (p e : Lis
       → Keeping κ ps (shelf s c k f m p t l u n b e) w
       → Keeping κ (addProperty (tokenAt tree at) ps w .texts) (shelf s′ c k f m p′ t l u n b e′) (addProperty (tokenAt tree at) ps w .book)
 
--- the loop over a model's properties
-pub record AddsProperties (tree : List ℕ) (at end first : ℕ) (s : Book) (p e : List ℕ) (s′ : Book) (p′ e′ : List ℕ) : Type 0 where
-  pub meets : (c k f m t l u n b : List ℕ) (κ : Limits) (ps : List ℕ) (w : book.Book) (ts : List Token) → RunAt NameAt single ts tree at
-      → at + runSize single ts ≡ end → (s .full ≡ 0 → first ≡ propertiesOf (w .context .models)) → Keeping κ ps (shelf s c k f m p t l u n b e) w
-      → Keeping κ (compileProperties ts ps w .texts) (shelf s′ c k f m p′ t l u n b e′) (compileProperties ts ps w .book)
-
 -- `model_properties`: from none
 pub record ModelsProperties (tree : List ℕ) (at end : ℕ) (s : Book) (p e : List ℕ) (s′ : Book) (p′ e′ : List ℕ) : Type 0 where
   pub meets : (c k f m t l u n b : List ℕ) (κ : Limits) (w : book.Book) (ts : List Token) → RunAt NameAt single ts tree at
       → at + runSize single ts ≡ end → Keeping κ [] (shelf s c k f m p t l u n b e) w
       → Keeping κ (compileProperties ts [] w .texts) (shelf s′ c k f m p′ t l u n b e′) (compileProperties ts [] w .book)
 
--- the model that a context local is, by areas 7 and 2: none without a value or with another constant
+-- `model_of`: the model that a context local is, by areas 7 and 2: none without a value or with another constant
 abbrev pub modelAtC : ℕ → List ℕ → List ℕ → Option ℕ
 modelAtC i l k =
     cond (eqb (entryField 4 i 2 l) 1)
@@ -146,6 +54,7 @@ pub record FindsModel (tree : List ℕ) (at : ℕ) (s : Book) (l k e : List ℕ)
   pub seeks : (c f m p t u n b : List ℕ) → Seeks (shelf s c k f m p t l u n b e) (shelf s′ c k f m p t l u n b e′) found
       (findModelIndexByLocalName (tokenAt tree at))
 
+-- what stands for a method beyond the last
 abbrev pub noMethod : Method
 noMethod = record { model = 0; name = 0; function = 0 }
 
@@ -162,12 +71,6 @@ pub record CopiesMethod (source target i : ℕ) (s : Book) (t : List ℕ) (s′ 
   pub deeds : (c k f m p l u n b e : List ℕ) → Deeds (shelf s c k f m p t l u n b e) (shelf s′ c k f m p t′ l u n b e)
       (λ w. addMethods (some target) (methodsFrom source i 1 (w .context .methods)) w)
 
--- the loop over the first methods
-pub record CopiesFrom (source target i count : ℕ) (s : Book) (t : List ℕ) (s′ : Book) (t′ : List ℕ) : Type 0 where
-  pub meets : (c k f m p l u n b e : List ℕ) (κ : Limits) (ps : List ℕ) (w : book.Book) → (s .full ≡ 0 → count ≤ length (w .context .methods))
-      → Keeping κ ps (shelf s c k f m p t l u n b e) w
-      → Keeping κ ps (shelf s′ c k f m p t′ l u n b e) (addMethods (some target) (methodsFrom source i (count - i) (w .context .methods)) w)
-
 -- `copy_methods`: all methods of the source
 pub record CopiesMethods (source target : ℕ) (s : Book) (t : List ℕ) (s′ : Book) (t′ : List ℕ) : Type 0 where
   pub deeds : (c k f m p l u n b e : List ℕ) → Deeds (shelf s c k f m p t l u n b e) (shelf s′ c k f m p t′ l u n b e)
@@ -178,10 +81,7 @@ pub record Applies (tree : List ℕ) (at end : ℕ) (s : Book) (l k t e : List �
   pub deeds : (c f m p u n b : List ℕ) (source target : Token) → DefinitionAt (ApplyDefinition source target) tree at → at + 3 ≡ end
       → Deeds (shelf s c k f m p t l u n b e) (shelf s′ c k f m p t′ l u n b e′) (compileApplyDefinition source target)
 
--- between definitions, where no model is under way: `Deeds` and `Places` of what is compiled from no property
-pub record DeedsAlone (m m′ : Shelf) (deed : Deed) : Type 0 where
-  pub meets : (κ : Limits) (w : book.Book) → Keeping κ [] m w → Keeping κ [] m′ (deed w)
-
+-- between definitions, where no model is under way: `Places` of what is compiled from no property
 pub record PlacesAlone (m m′ : Shelf) (place : ℕ) (deed : book.Book → Placed) : Type 0 where
   pub meets : (κ : Limits) (w : book.Book) → Keeping κ [] m w → Keeping κ [] m′ (deed w .book)
   pub placed : (κ : Limits) (w : book.Book) → Keeping κ [] m w → m′ .book .full ≡ 0 → place ≡ deed w .place

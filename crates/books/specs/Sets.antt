@@ -8,20 +8,21 @@ use lib.Dec.{eqb}
 use lib.Bits.{bitOr}
 use Rattle.definition.specs.Book.{hasText}
 
--- numbers in sets are below this
+-- numbers in sets are below this: file numbers are texts, 1 to 1,048,575 (01, 'The tree')
 abbrev pub setSize : ℕ
 setSize = 1048576
 
 abbrev pub setWords : ℕ
 setWords = 16384
 
+-- `has`
 unfoldable pub bitOf : List ℕ → ℕ → Bool
 bitOf bits n = eqb (getD bits (n / 64) 0 / 2 ^ (n % 64) % 2) 1
 
 unfoldable pub addBit : List ℕ → ℕ → List ℕ
 addBit bits n = cond (bitOf bits n) bits (set bits (n / 64) (bitOr (getD bits (n / 64) 0) (2 ^ (n % 64))))
 
--- what `add` does, and answers: whether the number is new
+-- `add`: what it does, and answers: whether the number is new
 pub record Added (bits : List ℕ) (n : ℕ) (after : List ℕ) (fresh : Bool) : Type 0 where
   pub words : after ≡ addBit bits n
   pub is-new : fresh ≡ not (bitOf bits n)
@@ -31,13 +32,13 @@ pub record SetIs (bits l : List ℕ) : Type 0 where
   pub sized : length bits ≡ setWords
   pub has : (n : ℕ) → n < setSize → bitOf bits n ≡ hasText n l
 
--- a number further on, with none of the set between
+-- `after`: a number further on, with none of the set between
 pub record Passes (bits : List ℕ) (n r : ℕ) : Type 0 where
   pub on : n < r
   pub last : r ≤ setSize
   pub between : (m : ℕ) → n < m → m < r → bitOf bits m ≡ false
 
--- the first number from a place on that is in the set, else setSize
+-- `next_in`: the first number from a place on that is in the set, else setSize
 pub record NextIn (bits : List ℕ) (from r : ℕ) : Type 0 where
   pub on : from ≤ r
   pub last : r ≤ setSize

@@ -1,5 +1,5 @@
 -- The relation between memory and the definition's `Book`: what the counts and the areas hold of a book under compilation, between its definitions
-use Prim.Native.Nat.{ℕ, _+_, _<_}
+use Prim.Native.Nat.{ℕ, _<_}
 use mathlib.Core.Path.{_≡_}
 use mathlib.Core.List.{List, [], _++_}
 use lib.ListN.{length, getD}
@@ -7,8 +7,8 @@ use Rattle.words.specs.Areas.{codeArea, constantsArea, functionsArea, modelsAre
 use Rattle.words.specs.Areas.{scopeNamesArea, breaksArea, errorsArea, entryWord}
 use Rattle.definition.specs.FunctionState.{Entry}
 use Rattle.definition.specs.Uses.{Limits, firstOver}
-use Rattle.definition.specs.Book.{Function, Assembly, Context, Book, Deed, Placed, MaybePlaced, publicsOf}
-use Rattle.definition.specs.Program.{Entries, entriesFrom, functionCode, constantEntry, functionEntries, modelEntry, propertyEntries, modelProperties}
+use Rattle.definition.specs.Book.{Function, Assembly, Book, Deed, Placed, MaybePlaced, publicsOf}
+use Rattle.definition.specs.Program.{entriesFrom, functionCode, constantEntry, functionEntries, modelEntry, propertyEntries, modelProperties}
 use Rattle.definition.specs.Program.{methodEntry, localEntry, publicEntries, assemblyPublics, errorEntry}
 use Rattle.definition.specs.Within.{All}
 use Rattle.building.specs.declared.scopes.Found.{Found}
@@ -110,6 +110,7 @@ pub record Places (m m′ : Shelf) (place : ℕ) (deed : Book → Placed) : Type
   pub meets : (κ : Limits) (ps : List ℕ) (b : Book) → Keeping κ ps m b → Keeping κ ps m′ (deed b .book)
   pub placed : (κ : Limits) (ps : List ℕ) (b : Book) → Keeping κ ps m b → m′ .book .full ≡ 0 → place ≡ deed b .place
 
+-- the same of what may be found
 pub record Seeks (m m′ : Shelf) (found : Found) (deed : Book → MaybePlaced) : Type 0 where
   pub meets : (κ : Limits) (ps : List ℕ) (b : Book) → Keeping κ ps m b → Keeping κ ps m′ (deed b .book)
   pub sought : (κ : Limits) (ps : List ℕ) (b : Book) → Keeping κ ps m b → m′ .book .full ≡ 0 → found ≡ foundOf (deed b .place)

@@ -46,6 +46,7 @@ pub record Twice (tree : List ℕ) (end : ℕ) (ds : List Document) (r : Found) 
   pub distinct : r ≡ Nothing → Distinct ds
   pub present : r ≡ Nothing → SetIs after (files ds)
 
+-- with an empty set to begin with
 pub record FindsTwice (tree : List ℕ) (end : ℕ) (before : List ℕ) (r : Found) (after : List ℕ) : Type 0 where
   pub finds : (ds : List Document) → Bundle ds tree 0 end → SetIs before [] → Twice tree end ds r after
 
@@ -82,7 +83,7 @@ pub record FindsDocument (tree : List ℕ) (at end n r : ℕ) : Type 0 where
   pub inside : r ≤ end
   pub finds : (ds : List Document) → Bundle ds tree at end → r ≡ placeOf n at ds
 
--- a book that waits in area 12: its file number, and below it the place of its document
+-- a book that waits in area 12: its file number, and below it the place of its document, which is below 1,048,576 (row 2)
 abbrev pub bookUnit : ℕ
 bookUnit = 1048576
 

@@ -8,7 +8,7 @@ ghost use Prim.Native.Nat.{_+_};
 ghost use Rattle.books.specs.Deeds.{resumedBook, ErrorsDo, ConstantsPlace, LocalsSeek, LocalsValue, AddsValue, GivesValue, Binds, DefinesLocals};
 ghost use Rattle.words.specs.Record.{valueAt};
 ghost use Rattle.building.specs.Found.{foundOf};
-ghost use Rattle.books.specs.Including.{isPublic, findBookC, findPublicC, includedC, TakesName, TakesNames};
+ghost use Rattle.books.specs.Including.{findBookC, isPair, findPairC, includedC, TakesName, TakesNames};
 use building::context;
 use building::function_state;
 use building::function_state::FunctionState;
@@ -246,25 +246,30 @@ fn find_book(books: &[u64], many: usize, file: u64) -> Found
     Found::Nothing
 }
 
-// Whether an entry of area 8 is a book's public name.
-fn is_public(publics: &[u64], i: usize, index: u64, name: u64) -> bool
-    ensures { λ r. ⌜ r ≡ isPublic index name (now (publics .entry)) i ⌝ }
+// Whether the first two words of an entry are a and b.
+fn is_pair(area: &[u64], width: usize, i: usize, a: u64, b: u64) -> bool
+    ensures { λ r. ⌜ r ≡ isPair width a b (now (area .entry)) i ⌝ }
 {
-    let there = areas::entry_word(publics, areas::PUBLIC_NAME_WORDS, i, 0);
-    if there != index {
-        return false;
+    if areas::entry_word(area, width, i, 0) == a {
+        return areas::entry_word(area, width, i, 1) == b;
     }
-    let other = areas::entry_word(publics, areas::PUBLIC_NAME_WORDS, i, 1);
-    other == name
+    false
 }
 
-// The entry of a book's public name.
-fn find_public(publics: &[u64], start: usize, count: usize, index: u64, name: u64) -> Found
-    ensures { λ r. ⌜ r ≡ foundOf (findPublicC start count index name (now (publics .entry))) ⌝ }
+// The first entry from `from` on, up to the count, whose first two words are a and b.
+pub(crate) fn find_pair(
+    area: &[u64],
+    width: usize,
+    from: usize,
+    count: usize,
+    a: u64,
+    b: u64,
+) -> Found
+    ensures { λ r. ⌜ r ≡ foundOf (findPairC width from count a b (now (area .entry))) ⌝ }
 {
-    let mut i = start;
+    let mut i = from;
     while i < count {
-        if is_public(publics, i, index, name) {
+        if is_pair(area, width, i, a, b) {
             return Found::At(i as u64);
         }
         i += 1;
@@ -279,7 +284,7 @@ fn included_name(publics: &[u64], books: &[u64], book: Book, file: u64, name: u6
     let many = book.file as usize;
     let there = find_book(books, many, file);
     if let Found::At(j) = there {
-        let found = find_public(publics, 0, book.publics, j, name);
+        let found = find_pair(publics, areas::PUBLIC_NAME_WORDS, 0, book.publics, j, name);
         if let Found::At(i) = found {
             let constant = areas::entry_word(publics, areas::PUBLIC_NAME_WORDS, i as usize, 2);
             return Found::At(constant);

@@ -1,8 +1,8 @@
 // `backend/compiler.rs`: models, their methods and public names over lent areas. Not public: their promise is relational.
 ghost use mathlib.Core.Path.{_≡_};
 ghost use Rattle.building.specs.Found.{foundOf};
-ghost use Rattle.books.specs.Modelling.{isPair, findPairC, InsertsMethod, Publishes};
-ghost use Rattle.books.specs.Modelling.{AddsProperty, AddsProperties, ModelsProperties, modelAtC, FindsModel};
+ghost use Rattle.books.specs.Modelling.{InsertsMethod, Publishes};
+ghost use Rattle.books.specs.Modelling.{AddsProperty, ModelsProperties, modelAtC, FindsModel};
 ghost use Rattle.books.specs.Modelling.{CopiesMethod, CopiesMethods, Applies, PlacesModel, DefinesModel};
 use crate::documents;
 use crate::documents::Book;
@@ -29,37 +29,6 @@ const VALUE: usize = 3;
 // The kind of a constant that is a model (01, 'Emission').
 const MODEL_KIND: u64 = 5;
 
-// Whether the first two words of an entry are a and b.
-fn is_pair(area: &[u64], width: usize, i: usize, a: u64, b: u64) -> bool
-    ensures { λ r. ⌜ r ≡ isPair width a b (now (area .entry)) i ⌝ }
-{
-    if areas::entry_word(area, width, i, 0) == a {
-        return areas::entry_word(area, width, i, 1) == b;
-    }
-    false
-}
-
-// The first entry from `from` on, up to the count, whose first two words are a and b.
-pub(crate) fn find_pair(
-    area: &[u64],
-    width: usize,
-    from: usize,
-    count: usize,
-    a: u64,
-    b: u64,
-) -> Found
-    ensures { λ r. ⌜ r ≡ foundOf (findPairC width from count a b (now (area .entry))) ⌝ }
-{
-    let mut i = from;
-    while i < count {
-        if is_pair(area, width, i, a, b) {
-            return Found::At(i as u64);
-        }
-        i += 1;
-    }
-    Found::Nothing
-}
-
 // One entry for a model and a name: the last function wins.
 pub(crate) fn insert_method(
     methods: &mut [u64],
@@ -73,7 +42,7 @@ pub(crate) fn insert_method(
     if book.full != 0 {
         return book;
     }
-    let found = find_pair(methods, areas::METHOD_WORDS, 0, book.methods, model, name);
+    let found = documents::find_pair(methods, areas::METHOD_WORDS, 0, book.methods, model, name);
     if let Found::At(i) = found {
         areas::write_word(methods, areas::METHOD_WORDS, i as usize, FUNCTION, function);
         return book;
@@ -102,7 +71,7 @@ pub(crate) fn publish(publics: &mut [u64], placed: Placed, name: u64) -> Book
     if book.full != 0 {
         return book;
     }
-    let found = find_pair(
+    let found = documents::find_pair(
         publics,
         areas::PUBLIC_NAME_WORDS,
         book.first_public,
@@ -152,7 +121,7 @@ fn add_property(
     }
     let name = field(tree, at, record::VALUE);
     let model = book.models as u64;
-    let found = find_pair(
+    let found = documents::find_pair(
         properties,
         areas::PROPERTY_WORDS,
         first,

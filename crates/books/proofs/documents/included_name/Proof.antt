@@ -12,7 +12,7 @@ returns c =
     let c11 = c8 .before .before .before in
     included-some (c11 .args .book .file) (c11 .args .book .publics) (c11 .args .file) (c11 .args .name) (c11 .args .books .now) (c11 .args .publics .now)
     (c8 .find-book .ensures)
-    (c6 .there .given .1) (c .before .before .before .before .find-public .ensures) (c .before .before .found .given .1) (c .entry-word .ensures)
+    (c6 .there .given .1) (c .before .before .before .before .find-pair .ensures) (c .before .before .found .given .1) (c .entry-word .ensures)
 
 returns-2 : tie.Need-returns-2
 returns-2 c =
@@ -20,7 +20,7 @@ returns-2 c =
     let c9 = c6 .before .before .before in
     included-none (c9 .args .book .file) (c9 .args .book .publics) (c9 .args .file) (c9 .args .name) (c9 .args .books .now) (c9 .args .publics .now)
     (c6 .find-book .ensures)
-    (c .before .before .before .before .there .given .1) (c .before .before .find-public .ensures) (c .enum-told .given .1)
+    (c .before .before .before .before .there .given .1) (c .before .before .find-pair .ensures) (c .enum-told .given .1)
 
 returns-3 : tie.Need-returns-3
 returns-3 c =

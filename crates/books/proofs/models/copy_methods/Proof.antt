@@ -5,8 +5,7 @@ use mathlib.Core.Path.{_≡_, refl}
 use mathlib.Core.List.{List}
 use lib.ListN.{length}
 use Rattle.books.specs.declared.documents.Book.{Book}
-use Rattle.books.specs.Modelling.{CopiesFrom}
-use Rattle.books.proofs.ApplyWays.{copies-end, copies-more, copies-done}
+use Rattle.books.proofs.ApplyWays.{copies-end, copies-more, copies-done, CopiesFrom}
 use Rattle.books.proofs.models.copy_methods.Statement.{statement}
 use Rattle.books.proofs.models.copy_methods.Tie as tie
 use borrow.Author.Needs.{needs}

@@ -5,8 +5,7 @@ use mathlib.Core.Path.{_≡_, refl}
 use lib.ListN.{length}
 use mathlib.Core.List.{List}
 use Rattle.books.specs.declared.documents.Book.{Book}
-use Rattle.books.specs.Modelling.{AddsProperties}
-use Rattle.books.proofs.PropertyWays.{properties-end, properties-more, properties-done}
+use Rattle.books.proofs.PropertyWays.{properties-end, properties-more, properties-done, AddsProperties}
 use Rattle.books.proofs.models.model_properties.Statement.{statement}
 use Rattle.books.proofs.models.model_properties.Tie as tie
 use borrow.Author.Needs.{needs}

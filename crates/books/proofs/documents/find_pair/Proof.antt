@@ -1,13 +1,13 @@
--- `books::models::find_pair` meets its contract. The invariant: what is found from the start on is what is found from here on. The measure is what is
+-- `books::documents::find_pair` meets its contract. The invariant: what is found from the start on is what is found from here on. The measure is what is
 -- left of the count. Assumes nothing.
 -- Made from Proof.answers by `answers make`: edit that file, and not this one.
 use mathlib.Core.Path.{_≡_, refl, sym, _∙_}
 use Prim.Native.Nat.{_-_}
 use Rattle.building.specs.Found.{firstFrom}
 use Rattle.building.proofs.OldestFirst.{first-here, first-next, first-end}
-use Rattle.books.specs.Modelling.{isPair}
-use Rattle.books.proofs.models.find_pair.Statement.{statement}
-use Rattle.books.proofs.models.find_pair.Tie as tie
+use Rattle.books.specs.Including.{isPair}
+use Rattle.books.proofs.documents.find_pair.Statement.{statement}
+use Rattle.books.proofs.documents.find_pair.Tie as tie
 use native.Mathlib.Omega.{arith}
 
 abbrev Inv-loop : tie.InvT-loop

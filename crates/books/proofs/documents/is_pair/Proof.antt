@@ -1,8 +1,8 @@
--- `books::models::is_pair` meets its contract, by its tests. Assumes nothing.
+-- `books::documents::is_pair` meets its contract, by its tests. Assumes nothing.
 -- Made from Proof.answers by `answers make`: edit that file, and not this one.
 use Rattle.books.proofs.Pairs.{pair-here, pair-other}
-use Rattle.books.proofs.models.is_pair.Statement.{statement}
-use Rattle.books.proofs.models.is_pair.Tie as tie
+use Rattle.books.proofs.documents.is_pair.Statement.{statement}
+use Rattle.books.proofs.documents.is_pair.Tie as tie
 use borrow.Author.Needs.{needs}
 
 returns : tie.Need-returns
