@@ -10,7 +10,7 @@ use lib.ListN.{length, getD, set, length-append, length-set}
 use lib.Seq.{getD-append-add, set-out, length-sets}
 use lib.Dec.{eqb, ltb}
 use borrow.Author.Tests.{eqb-true, eqb-false, ltb-true, ltb-false, eq-eqb, ne-eqb, lt-ltb}
-use Rattle.words.specs.Areas.{entriesIn, setEntry, entryField, wordFits, codeArea, scopeNamesArea, breaksArea}
+use Rattle.words.specs.Areas.{entriesIn, setEntry, entryField, wordFits, writeWord, codeArea, scopeNamesArea, breaksArea}
 use Rattle.words.specs.Opcode.{Instruction, toInstruction, word, Jump}
 use Rattle.definition.specs.FunctionState.{FunctionState, Event, Broke, tail, innermost, patchAll}
 use Rattle.definition.specs.FunctionState as method
@@ -21,13 +21,14 @@ use Rattle.definition.specs.Program.{Entries, codeEntries}
 use Rattle.definition.proofs.Lists.{length-patch}
 use Rattle.building.specs.declared.function_state.FunctionState as struct
 use Rattle.building.specs.State.{withCodeCount, withBreaks, withLoop}
-use Rattle.building.specs.Taking.{taken, writeWord, givenUp}
+use Rattle.building.specs.Taking.{taken, givenUp}
 use Rattle.building.specs.Emission.{Coded, coded, nextC, emitC, replaceC, dropC, Breaking, breaking, markBreakC, emitBreakC, patchC, exitBreakC}
 use Rattle.building.specs.Held.{Machine, machine, Filled, breakEntry, breakEntries, isOpen, Contents, Held}
 use Rattle.building.proofs.Filling.{filled-more, filled-field, filled-set, filled-less, room-fits, setEntry-length, set-append-add, all-front}
 use Rattle.building.proofs.Filling.{over-fits, over-here, held-full, held-step, breaks-length, break-length, capped, Within, noted-within}
 use Rattle.building.proofs.Emitting.{replace-full, replace-in, replace-out, drop-more, exit-full, exit-more}
-use Rattle.building.proofs.EmissionLaws.{code-count, next-is, coded-rest, contents-again, held-touch, held-merge, held-over, emit-full, emit-over}
+use Rattle.building.proofs.Notes.{contents-again}
+use Rattle.building.proofs.EmissionLaws.{code-count, next-is, coded-rest, held-touch, held-merge, held-over, emit-full, emit-over}
 use Rattle.building.proofs.EmissionLaws.{emit-law}
 
 -- an instruction replaced

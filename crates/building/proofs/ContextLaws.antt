@@ -11,7 +11,7 @@ use lib.ListN.{length, getD, set, length-append, List·getD-append}
 use lib.Seq.{getD-at, getD-set-same, getD-set-other, set-set}
 use lib.Dec.{eqb, ltb}
 use borrow.Author.Tests.{eqb-true, eqb-false, ltb-true, ltb-false, eq-eqb, ne-eqb, lt-ltb}
-use Rattle.words.specs.Areas.{entriesIn, setEntry, entryWord, wordFits, contextLocalsArea, functionsArea}
+use Rattle.words.specs.Areas.{entriesIn, setEntry, entryWord, wordFits, writeWord, contextLocalsArea, functionsArea}
 use Rattle.words.proofs.Entries.{field-in}
 use Rattle.definition.specs.FunctionState.{Entry, findName}
 use Rattle.definition.specs.Compiler.{CompilerState, Work}
@@ -22,7 +22,6 @@ use Rattle.building.specs.declared.function_state.FunctionState as struc
 use Rattle.building.specs.declared.taking.Taken.{Taken}
 use Rattle.building.specs.Taking.{Took, taken, hasRoom}
 use Rattle.building.specs.Found.{isNamed, findContextLocalC}
-use Rattle.building.specs.Pool.{withWord}
 use Rattle.building.specs.Context.{Localing, localing, defineContextBy, defineContextC, setValueC, functionWords}
 use Rattle.building.specs.Held.{Machine, Filled, Contents, LocalsHeld}
 use Rattle.building.proofs.Filling.{room-fits, setEntry-length, filled-more, filled-set, filled-field, code-length}
@@ -151,7 +150,7 @@ unfolding defineContextC
 define-context-full start count file name {full} ne = rw (ne-eqb full 0 ne)
 
 -- `set_value`: a word of an entry that is in use is there
-word-there : {l : List ℕ} {es : Entries} {n : ℕ} → Filled 4 l es n → (i k v : ℕ) → i < n → k < 4 → withWord 4 i k v l ≡ set l (i * 4 + k) v
+word-there : {l : List ℕ} {es : Entries} {n : ℕ} → Filled 4 l es n → (i k v : ℕ) → i < n → k < 4 → writeWord 4 i k v l ≡ set l (i * 4 + k) v
 word-there {l} {es} {n} f i k v h q =
     let whole : i * 4 + 4 ≤ length l = room-fits 4 i (length l) (less h (f .room)) in
     rw (lt-ltb k 4 q, lt-ltb (i * 4 + k) (length l) (omega arith))
@@ -173,14 +172,14 @@ set-value-law {full} {count} i constant {l} {l′} {es} q z h f =
 
     words : l′ ≡ set (set l (i * 4 + 2) 1) (i * 4 + 3) constant
     words =
-        q ∙ rw (eq-eqb full 0 z, lt-ltb i count h) (ap (λ (x : List ℕ). withWord 4 i 3 constant x) (word-there f i 2 1 h (omega arith))
+        q ∙ rw (eq-eqb full 0 z, lt-ltb i count h) (ap (λ (x : List ℕ). writeWord 4 i 3 constant x) (word-there f i 2 1 h (omega arith))
         ∙ word-there once i 3 constant h (omega arith))
 
     twice : set (set es i first) i (set (getD (set es i first) i []) 3 constant) ≡ set es i (set first 3 constant)
     twice = rw (getD-set-same es i first [] (omega (arith, f .count))) (set-set es i first (set first 3 constant))
 
 -- and no name changes
-word-beside : (i k v : ℕ) (l : List ℕ) (j : ℕ) → (j * 4 + 1 ≡ i * 4 + k → ⊥) → getD (withWord 4 i k v l) (j * 4 + 1) 0 ≡ getD l (j * 4 + 1) 0
+word-beside : (i k v : ℕ) (l : List ℕ) (j : ℕ) → (j * 4 + 1 ≡ i * 4 + k → ⊥) → getD (writeWord 4 i k v l) (j * 4 + 1) 0 ≡ getD l (j * 4 + 1) 0
 word-beside i k v l j h = go (wordFits 4 i k (length l))
   where
     go : (b : Bool) → getD (cond b (set l (i * 4 + k) v) l) (j * 4 + 1) 0 ≡ getD l (j * 4 + 1) 0
@@ -191,10 +190,10 @@ names-stay : (full count i constant : ℕ) (l : List ℕ) (j : ℕ) → entryWor
 unfolding setValueC
 names-stay full count i constant l j = go (eqb full 0) (ltb i count)
   where
-    go : (a b : Bool) → entryWord 4 j 1 (cond a (cond b (withWord 4 i 3 constant (withWord 4 i 2 1 l)) l) l) ≡ entryWord 4 j 1 l
+    go : (a b : Bool) → entryWord 4 j 1 (cond a (cond b (writeWord 4 i 3 constant (writeWord 4 i 2 1 l)) l) l) ≡ entryWord 4 j 1 l
     go false b = refl
     go true false = refl
-    go true true = word-beside i 3 constant (withWord 4 i 2 1 l) j (λ e. omega arith) ∙ word-beside i 2 1 l j (λ e. omega arith)
+    go true true = word-beside i 3 constant (writeWord 4 i 2 1 l) j (λ e. omega arith) ∙ word-beside i 2 1 l j (λ e. omega arith)
 
 pub set-value-locals : (full : ℕ) {start count : ℕ} (i constant : ℕ) {l l′ : List ℕ} {s : CompilerState} → l′ ≡ setValueC full count i constant l
     → LocalsHeld start count l s → LocalsHeld start count l′ s

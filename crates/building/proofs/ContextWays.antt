@@ -6,7 +6,7 @@ use mathlib.Core.Bool.{Bool}
 use mathlib.Core.Option.{Option, none, some}
 use mathlib.Core.List.{List, [], _∷_}
 use borrow.Author.Tests.{eq-eqb, ne-eqb, lt-ltb, le-ltb}
-use Rattle.words.specs.Areas.{Patched, contextLocalsArea, functionsArea}
+use Rattle.words.specs.Areas.{writeWord, Patched, contextLocalsArea, functionsArea}
 use Rattle.definition.specs.Program.{bit}
 use Rattle.building.specs.declared.function_state.FunctionState.{FunctionState}
 use Rattle.building.specs.declared.scopes.Found.{Found}
@@ -14,7 +14,6 @@ use Rattle.building.specs.declared.scopes.Found.the-variants.{At, Nothin
 use Rattle.building.specs.declared.taking.Taken.{Taken}
 use Rattle.building.specs.Taking.{Took, taken}
 use Rattle.building.specs.Found.{foundOf, findContextLocalC}
-use Rattle.building.specs.Pool.{withWord}
 use Rattle.building.specs.Emission.{nextC}
 use Rattle.building.specs.Context.{localing, defineContextBy, defineContextC, setValueC, functionWords}
 
@@ -58,7 +57,7 @@ module _ (full count i constant : ℕ) (w : List ℕ) where
   pub value-in : full ≡ 0 → i < count → {between after : List ℕ} {a b : Bool} → Patched 4 i 2 1 w between a → Patched 4 i 3 constant between after b
       → after ≡ setValueC full count i constant w
   unfolding setValueC
-  value-in z h p q = rw (eq-eqb full 0 z, lt-ltb i count h) (q .words ∙ ap (λ (x : List ℕ). withWord 4 i 3 constant x) (p .words))
+  value-in z h p q = rw (eq-eqb full 0 z, lt-ltb i count h) (q .words ∙ ap (λ (x : List ℕ). writeWord 4 i 3 constant x) (p .words))
 
 -- `add_function`
 pub function-way : (full count : ℕ) (s : FunctionState) (file name : ℕ) (w : List ℕ) {mark own : ℕ} → mark ≡ bit (s .«is_instance») → own ≡ nextC s

@@ -28,6 +28,7 @@ use Rattle.building.specs.Emission.{Coded, coded, nextC, lastC, lastPosi
 use Rattle.building.specs.Held.{Machine, machine, Filled, Contents, Marks, unmarked, marked, Held}
 use Rattle.building.proofs.Filling.{filled-more, filled-field, filled-back, room-fits, setEntry-length, all-front, code-length}
 use Rattle.building.proofs.Filling.{over-stays, over-here, held-full, Capped, capped, held-step}
+use Rattle.building.proofs.Notes.{contents-again}
 use Rattle.building.proofs.Emitting.{remove-full, remove-pop, remove-return, remove-null}
 
 abbrev pub codedMachine : Coded → List ℕ → List ℕ → List ℕ → List ℕ → Machine
@@ -144,31 +145,6 @@ module _ {earlier : Entries} {s : struct.FunctionState} {c k n b e : List ℕ} {
     parameters = C .parameters;
     locals = C .locals;
   }
-
--- other notes of the same states
-abbrev pub renoted : List Use → Work → Work
-renoted us w = record { compiler = w .compiler; context = w .context; function = w .function; before = w .before; uses = us }
-
-pub contents-again : {earlier : Entries} {m : Machine} {w : Work} (us : List Use) → Contents earlier m w → Contents earlier m (renoted us w)
-contents-again us C = record {
-  before = C .before;
-  sized = C .sized;
-  code = C .code;
-  base = C .base;
-  constants = C .constants;
-  marks = C .marks;
-  names = C .names;
-  scope = C .scope;
-  breaks = C .breaks;
-  loop = C .loop;
-  in-loop = C .in-loop;
-  errors = C .errors;
-  depth = C .depth;
-  rescue = C .rescue;
-  is-instance = C .is-instance;
-  parameters = C .parameters;
-  locals = C .locals;
-}
 
 -- a step on the function that leaves it as it is
 pub held-touch : {κ : Limits} {earlier : Entries} {m : Machine} {w : Work} → Held κ earlier m w → m .state .full ≡ 0

@@ -9,13 +9,13 @@ use mathlib.Core.List.{List, [], _∷_}
 use lib.ListN.{length}
 use lib.Dec.{eqb, ltb}
 use borrow.Author.Tests.{eq-eqb, ne-eqb, lt-ltb, le-ltb, ltb-true}
-use Rattle.words.specs.Areas.{codeArea, breaksArea, entryField}
+use Rattle.words.specs.Areas.{codeArea, breaksArea, entryField, writeWord}
 use Rattle.words.specs.Opcode.{toInstruction, word, Pop, PushConstant, ReturnOp, Jump}
 use Rattle.words.specs.Object.{NULL}
 use Rattle.building.specs.declared.taking.Taken.{Taken}
 use Rattle.building.specs.declared.function_state.FunctionState.{FunctionState}
 use Rattle.building.specs.State.{withCode, withCodeCount, withBreaks, withLoop}
-use Rattle.building.specs.Taking.{Took, givenUp, writeWord}
+use Rattle.building.specs.Taking.{Took, givenUp}
 use Rattle.building.specs.Emission.{Coded, coded, nextC, lastPositionC, lastOpcodeC, emitC, emitNullC, popC, removePopC, emitReturnC, replaceC, dropC}
 use Rattle.building.specs.Emission.{Breaking, breaking, markBreakC, emitBreakC, patchC, exitBreakC}
 

@@ -51,10 +51,12 @@ back {κ} {m = m} l H H′ z = go (eqb (m .state .full) 0) refl
     go true q = eqb-true (m .state .full) 0 q
     go false q = marks-same (over-longer κ l (H .full) (eqb-false (m .state .full) 0 q)) (H′ .full) ∙ z
 
--- the contents do not depend on the notes
-pub renoted : {E : Entries} {m : Machine} {w : Work} (us : List Use) → Contents E m w
-    → Contents E m (record { compiler = w .compiler; context = w .context; function = w .function; before = w .before; uses = us })
-renoted us C = record {
+-- other notes of the same states: the contents do not depend on them
+abbrev pub renoted : List Use → Work → Work
+renoted us w = record { compiler = w .compiler; context = w .context; function = w .function; before = w .before; uses = us }
+
+pub contents-again : {earlier : Entries} {m : Machine} {w : Work} (us : List Use) → Contents earlier m w → Contents earlier m (renoted us w)
+contents-again us C = record {
   before = C .before;
   sized = C .sized;
   code = C .code;
@@ -100,7 +102,7 @@ held-renoted {κ} {m₀ = m₀} {w = w} f g H₀ code names breaks H = record {
   breaks-cap = H .breaks-cap;
   errors-cap = H .errors-cap;
   full = rw (← one) (H .full);
-  rest = λ z. renoted (withFunction g w .uses) (H .rest z);
+  rest = λ z. contents-again (withFunction g w .uses) (H .rest z);
 }
   where
     within : firstOver κ (w .uses) ≡ none → Within κ w

@@ -11,7 +11,7 @@ use lib.ListN.{length, getD, set, length-append, length-set}
 use lib.Dec.{eqb, ltb}
 use borrow.Author.Tests.{eqb-true, eqb-false, ltb-true, ltb-false, eq-eqb, ne-eqb, lt-ltb}
 use Rattle.words.specs.Ast.{Token}
-use Rattle.words.specs.Areas.{entriesIn, setEntry, entryField, constantsArea, errorsArea}
+use Rattle.words.specs.Areas.{entriesIn, setEntry, entryField, writeWord, constantsArea, errorsArea}
 use Rattle.words.specs.Object.{Constant, constantOf, isShared, sameConstant}
 use Rattle.definition.specs.Uses.{Limits, using′}
 use Rattle.definition.specs.Book.{hasText}
@@ -25,7 +25,7 @@ use Rattle.building.specs.declared.taking.Taken.{Taken}
 use Rattle.building.specs.State as state
 use Rattle.building.specs.Taking.{taken, hasRoom}
 use Rattle.building.specs.Found.{isConstant, findConstantC}
-use Rattle.building.specs.Pool.{Pooling, pooling, addNoCheckC, addBy, addConstantC, withWord, markGlobalC, Erring, erring, pushErrorC}
+use Rattle.building.specs.Pool.{Pooling, pooling, addNoCheckC, addBy, addConstantC, markGlobalC, Erring, erring, pushErrorC}
 use Rattle.building.specs.Held.{machine, Filled, Contents, Held}
 use Rattle.building.proofs.Filling.{room-fits, setEntry-length, filled-more, filled-set, filled-field, over-fits, over-here, held-full}
 use Rattle.building.proofs.OldestFirst.{first-constant}
@@ -291,7 +291,7 @@ module _ {κ : Limits} {earlier : Entries} {s : FunctionState} {c k n b e : List
   mark-now i i′ same = go (eqb (s .full) 0) refl
     where
       go : (f : Bool) → eqb (s .full) 0 ≡ f
-          → Held κ earlier (machine s c (cond f (cond (ltb i (s .constants)) (withWord 3 i 2 1 k) k) k) n b e) (markGlobal i′ w)
+          → Held κ earlier (machine s c (cond f (cond (ltb i (s .constants)) (writeWord 3 i 2 1 k) k) k) n b e) (markGlobal i′ w)
       go false q = held-full (markGlobal i′ w) (using′ constantsArea (length (w .context .constants)) ∷ []) refl (eqb-false (s .full) 0 q) H
       go true q =
           let z = eqb-true (s .full) 0 q in

@@ -5,14 +5,13 @@ use mathlib.Core.Option.{Option, none, some}
 use mathlib.Core.List.{List, [], _∷_}
 use lib.ListN.{length}
 use lib.Dec.{eqb, ltb}
-use Rattle.words.specs.Areas.{contextLocalsArea}
+use Rattle.words.specs.Areas.{contextLocalsArea, writeWord}
 use Rattle.definition.specs.Program.{bit}
 use Rattle.building.specs.declared.taking.Taken.{Taken}
 use Rattle.building.specs.declared.function_state.FunctionState.{FunctionState}
 use Rattle.building.specs.declared.scopes.Found.{Found}
 use Rattle.building.specs.declared.scopes.Found.the-variants.{At, Nothing}
 use Rattle.building.specs.Found.{findContextLocalC}
-use Rattle.building.specs.Pool.{withWord}
 use Rattle.building.specs.Taking.{taken, takenOf, tookWords}
 use Rattle.building.specs.Emission.{nextC}
 
@@ -38,9 +37,9 @@ defineContextC full start count file name w =
 -- `local_values.insert`, of a context local in use: the mark and the constant
 unfoldable pub setValueC : ℕ → ℕ → ℕ → ℕ → List ℕ → List ℕ
 setValueC full count i constant w =
-    cond (eqb full 0) (cond (ltb i count) (withWord 4 i 3 constant (withWord 4 i 2 1 w)) w) w
+    cond (eqb full 0) (cond (ltb i count) (writeWord 4 i 3 constant (writeWord 4 i 2 1 w)) w) w
 
--- a function's entry
+-- a function's entry: `add_function`
 abbrev pub functionWords : FunctionState → ℕ → ℕ → List ℕ
 functionWords s file name =
     s .«parameter_count» ∷ s .«local_count» ∷ s .«rescue_position» ∷ bit (s .«is_instance») ∷ s .base ∷ nextC s ∷ file ∷ name ∷ []

@@ -1,16 +1,16 @@
 -- What the routines of `function_state.rt` make of the state and of the code area, on any state and any words. Each is written as the definition's
 -- method of the same name is, over memory
-use Prim.Native.Nat.{ℕ, zero, suc, _+_, _-_, _*_, _/_, _^_, min}
-use mathlib.Core.Bool.{Bool, true, false, cond}
+use Prim.Native.Nat.{ℕ, zero, suc, _+_, _-_, _/_, _^_, min}
+use mathlib.Core.Bool.{Bool, true, cond}
 use mathlib.Core.List.{List, [], _∷_}
 use lib.ListN.{length}
 use lib.Dec.{eqb, ltb}
-use Rattle.words.specs.Areas.{codeArea, breaksArea, entryField, writeEntry}
+use Rattle.words.specs.Areas.{codeArea, breaksArea, entryField, writeEntry, writeWord}
 use Rattle.words.specs.Opcode.{toInstruction, word, Pop, PushConstant, ReturnOp, Jump}
 use Rattle.words.specs.Object.{NULL}
 use Rattle.building.specs.declared.function_state.FunctionState.{FunctionState}
 use Rattle.building.specs.State.{withCode, withCodeCount, withBreaks, withLoop, withDepth, withRescue, withParameters, mostDepth}
-use Rattle.building.specs.Taking.{takenOf, tookWords, givenUp, writeWord}
+use Rattle.building.specs.Taking.{takenOf, tookWords, givenUp}
 
 -- the state and the code area
 pub record Coded : Type 0 where
@@ -32,6 +32,7 @@ lastC k m = cond (ltb (m .state .base) (m .state .code)) (entryField 2 (m .state
 abbrev pub lastPositionC : Coded → ℕ
 lastPositionC m = lastC 1 m
 
+-- the last instruction's opcode
 abbrev pub lastOpcodeC : Coded → ℕ
 lastOpcodeC m = lastC 0 m / 2 ^ 56
 
@@ -52,6 +53,7 @@ emitNullC m = emitLastC (word (toInstruction PushConstant NULL)) m
 abbrev pub popC : Coded → Coded
 popC m = coded (withCodeCount (m .state .code - 1) (m .state)) (writeEntry 2 (m .state .code - 1) (0 ∷ 0 ∷ []) (m .code))
 
+-- with the mark set, the second
 abbrev pub unlessFull : FunctionState → {A : Type 0} → A → A → A
 unlessFull s x y = cond (eqb (s .full) 0) x y
 
@@ -132,5 +134,6 @@ depthC n s = unlessFull s (withDepth n s) s
 abbrev pub rescueC : FunctionState → FunctionState
 rescueC s = unlessFull s (withRescue (nextC s) s) s
 
+-- the parameters' two fields
 abbrev pub parametersC : Bool → ℕ → FunctionState → FunctionState
 parametersC b n s = unlessFull s (withParameters b n s) s

@@ -1,5 +1,5 @@
 -- The one relation between memory and the definition's states: what the state and the areas hold of a `Work`. Laws about the routines cite it alone
-use Prim.Native.Nat.{ℕ, _+_, _*_, _%_, _^_, _-_, _≤_, _<_, min}
+use Prim.Native.Nat.{ℕ, _+_, _%_, _^_, _≤_, _<_, min}
 use mathlib.Core.Path.{_≡_}
 use mathlib.Core.Bool.{Bool, true, false}
 use mathlib.Core.Option.{Option, none, some}

@@ -1,11 +1,11 @@
 -- What the routines of `pool.rt` make of the state, the constants and the errors, on any state and any words
-use Prim.Native.Nat.{ℕ, _+_, _*_}
+use Prim.Native.Nat.{ℕ}
 use mathlib.Core.Bool.{cond}
 use mathlib.Core.Option.{Option, none, some}
 use mathlib.Core.List.{List, [], _∷_}
-use lib.ListN.{length, set}
+use lib.ListN.{length}
 use lib.Dec.{ltb}
-use Rattle.words.specs.Areas.{constantsArea, errorsArea, wordFits}
+use Rattle.words.specs.Areas.{constantsArea, errorsArea, writeWord}
 use Rattle.words.specs.Object.{constantOf, isShared}
 use Rattle.building.specs.declared.function_state.FunctionState.{FunctionState}
 use Rattle.building.specs.Found.{findConstantC}
@@ -39,13 +39,9 @@ addConstantC kind value s k =
     (cond (isShared kind) (addBy (findConstantC (s .constants) (constantOf kind value) k) kind value s k) (addNoCheckC kind value s k))
     (pooling 0 s k)
 
--- word k of entry i anew, where it is a word of the area
-abbrev pub withWord : ℕ → ℕ → ℕ → ℕ → List ℕ → List ℕ
-withWord width i k value w = cond (wordFits width i k (length w)) (set w (i * width + k) value) w
-
 -- `global_dependencies.insert`: the third word of a constant in use
 unfoldable pub markGlobalC : ℕ → FunctionState → List ℕ → List ℕ
-markGlobalC i s k = unlessFull s (cond (ltb i (s .constants)) (withWord 3 i 2 1 k) k) k
+markGlobalC i s k = unlessFull s (cond (ltb i (s .constants)) (writeWord 3 i 2 1 k) k) k
 
 -- the state and the errors
 pub record Erring : Type 0 where

@@ -11,13 +11,11 @@ ghost use Rattle.building.specs.Emission.{breaking, emitBreakC, enterBre
 use crate::taking;
 use words::areas;
 use words::opcode::Instruction;
+use words::opcode::OPCODE_UNIT;
 use words::opcode::OpCode;
 
 // Where null stands among the constants: `Program::NULL_CONSTANT_INDEX`.
 pub const NULL_CONSTANT_INDEX: u64 = 0;
-
-// What an opcode of one is worth in an instruction's word: 2^56.
-const OPCODE_UNIT: u64 = 72057594037927936;
 
 // The opcodes that emission looks for: `OpCode::Pop` and `OpCode::Return`.
 const POP: u64 = 1;

@@ -1,9 +1,9 @@
 -- The compile call of 01: from any words and the areas' lengths to the reply and the words of the twelve areas
-use Prim.Native.Nat.{ℕ, zero, suc, _/_}
-use mathlib.Core.Bool.{Bool, true, false, cond}
+use Prim.Native.Nat.{ℕ, _/_}
+use mathlib.Core.Bool.{cond}
 use mathlib.Core.Option.{Option, none, some}
 use mathlib.Core.List.{List, [], _∷_, map}
-use lib.ListN.{length, replicate, getD}
+use lib.ListN.{length, replicate}
 use Rattle.words.specs.Ast.{Document}
 use Rattle.words.specs.Areas.{widths, entriesIn}
 use Rattle.words.specs.Record.{valueAt}
@@ -11,7 +11,7 @@ use Rattle.tree.specs.Check.{shapeOf}
 use Rattle.tree.specs.Reading.{documentsOf, listOf}
 use Rattle.tree.specs.declared.Shape.{Shape}
 use Rattle.tree.specs.declared.Shape.the-variants.{Fine, Refused}
-use Rattle.definition.specs.Uses.{Use, Limits, firstOver}
+use Rattle.definition.specs.Uses.{Limits, firstOver}
 use Rattle.definition.specs.Compiler.{Error}
 use Rattle.definition.specs.Book.{Context, newContext, hasText}
 use Rattle.definition.specs.DependencySolver.{Ending, Delivered, Faulty, Ring, Worked, filesOf, needed, missing, compileNeeded}

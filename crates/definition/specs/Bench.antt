@@ -1,24 +1,27 @@
 -- The bench pieces (a) to (k) of 01, in one table, and the other cases that 01 names, each by computing the whole call from words
-use Prim.Native.Nat.{ℕ, zero, suc, _+_, _*_}
+use Prim.Native.Nat.{ℕ, zero, suc, _+_}
 use mathlib.Core.Path.{_≡_, refl}
-use mathlib.Core.List.{List, [], _∷_, _++_, map}
-use lib.ListN.{length, getD, replicate}
+use mathlib.Core.List.{List, [], _∷_, map}
+use lib.ListN.{getD, replicate}
 use Rattle.words.specs.Opcode.{Instruction, toInstruction, word, Pop, PushConstant, ReturnOp, LocalSet, LocalGet, Operation, Not, Jump, JumpIf, ForNext}
-use Rattle.words.specs.Opcode.{Iterate, InstanceSet, InstanceGetOp, ContextGet, GlobalGet, GlobalSet}
+use Rattle.words.specs.Opcode.{Iterate, InstanceSet, InstanceGetOp}
+use Rattle.words.specs.Opcode.{OPERATION_ADD, OPERATION_SUB, OPERATION_MULTIPLY, OPERATION_DIVIDE, OPERATION_MOD, OPERATION_EQUAL, OPERATION_GREATER}
+use Rattle.words.specs.Opcode.{OPERATION_LESS, OPERATION_GREATER_EQUAL, OPERATION_LESS_EQUAL, OPERATION_AND, OPERATION_OR}
 use Rattle.words.specs.Record.{fieldOf}
 use Rattle.tree.specs.Check.{shapeOf, walkBy, headAt, soundAt, thisAfter, sameThis, lacksBy, withinOf}
 use Rattle.tree.specs.Rules.{mayStand, slotAfter, isDue, firstSlot, goesOn, inRange}
 use Rattle.tree.specs.Reading.{expressionOf, listOf, pairsOf, parametersOf, definitionOf, documentOf, documentsOf}
 use Rattle.definition.specs.FunctionState.{FunctionState, removePopOrPushNull, emitReturn, emitBreak, exitBreakScope, defineLocal}
 use Rattle.definition.specs.Uses.{firstOver}
-use Rattle.definition.specs.Compiler.{Error, addConstant, emitConstant, emitGlobal, compileIntegerExpression, compileFloatExpression}
+use Rattle.definition.specs.Compiler.{Assigning, Plain, Negated, Compound, Unknown, infixKind}
+use Rattle.definition.specs.Compiler.{addConstant, emitConstant, emitGlobal, compileIntegerExpression, compileFloatExpression}
 use Rattle.definition.specs.Compiler.{compileStringExpression, compileBooleanExpression, compileNullExpression, emitName}
 use Rattle.definition.specs.Compiler.{compileIdentifierExpression, compileThisExpression, compileAssignName, compilePair, compileAssignExpression}
 use Rattle.definition.specs.Compiler.{compileOperation, compileInfixExpression, compilePrefixExpression, compileCallExpression}
 use Rattle.definition.specs.Compiler.{compileArrayExpression, compilePart, compileNoPart, compileIfExpression, compileForStatement}
 use Rattle.definition.specs.Compiler.{compileExpressionStatement, compileValued, compileBare, compileRescue, deeper, skip, andThen}
 use Rattle.definition.specs.Compiler.{compileExpression, compileParameter, compileParameters, compileFunctionDefinitionBase}
-use Rattle.definition.specs.Book.{Function, Context, defineContextLocal, compileAlias, compileIncludeDefinition, compileBinding}
+use Rattle.definition.specs.Book.{Function, defineContextLocal, compileAlias, compileIncludeDefinition, compileBinding}
 use Rattle.definition.specs.Book.{compileLocalDefinition, compileProperties, compileModelDefinition, compileBase, addPlainFunction}
 use Rattle.definition.specs.Book.{compileFunctionDefinition, findModelIndexByLocalName, compileMethods, compileImplementDefinition}
 use Rattle.definition.specs.Book.{compileApplyDefinition, compileDefinition, compileDefinitions, compileDocument}
@@ -153,6 +156,15 @@ bench-i : run (function 6 (r 40 1 0 4 (r 40 1 0 5 (r 25 4 0 0 (r 39 3 7 12 (r 30
     (op LocalGet 0 ∷ op LocalGet 1 ∷ op Operation 5 ∷ op Not 0 ∷ op ReturnOp 0 ∷ []) (5 ∷ 6 ∷ 7 ∷ 7 ∷ 7 ∷ []) 2 0 ∷ []) (0 ∷ [])
 unfolding run delivered refused function-of
 bench-i = refl
+
+-- every infix value of 01, from 0 on, and what it asks for
+infix-operations : map infixKind (0 ∷ 1 ∷ 2 ∷ 3 ∷ 4 ∷ 5 ∷ 6 ∷ 7 ∷ 8 ∷ 9 ∷ 10 ∷ 11 ∷ 12 ∷ 13 ∷ 14 ∷ 15 ∷ 16 ∷ 17 ∷ 18 ∷ 19 ∷ []) ≡
+    Assigning
+    ∷ Plain OPERATION_ADD ∷ Plain OPERATION_SUB ∷ Plain OPERATION_MULTIPLY ∷ Plain OPERATION_DIVIDE ∷ Plain OPERATION_MOD
+    ∷ Compound OPERATION_ADD ∷ Compound OPERATION_SUB ∷ Compound OPERATION_MULTIPLY ∷ Compound OPERATION_DIVIDE ∷ Compound OPERATION_MOD
+    ∷ Plain OPERATION_EQUAL ∷ Negated OPERATION_EQUAL ∷ Plain OPERATION_GREATER ∷ Plain OPERATION_LESS ∷ Plain OPERATION_GREATER_EQUAL
+    ∷ Plain OPERATION_LESS_EQUAL ∷ Plain OPERATION_AND ∷ Plain OPERATION_OR ∷ Unknown ∷ []
+infix-operations = refl
 
 -- (j) assignment to 1: error 2
 bench-j : run (function 4 (r 25 4 0 0 (r 39 3 0 0 (r 33 1 0 1 (r 33 1 0 7 []))))) ample ≡ refused 7 2 (2 ∷ [])

@@ -1,6 +1,6 @@
 -- `backend/compiler.rs`: definitions and documents. A deed takes a book under compilation and gives it back
 use Prim.Native.Nat.{ℕ, zero, suc, _+_}
-use mathlib.Core.Bool.{Bool, true, false, cond, _&&_, _||_}
+use mathlib.Core.Bool.{Bool, true, false, cond}
 use mathlib.Core.Option.{Option, none, some}
 use mathlib.Core.List.{List, [], _∷_, _++_}
 use lib.ListN.{length}
@@ -12,7 +12,7 @@ use Rattle.words.specs.Areas.{functionsArea, modelsArea, propertiesArea, method
 use Rattle.words.specs.Object.{Constant, constantOf, defaultConstants, NULL, TRUE, FALSE, integerKind, floatKind, modelKind, functionKind}
 use Rattle.definition.specs.FunctionState.{Entry, FunctionState, newFunctionState, findName}
 use Rattle.definition.specs.Uses.{Use, using′, sumOf}
-use Rattle.definition.specs.Compiler.{Error, CompilerContext, CompilerState, Work, withError, addConstant, Added, compileFunctionDefinitionBase}
+use Rattle.definition.specs.Compiler.{CompilerContext, CompilerState, Work, withError, addConstant, compileFunctionDefinitionBase}
 
 -- `Function` of `runtime/program.rs`, with its name and its file's index of `FileInfo`, and its positions of `DebugInfo`
 pub record Function : Type 0 where
@@ -183,10 +183,11 @@ pushBookError n t b =
     noted errorsArea (length (b .compiler .errors) + 1)
     (record { compiler = withError n t (b .compiler); assembly = b .assembly; context = b .context; uses = b .uses })
 
--- the states that functions and constants work on, and back
+-- how many instructions functions have
 abbrev pub codeOf : List Function → ℕ
 codeOf fs = sumOf (λ f. length (f .state .instructions)) fs
 
+-- the states that functions and constants work on, and back
 abbrev pub working : Book → Work
 working b = record {
   compiler = b .compiler;
@@ -204,6 +205,7 @@ pub record Placed : Type 0 where
   pub place : ℕ
   pub book : Book
 
+-- `add_constant`
 abbrev pub addBookConstant : Constant → Book → Placed
 addBookConstant c b = let a = addConstant c (working b) in record { place = a .index; book = resumed (a .work) b }
 
@@ -212,7 +214,7 @@ pub record MaybePlaced : Type 0 where
   pub place : Option ℕ
   pub book : Book
 
--- the names of this book, and those of all
+-- a name for the next context local: in the names of this book, and in those of all
 abbrev pub withLocalName : ℕ → Book → Book
 withLocalName n b =
     let index = b .context .pool .localCount in
@@ -251,6 +253,7 @@ abbrev pub findAssembly : ℕ → List Assembly → Option Assembly
 findAssembly n [] = none
 findAssembly n (a ∷ as′) = cond (eqb (a .filename) n) (some a) (findAssembly n as′)
 
+-- `public_indices.get`
 abbrev pub publicOf : Option Assembly → ℕ → Option ℕ
 publicOf none n = none
 publicOf (some a) n = findName n (a .publics)
@@ -282,6 +285,7 @@ pub data Value : Type 0 where
   Adding : Constant → Value
   NoConstant : Value
 
+-- by the value's kind: 32 null, 36 boolean, 33 integer, 34 float; 30, 35 and 47 are none
 abbrev pub valueOf : Token → Value
 valueOf t =
     cond (eqb (t .kind) 32) (Standing NULL)
@@ -310,6 +314,7 @@ compileLocalDefinition (x ∷ xs) b = compileLocalDefinition xs (compileBinding 
 
 -- models
 
+-- whether a number is among numbers
 abbrev pub hasText : ℕ → List ℕ → Bool
 hasText n [] = false
 hasText n (x ∷ xs) = cond (eqb x n) true (hasText n xs)
@@ -318,6 +323,7 @@ pub record Properties : Type 0 where
   pub texts : List ℕ
   pub book : Book
 
+-- how many properties models have
 abbrev pub propertiesOf : List Model → ℕ
 propertiesOf ms = sumOf (λ m. length (m .properties)) ms
 
@@ -349,7 +355,7 @@ compileModelDefinition name properties b =
     let d = defineContextLocal (name .value) (a .book) in
     record { place = a .place; book = setLocalValue (d .place) (a .place) (d .book) }
 
--- public names of the books before, and of this one
+-- how many public names the books before have
 abbrev pub publicsOf : List Assembly → ℕ
 publicsOf as′ = sumOf (λ a. length (a .publics)) as′
 
@@ -374,6 +380,7 @@ pub record Made : Type 0 where
   pub state : FunctionState
   pub book : Book
 
+-- a function compiled in the book's states
 unfoldable pub compileBase : FunctionDefinition → Book → Made
 compileBase f b = let w = compileFunctionDefinitionBase (f .parameters) (f .body) (working b) in record { state = w .function; book = resumed w b }
 
@@ -405,6 +412,7 @@ abbrev pub modelOf : Option Constant → Option ℕ
 modelOf none = none
 modelOf (some c) = cond (eqb (c .kind) modelKind) (some (c .value)) none
 
+-- `constants.get`
 abbrev pub constantAt : List Constant → ℕ → Option Constant
 constantAt [] n = none
 constantAt (c ∷ cs) zero = some c
@@ -452,6 +460,7 @@ pub record Methods : Type 0 where
   pub entries : List Entry
   pub book : Book
 
+-- the functions of an implement: the last of a name stays in the map
 unfoldable pub compileMethods : List FunctionDefinition → List Entry → Book → Methods
 compileMethods [] es b = record { entries = es; book = b }
 compileMethods (f ∷ fs) es b =
@@ -496,6 +505,7 @@ compileDefinition (PublicFunction f) b = publish (f .name .value) (compileFuncti
 compileDefinition (ImplementDefinition m fs) b = compileImplementDefinition m fs b
 compileDefinition (ApplyDefinition s t) b = compileApplyDefinition s t b
 
+-- `compile`
 unfoldable pub compileDefinitions : List Definition → Deed
 compileDefinitions [] b = b
 compileDefinitions (d ∷ ds) b = compileDefinitions ds (compileDefinition d b)

@@ -1,7 +1,7 @@
 -- `backend/compiler.rs`: expressions, statements and function bodies. A step takes the states that the Rust passes on and gives them back.
 -- What the Rust calls back into is passed to a step as a step: `condition`, `truePart`
-use Prim.Native.Nat.{ℕ, zero, suc, _+_, _-_}
-use mathlib.Core.Bool.{Bool, true, false, cond, _&&_, _||_}
+use Prim.Native.Nat.{ℕ, suc, _+_, _-_}
+use mathlib.Core.Bool.{true, cond}
 use mathlib.Core.Option.{Option, none, some}
 use mathlib.Core.List.{List, [], _∷_, _++_}
 use lib.ListN.{length}
@@ -15,7 +15,7 @@ use Rattle.words.specs.Opcode.{Instruction, toInstruction, Pop, PushConstant, L
 use Rattle.words.specs.Opcode.{InstanceSet, InstanceGetOp, IndexSet, IndexGetOp, Operation, Not, Negative, CallOp, ArrayOp, Jump, JumpIf, ForNext, Iterate}
 use Rattle.words.specs.Opcode.{OPERATION_EQUAL, OPERATION_AND, OPERATION_OR}
 use Rattle.definition.specs.FunctionState as Emission
-use Rattle.definition.specs.FunctionState.{Entry, FunctionState, newFunctionState, withDepth, withRescue, withParameters, Defined}
+use Rattle.definition.specs.FunctionState.{Entry, FunctionState, newFunctionState, withDepth, withRescue, withParameters}
 use Rattle.definition.specs.FunctionState.{getLastPosition, getNextInstructionIndex, findName}
 use Rattle.definition.specs.Uses.{Use, using′, total}
 
@@ -61,6 +61,7 @@ withFunction f w = record {
 abbrev pub doing : (FunctionState → FunctionState) → Step
 doing m w = withFunction (m (w .function)) w
 
+-- `emit`, `emit_opcode`, `emit_opcode_without_position`, `replace_instruction`
 abbrev pub emit : Instruction → ℕ → Step
 emit i p = doing (Emission.emit i p)
 
@@ -73,6 +74,7 @@ emitOpcodeWithoutPosition o = doing (Emission.emitOpcodeWithoutPosition o)
 abbrev pub replaceInstruction : ℕ → Instruction → Step
 replaceInstruction j i = doing (Emission.replaceInstruction j i)
 
+-- `get_next_instruction_index`
 abbrev pub next : Work → ℕ
 next w = getNextInstructionIndex (w .function)
 
@@ -101,6 +103,7 @@ pub record Added : Type 0 where
   pub index : ℕ
   pub work : Work
 
+-- constants and marks anew, with the entries of area 2 then in use
 abbrev pub withConstants : List Constant → List ℕ → Step
 withConstants cs gs w = record {
   compiler = w .compiler;
@@ -201,8 +204,8 @@ pub data InfixKind : Type 0 where
   Compound : ℕ → InfixKind
   Unknown : InfixKind
 
--- 0 Assign; 1 to 5 plus, minus, star, slash, percent; 6 to 10 the same with assign; 11 Equal, 12 NotEqual, 13 Greater, 14 Less, 15 GreaterEqual,
--- 16 LessEqual, 17 And, 18 Or, 19 other
+-- by 01's infix values: 0 Assign; 1 to 5 plus, minus, star, slash, percent; 6 to 10 the same with assign; 11 Equal, 12 NotEqual, 13 Greater, 14 Less, 15 GreaterEqual,
+-- 16 LessEqual, 17 And, 18 Or, 19 other. Each value beside its operation: `infix-operations` in `Bench`
 abbrev pub infixKind : ℕ → InfixKind
 infixKind n =
     cond (eqb n 0) Assigning
@@ -220,6 +223,7 @@ compileAssignExpression right target w =
     let w₁ = right w in
     target w₁
 
+-- left, right, and the operation: what `compile_infix_expression` does where there is an operation
 unfoldable pub compileOperation : ℕ → Token → Step → Step → Step
 compileOperation n t left right w =
     let w₁ = left w in
@@ -283,6 +287,7 @@ compileIfExpression condition truePart falsePart w =
 
 -- statements
 
+-- `unwrap`, with a number for none
 abbrev pub getOr : ℕ → Option ℕ → ℕ
 getOr d none = d
 getOr d (some i) = i
@@ -343,13 +348,14 @@ compileRescue t w =
     cond (ltb 1 (w .function .depth)) (pushError 4 t w)
     (doing (λ f. let g = Emission.emitReturn (t .position) f in withRescue (getNextInstructionIndex g) g) w)
 
--- `compile_statement`: a statement, one deeper
+-- `compile_statement` around its `match`: one deeper, and back
 unfoldable pub deeper : Step → Step
 deeper statement w =
     let w₁ = doing (λ f. withDepth (f .depth + 1) f) w in
     let w₂ = statement w₁ in
     doing (λ f. withDepth (f .depth - 1) f) w₂
 
+-- nothing, and one step after the other: the Rust's loops over lists
 unfoldable pub skip : Step
 skip w = w
 
@@ -396,6 +402,7 @@ unfoldable mutual
   compileAssignExpressionLeftPart (InstanceGet t instance index) a = compilePair InstanceSet t (compileExpression instance) (compileExpression index)
   compileAssignExpressionLeftPart (IndexGet t instance index) a = compilePair IndexSet t (compileExpression instance) (compileExpression index)
 
+  -- `len`
   pub count : Expressions → ℕ
   count ∅ₑ = 0
   count (e ∷ₑ es) = suc (count es)
@@ -409,6 +416,7 @@ unfoldable mutual
   compileVariables (Bare t vs) = andThen (compileBare 1 t) (compileVariables vs)
   compileVariables (Valued t e vs) = andThen (compileValued t (compileExpression e)) (compileVariables vs)
 
+  -- `compile_statement`
   pub compileStatement : Statement → Step
   compileStatement (Local vs) = deeper (compileVariables vs)
   compileStatement (Return t) = deeper (doing (Emission.emitReturn (t .position)))

@@ -7,7 +7,7 @@ use mathlib.Core.Option.{Option, none, some}
 use mathlib.Core.List.{List, [], _∷_}
 use lib.ListN.{length}
 use lib.Dec.{eqb, ltb}
-use Rattle.words.specs.Ast.{Token, Document}
+use Rattle.words.specs.Ast.{Document}
 use Rattle.words.specs.Ast.{Definition, LocalDefinition, IncludeDefinition, ModelDefinition, PublicModelDefinition}
 use Rattle.words.specs.Ast.{PlainFunction, PublicFunction, ImplementDefinition, ApplyDefinition}
 use Rattle.words.specs.Areas.{constantsArea, errorsArea, booksArea}
@@ -27,6 +27,7 @@ dependencies (PublicFunction x ∷ ds) = []
 dependencies (ImplementDefinition x y ∷ ds) = []
 dependencies (ApplyDefinition x y ∷ ds) = []
 
+-- `documents.get`
 abbrev pub findDocument : ℕ → List Document → Option Document
 findDocument n [] = none
 findDocument n (d ∷ ds) = cond (eqb (d .filename) n) (some d) (findDocument n ds)
@@ -69,6 +70,7 @@ abbrev pub missing : List Document → List ℕ → Option ℕ
 missing ds [] = none
 missing ds (n ∷ ns) = missingBy (findDocument n ds) n (missing ds ns)
 
+-- whether all of some numbers are among others
 abbrev pub allIn : List ℕ → List ℕ → Bool
 allIn [] l = true
 allIn (n ∷ ns) l = cond (hasText n l) (allIn ns l) false
@@ -82,6 +84,7 @@ abbrev pub ready : List Document → List ℕ → List ℕ → Option Document
 ready ds done [] = none
 ready ds done (n ∷ ns) = readyBy (findDocument n ds) done (ready ds done ns)
 
+-- `set_loaded`: a book that is compiled is left no more
 abbrev pub without : ℕ → List ℕ → List ℕ
 without n [] = []
 without n (x ∷ xs) = cond (eqb x n) xs (x ∷ without n xs)
@@ -112,6 +115,7 @@ drive zero ds done left c uses = record { ending = Delivered c; uses = uses }
 drive (suc k) ds done left c uses =
     driveBy (ready ds done left) left c uses (λ d c′ uses′. drive k ds (d .filename ∷ done) (without (d .filename) left) c′ uses′)
 
+-- the file numbers of the books that stand: `get_loaded_assemblies`
 abbrev pub filesOf : List Assembly → List ℕ
 filesOf [] = []
 filesOf (a ∷ l) = a .filename ∷ filesOf l

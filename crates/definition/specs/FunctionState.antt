@@ -1,6 +1,6 @@
 -- `backend/function_state.rs`: the state of the function under compilation, and its methods under the Rust's names. A method takes the state and gives it back
-use Prim.Native.Nat.{ℕ, zero, suc, _+_, _-_}
-use mathlib.Core.Bool.{Bool, true, false, cond}
+use Prim.Native.Nat.{ℕ, _+_, _-_}
+use mathlib.Core.Bool.{Bool, false, cond}
 use mathlib.Core.Option.{Option, none, some}
 use mathlib.Core.List.{List, [], _∷_, _++_}
 use lib.ListN.{length, getD, take, set}
@@ -216,9 +216,11 @@ emitOpcodeWithoutPosition o f = emitOpcode o (getLastPosition f) f
 abbrev pub emitNull : FunctionState → FunctionState
 emitNull f = emit (toInstruction PushConstant NULL) (getLastPosition f) f
 
+-- the last instruction's opcode; 0, which none has, where there is no instruction
 abbrev pub lastOpcode : FunctionState → ℕ
 lastOpcode f = last (f .instructions) nothing .opcode
 
+-- the last instruction and its position taken off
 abbrev pub popLast : FunctionState → FunctionState
 popLast f = withCode (init (f .instructions)) (init (f .positions)) f
 
@@ -254,6 +256,7 @@ abbrev pub findName : ℕ → List Entry → Option ℕ
 findName n [] = none
 findName n (e ∷ es) = cond (eqb (e .name) n) (some (e .index)) (findName n es)
 
+-- the first of two that is there
 abbrev pub orElse : Option ℕ → Option ℕ → Option ℕ
 orElse (some i) o = some i
 orElse none o = o
@@ -281,10 +284,12 @@ exitScope f = withScopes (tail (f .scopes)) f
 abbrev pub enterBreakScope : FunctionState → FunctionState
 enterBreakScope f = withTrace (Entered ∷ f .trace) (withBreakScopes ([] ∷ f .breakScopes) f)
 
+-- `replace_instruction` of each break by a Jump to t
 abbrev pub patchAll : List ℕ → ℕ → List Instruction → List Instruction
 patchAll [] t is = is
 patchAll (b ∷ bs) t is = patchAll bs t (set is b (toInstruction Jump t))
 
+-- the innermost scope; none where there is no scope
 abbrev pub innermost : {A : Type 0} → List (List A) → List A
 innermost [] = []
 innermost (s ∷ ss) = s
@@ -296,6 +301,7 @@ exitBreakScope exit f =
     withTrace (Left exit target ∷ f .trace)
     (withBreakScopes (tail (f .breakScopes)) (withCode (patchAll (innermost (f .breakScopes)) target (f .instructions)) (f .positions) f))
 
+-- `insert` into the innermost scope
 abbrev pub insertName : Entry → List (List Entry) → List (List Entry)
 insertName e [] = []
 insertName e (s ∷ ss) = (e ∷ s) ∷ ss

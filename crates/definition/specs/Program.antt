@@ -1,13 +1,13 @@
 -- `to_program`, as the twelve areas keep it: the entries of each area, word by word (01, 'Replies of the compiler'; the words of an entry are those of
 -- `Areas` in the words layer). Areas 9 and 10 are empty then, and area 11 holds errors only after a refusal
-use Prim.Native.Nat.{ℕ, zero, suc, _+_, _-_}
+use Prim.Native.Nat.{ℕ, _+_, _-_}
 use mathlib.Core.Bool.{Bool, true, false}
 use mathlib.Core.Option.{Option, none, some}
 use mathlib.Core.List.{List, [], _∷_, _++_}
-use lib.ListN.{length, getD, replicate}
+use lib.ListN.{length, replicate}
 use Rattle.words.specs.Opcode.{Instruction, word}
 use Rattle.words.specs.Object.{Constant}
-use Rattle.definition.specs.FunctionState.{Entry, FunctionState, findName}
+use Rattle.definition.specs.FunctionState.{Entry, findName}
 use Rattle.definition.specs.Compiler.{Error}
 use Rattle.definition.specs.Book.{Function, Model, Method, Assembly, Context, hasText}
 

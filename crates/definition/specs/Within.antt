@@ -1,10 +1,10 @@
 -- Demand 3 of 01, as one claim that can be read off the words of the areas: the program keeps within itself.
 -- `Areas` and `Totals` go by area from 1. What no word shows, the loops and the reads of `this`, comes from the definition's logs (01, 'Emission':
 -- a loop is one compiling of a 24; just after it is the number following the last instruction that demand 2's definition emits for it)
-use Prim.Native.Nat.{ℕ, zero, suc, _+_, _-_, _*_, _≤_, _<_}
+use Prim.Native.Nat.{ℕ, zero, suc, _+_, _*_, _≤_, _<_}
 use mathlib.Core.Path.{_≡_}
 use mathlib.Core.Logic.{_⊎_}
-use mathlib.Core.Bool.{Bool, true, false, cond}
+use mathlib.Core.Bool.{cond}
 use mathlib.Core.List.{List, [], _∷_, _++_}
 use lib.ListN.{length, getD}
 use lib.Dec.{eqb}
@@ -16,6 +16,7 @@ use Rattle.words.specs.Opcode.{PushConstant, GlobalSet, GlobalGet}
 use Rattle.definition.specs.FunctionState.{FunctionState, Event, Entered, Broke, Left, pushBreaks, innermost, tail}
 use Rattle.definition.specs.Book.{Function}
 
+-- a claim of each of a list; a number among numbers
 pub data All {A : Type 0} (P : A → Type 0) : List A → Type 0 where
   none : All P []
   _&_ : {x : A} {xs : List A} → P x → All P xs → All P (x ∷ xs)
@@ -61,6 +62,7 @@ Within Pool c i n = n < c .constants
 Within Global c i n = n < c .context
 Within Other c i n = Unit {0}
 
+-- an instruction's operand is within its count
 abbrev pub Fits : Counts → ℕ → Instruction → Type 0
 Fits c i x = Within (classOf (x .opcode)) c i (x .operand)
 

@@ -7,7 +7,7 @@ use mathlib.Core.List.{List, [], _∷_}
 use lib.Dec.{T, ltb, eqb, lit<}
 use borrow.Author.Tests.{ne-eqb}
 use Rattle.words.specs.Opcode.{Instruction, toInstruction, word, unword}
-use Rattle.words.specs.Codes.{numberOf, opcodes, opcodeIn, opcodeOf, readWord, pickCode}
+use Rattle.words.specs.Codes.{numberOf, opcodes, opcodeIn, opcodeOf, readWord}
 use Rattle.words.specs.declared.opcode.OpCode.{OpCode}
 use Rattle.words.specs.declared.opcode.OpCode.the-variants.{
   Pop,

@@ -11,7 +11,7 @@ use borrow.Author.Tests.{lt-ltb, le-ltb, leb-false, ltb-true, ltb-false}
 use mir.Syntax.{w64}
 use mir.Val.{Fits, SFits, toZ, ofZ}
 use mir.Facts.{toZ-ofZ}
-use Rattle.words.specs.Constants.{wordOfInteger, integerOfWord, pickInteger}
+use Rattle.words.specs.Constants.{wordOfInteger, integerOfWord}
 
 -- an integer as the machine reads it back from its bits
 abbrev pub machine : ℤ → ℤ
@@ -108,13 +108,13 @@ integer-back (negsuc n) f =
 pub word-back : (w : ℕ) → w < 2 ^ 64 → wordOfInteger (integerOfWord w) ≡ w
 word-back w l = go (ltb w (2 ^ 63))
   where
-    go : (b : Bool) → wordOfInteger (pickInteger b (pos w) (negsuc (2 ^ 64 - suc w))) ≡ w
+    go : (b : Bool) → wordOfInteger (cond b (pos w) (negsuc (2 ^ 64 - suc w))) ≡ w
     go true = refl
     go false = omega arith
 
 pub integer-fits : (w : ℕ) → w < 2 ^ 64 → SFits w64 (integerOfWord w)
 integer-fits w l = go (ltb w (2 ^ 63)) refl
   where
-    go : (b : Bool) → ltb w (2 ^ 63) ≡ b → SFits w64 (pickInteger b (pos w) (negsuc (2 ^ 64 - suc w)))
+    go : (b : Bool) → ltb w (2 ^ 63) ≡ b → SFits w64 (cond b (pos w) (negsuc (2 ^ 64 - suc w)))
     go true e = record { sfits = ltb-true w (2 ^ 63) e }
     go false e = let h : 2 ^ 63 ≤ w = ltb-false w (2 ^ 63) e in record { sfits = omega arith }

@@ -63,10 +63,6 @@ mostEntries = 2 ^ 56 - 1
 abbrev pub entriesIn : ℕ → ℕ → ℕ
 entriesIn width n = min mostEntries (n / width)
 
--- entry i at a width: its words
-abbrev pub entryAt : ℕ → ℕ → List ℕ → List ℕ
-entryAt width i w = take width (drop (i * width) w)
-
 -- word k of entry i at a width; 0 outside
 abbrev pub entryWord : ℕ → ℕ → ℕ → List ℕ → ℕ
 entryWord width i k w = getD w (i * width + k) 0
@@ -100,10 +96,14 @@ pub record Written (width i : ℕ) (entry w after : List ℕ) (answer : Bool) : 
 abbrev pub wordFits : ℕ → ℕ → ℕ → ℕ → Bool
 wordFits width i k n = cond (leb width mostWidth) (cond (ltb k width) (ltb (i * width + k) n) false) false
 
+-- an area after word k of entry i was written, where it is there
+abbrev pub writeWord : ℕ → ℕ → ℕ → ℕ → List ℕ → List ℕ
+writeWord width i k value w = cond (wordFits width i k (length w)) (set w (i * width + k) value) w
+
 -- what a writer of word k of entry i answers, and the area that it leaves
 pub record Patched (width i k value : ℕ) (w after : List ℕ) (answer : Bool) : Type 0 where
   pub fitted : answer ≡ wordFits width i k (length w)
-  pub words : after ≡ cond (wordFits width i k (length w)) (set w (i * width + k) value) w
+  pub words : after ≡ writeWord width i k value w
 
 -- an area with zeros from a word on
 abbrev pub clearedFrom : ℕ → List ℕ → List ℕ

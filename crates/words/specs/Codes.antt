@@ -1,6 +1,6 @@
 -- The types that `src/opcode.rt` declares for `runtime/opcode.rs`: the number of each `OpCode`, and the word that an `Instruction` is
 use Prim.Native.Nat.{ℕ, _/_, _%_, _^_}
-use mathlib.Core.Bool.{Bool, true, false}
+use mathlib.Core.Bool.{cond}
 use mathlib.Core.List.{List, [], _∷_}
 use lib.Dec.{eqb}
 use Rattle.words.specs.declared.opcode.Instruction.{Instruction}
@@ -70,14 +70,10 @@ opcodes =
     Pop ∷ PushConstant ∷ Return ∷ LocalSet ∷ LocalGet ∷ LocalInit ∷ ContextSet ∷ ContextGet ∷ GlobalSet ∷ GlobalGet ∷ InstanceSet ∷ InstanceGet
     ∷ IndexSet ∷ IndexGet ∷ Operation ∷ Not ∷ Negative ∷ Closure ∷ Call ∷ Array ∷ PushNewMap ∷ Jump ∷ JumpIf ∷ ForNext ∷ Iterate ∷ []
 
-abbrev pub pickCode : Bool → OpCode → OpCode → OpCode
-pickCode true a b = a
-pickCode false a b = b
-
 -- the opcode among some that has a number; `Unknown` for none
 abbrev pub opcodeIn : List OpCode → ℕ → OpCode
 opcodeIn [] n = Unknown
-opcodeIn (o ∷ os) n = pickCode (eqb n (numberOf o)) o (opcodeIn os n)
+opcodeIn (o ∷ os) n = cond (eqb n (numberOf o)) o (opcodeIn os n)
 
 -- `Instruction::opcode`, of the number in the word's high 8 bits
 unfoldable pub opcodeOf : ℕ → OpCode

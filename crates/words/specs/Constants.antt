@@ -1,7 +1,7 @@
 -- The types that `src/object.rt` declares for `runtime/object.rs`: the kind and value (01, 'Emission') that each case of `Constant` is in the pool, and
 -- the constant that a pair of words is. An integer is its two's complement. Every NaN pattern is one NaN, whose own pattern is that of `toBits`
 use Prim.Native.Nat.{ℕ, suc, _-_, _^_}
-use mathlib.Core.Bool.{Bool, true, false, cond}
+use mathlib.Core.Bool.{true, false, cond}
 use lib.IntN.{ℤ, pos, negsuc}
 use lib.Ieee.{binary64, ofBits, toBits}
 use lib.Dec.{eqb, ltb}
@@ -17,12 +17,8 @@ abbrev pub wordOfInteger : ℤ → ℕ
 wordOfInteger (pos n) = n
 wordOfInteger (negsuc n) = 2 ^ 64 - suc n
 
-abbrev pub pickInteger : Bool → ℤ → ℤ → ℤ
-pickInteger true a b = a
-pickInteger false a b = b
-
 abbrev pub integerOfWord : ℕ → ℤ
-integerOfWord w = pickInteger (ltb w (2 ^ 63)) (pos w) (negsuc (2 ^ 64 - suc w))
+integerOfWord w = cond (ltb w (2 ^ 63)) (pos w) (negsuc (2 ^ 64 - suc w))
 
 -- the kind and the value of each case
 abbrev pub kindOf : Constant → ℕ
@@ -47,22 +43,18 @@ valueOf (Function f) = f
 abbrev pub encodeOf : Constant → pool.Constant
 encodeOf c = constantOf (kindOf c) (valueOf c)
 
-abbrev pub pick : Bool → Decoded → Decoded → Decoded
-pick true a b = a
-pick false a b = b
-
 -- the kinds that hold a number: a text's, a model's or a function's
 unfoldable pub numberedOf : ℕ → ℕ → Decoded
 numberedOf k n =
-    pick (eqb k textKind) (Is (Text n))
-    (pick (eqb k modelKind) (Is (Model n))
-    (pick (eqb k functionKind) (Is (Function n)) NoConstant))
+    cond (eqb k textKind) (Is (Text n))
+    (cond (eqb k modelKind) (Is (Model n))
+    (cond (eqb k functionKind) (Is (Function n)) NoConstant))
 
 -- the constant that a kind and a value are; such a number has 32 bits
 unfoldable pub decodeOf : ℕ → ℕ → Decoded
 decodeOf k v =
-    pick (eqb k nullKind) (pick (eqb v 0) (Is Null) NoConstant)
-    (pick (eqb k booleanKind) (pick (eqb v 0) (Is (Boolean false)) (pick (eqb v 1) (Is (Boolean true)) NoConstant))
-    (pick (eqb k integerKind) (Is (Integer (integerOfWord v)))
-    (pick (eqb k floatKind) (Is (Float (ofBits binary64 v)))
-    (pick (ltb v (2 ^ 32)) (numberedOf k v) NoConstant))))
+    cond (eqb k nullKind) (cond (eqb v 0) (Is Null) NoConstant)
+    (cond (eqb k booleanKind) (cond (eqb v 0) (Is (Boolean false)) (cond (eqb v 1) (Is (Boolean true)) NoConstant))
+    (cond (eqb k integerKind) (Is (Integer (integerOfWord v)))
+    (cond (eqb k floatKind) (Is (Float (ofBits binary64 v)))
+    (cond (ltb v (2 ^ 32)) (numberedOf k v) NoConstant))))

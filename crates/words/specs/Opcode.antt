@@ -1,4 +1,5 @@
--- `runtime/opcode.rs`: opcodes, operations and the instruction word (01, 'Emission': opcode × 2^56 + operand)
+-- `runtime/opcode.rs`: opcodes, operations and the instruction word (01, 'Emission': opcode × 2^56 + operand). Opcodes whose names the tree has too end
+-- in `Op`
 use Prim.Native.Nat.{ℕ, _+_, _*_, _/_, _%_, _^_}
 
 pub record Instruction : Type 0 where
@@ -13,7 +14,7 @@ toInstruction o n = record { opcode = o; operand = n }
 unfoldable pub word : Instruction → ℕ
 word i = i .opcode * 2 ^ 56 + i .operand % 2 ^ 56
 
--- `Instruction::opcode` and `Instruction::operand`, of a word of 64 bits
+-- `Instruction::opcode`, by its number, and `Instruction::operand`, of a word of 64 bits
 unfoldable pub unword : ℕ → Instruction
 unword w = record { opcode = w / 2 ^ 56; operand = w % 2 ^ 56 }
 
@@ -102,7 +103,7 @@ ForNext = 0x56
 abbrev pub Iterate : ℕ
 Iterate = 0x57
 
--- operations
+-- the operations, in the Rust's order
 abbrev pub OPERATION_ADD : ℕ
 OPERATION_ADD = 0
 

@@ -29,7 +29,7 @@ pub const OPERATION_AND: u64 = 257;
 pub const OPERATION_OR: u64 = 258;
 
 // What an opcode of one is worth in an instruction's word: 2^56.
-const OPCODE_UNIT: u64 = 72057594037927936;
+pub const OPCODE_UNIT: u64 = 72057594037927936;
 
 // A word of code. Only `OpCode::to_instruction` makes one, so that it is not confused with an operand or an index.
 pub struct Instruction(u64);
