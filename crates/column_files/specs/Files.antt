@@ -10,7 +10,7 @@ use Rattle.column_lines.specs.Line.{readLine, recordLine}
 use Rattle.column_lines.specs.declared.line.Line.{Line}
 use Rattle.column_lines.specs.declared.line.Line.the-variants.{Record, Bad}
 
--- how many whole lines a file has, or a rest of one
+-- how many whole lines a file has; a rest of one does not count
 abbrev pub linesIn : List ℕ → ℕ
 linesIn file = length file / lineLength
 

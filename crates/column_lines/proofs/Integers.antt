@@ -3,7 +3,7 @@ use Prim.Native.Nat.{ℕ, zero, suc, _+_, _-_, _*_, _/_, _%_, _^_, _≤_, _<_}
 use native.Mathlib.Nat.{zero-add}
 use native.Mathlib.Omega.{arith}
 use mathlib.Core.Path.{_≡_, refl, sym, ap, subst, _∙_}
-use mathlib.Core.Bool.{Bool, true, false}
+use mathlib.Core.Bool.{Bool, true, false, cond}
 use lib.IntN.{ℤ, pos, negsuc, negℤ, natAbs, _-ℤ_, _*ℤ_, negℤ-+ℤ}
 use lib.Signed.{ltZ, nonNeg, quotZ, remZ}
 use lib.Dec.{T, ltb, leb}
@@ -11,7 +11,7 @@ use borrow.Author.Tests.{le-ltb, le-leb, lt-leb, leb-true, leb-false, ltb-true, 
 use mir.Syntax.{w64}
 use mir.Val.{Fits, SFits, ofZ, toZ}
 use mir.ValLaws.{toZ-ofZ, toZ-pos, toZ-neg}
-use Rattle.words.specs.Constants.{wordOfInteger, integerOfWord, pickInteger}
+use Rattle.words.specs.Constants.{wordOfInteger, integerOfWord}
 use Rattle.column_lines.specs.Numeral.{leastSize}
 
 -- what a local of the machine holds is read back
@@ -210,7 +210,7 @@ module _ (w : ℕ) (l : leastSize ≤ w) (g : w < 18446744073709551616) where
   integer-same =
       let t : ltb w (2 ^ 63) ≡ false = le-ltb w (2 ^ 63) l in
       let x : 2 ^ 64 - suc w ≡ 18446744073709551615 - w = omega arith in
-      ap (λ (b : Bool). pickInteger b (pos w) (negsuc (2 ^ 64 - suc w))) t ∙ ap negsuc x ∙ sym integer-is
+      ap (λ (b : Bool). cond b (pos w) (negsuc (2 ^ 64 - suc w))) t ∙ ap negsuc x ∙ sym integer-is
 
 -- the word of an integer is what the machine holds
 pub word-same : (z : ℤ) → wordOfInteger z ≡ ofZ w64 z

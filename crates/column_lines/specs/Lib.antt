@@ -1,4 +1,4 @@
--- Column files of 01, 'The tree': their numbers, their lines, and what the two converters answer
+-- Column files of 01, 'The tree': their numbers and their lines. What the two converters answer stands in `column_files`
 pub mod Numeral
 pub mod Form
 pub mod Line

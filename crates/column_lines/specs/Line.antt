@@ -1,7 +1,7 @@
 -- A line of a column file and the record that it spells (01, 'Column file')
-use Prim.Native.Nat.{ℕ, zero, suc, _+_, _*_, _/_, _<_}
+use Prim.Native.Nat.{ℕ}
 use mathlib.Core.Path.{_≡_}
-use mathlib.Core.Bool.{Bool, true, false, cond, _&&_}
+use mathlib.Core.Bool.{Bool, false, cond, _&&_}
 use mathlib.Core.List.{List, [], _∷_, _++_}
 use lib.ListN.{length, take, drop, getD}
 use lib.Dec.{eqb, ltb}
@@ -18,6 +18,7 @@ use Rattle.column_lines.specs.declared.line.Line.the-variants.{Record, B
 abbrev pub fieldIn : ℕ → ℕ → List ℕ → List ℕ
 fieldIn place width l = take width (drop place l)
 
+-- whether the value of a kind is signed
 abbrev pub signedIs : Number → Bool
 signedIs (Word kind) = eqb kind signedKind
 signedIs Off = false
@@ -28,6 +29,7 @@ positionIn (Word line) (Word column) = cond (ltb line positionBase) (cond (ltb c
 positionIn (Word line) Off = Off
 positionIn Off column = Off
 
+-- a record, where every field is a number
 unfoldable pub recordIn : Number → Number → Number → Number → Line
 recordIn (Word kind) (Word span) (Word position) (Word value) = Record kind span position value
 recordIn (Word kind) (Word span) (Word position) Off = Bad
@@ -52,6 +54,7 @@ valueIn l = readNumeral (signedIs (kindIn l)) (fieldIn valuePlace valueWidth l)
 abbrev pub wholeLine : List ℕ → Bool
 wholeLine l = eqb (length l) lineLength && eqb (getD l newlinePlace 0) newline
 
+-- `read_line`
 unfoldable pub readLine : List ℕ → Line
 readLine l = cond (wholeLine l) (recordIn (kindIn l) (spanIn l) (placeIn l) (valueIn l)) Bad
 

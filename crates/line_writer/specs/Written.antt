@@ -36,15 +36,17 @@ lastWidth = 21
 abbrev pub fieldAt : ℕ → Placed → Placed
 fieldAt word m = numberAt fieldWidth false word m
 
+-- `write_line`: the eight numbers of a line and its newline, one after the other
 unfoldable pub lineAt : Fields → Placed → Placed
 lineAt l m =
     byteAt newline (numberAt lastWidth (l .signed) (l .last) (fieldAt (l .sixth) (fieldAt (l .fifth) (fieldAt (l .fourth) (fieldAt (l .third)
     (fieldAt (l .second) (fieldAt (l .first) (numberAt sectionWidth false (l .section) m))))))))
 
--- a line's bytes behind others, one field after the other; and that no number is wider than its field
+-- a line's bytes: 4, six of 8, 21 and the newline
 abbrev pub lineSize : ℕ
 lineSize = 74
 
+-- a line's bytes behind others, one field after the other
 abbrev pub fieldBehind : List ℕ → ℕ → List ℕ
 fieldBehind before word = before ++ numeral fieldWidth false word
 
@@ -56,6 +58,7 @@ abbrev pub lineBehind : List ℕ → Fields → List ℕ
 lineBehind before l =
     (sixBehind (before ++ numeral sectionWidth false (l .section)) l ++ numeral lastWidth (l .signed) (l .last)) ++ (newline ∷ [])
 
+-- no number of a line is wider than its field
 pub record LineFits (l : Fields) : Type 0 where
   pub section : numeralFits sectionWidth false (l .section) ≡ true
   pub first : numeralFits fieldWidth false (l .first) ≡ true

@@ -1,6 +1,6 @@
 -- The lines of 01's listing as data: eight numbers each, from the reply and the words of the areas ('unused fields 0'; 'Sections ascend, then indices').
 -- docs/FORMAT.md has the words of an entry
-use Prim.Native.Nat.{ℕ, zero, suc, _+_, _/_}
+use Prim.Native.Nat.{ℕ, zero, suc, _/_}
 use mathlib.Core.Bool.{Bool, true, false, cond}
 use mathlib.Core.List.{List, [], _∷_, _++_}
 use lib.ListN.{length}

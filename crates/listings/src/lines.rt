@@ -16,6 +16,7 @@ use words::areas::METHOD_WORDS;
 use words::areas::MODEL_WORDS;
 use words::areas::PROPERTY_WORDS;
 use words::areas::entry_word;
+use words::opcode::OPCODE_UNIT;
 use words::program::function_record;
 use words::record::column_of;
 use words::record::line_of;
@@ -44,9 +45,6 @@ pub const GLOBAL: u64 = 9;
 pub const FILE: u64 = 10;
 
 pub const ERROR: u64 = 11;
-
-// What an opcode of one is worth in an instruction's word: 2^56.
-const OPCODE_UNIT: u64 = 72057594037927936;
 
 // The kinds of an integer constant and of an integer token.
 const INTEGER_CONSTANT: u64 = 2;
