@@ -53,7 +53,7 @@ loopName x t n w =
     let w₁ = emitOpcodeWithoutPosition JumpIf (loopNext x t n w) in
     emitOpcodeWithoutPosition Pop (emit (toInstruction LocalSet (getOr 0 (defineLocal (n .value) (w .function) .found))) (n .position) w₁)
 
--- a local's number, or 0
+-- `found_or_zero`: a local's number, or 0
 abbrev pub foundOrZero : Found → ℕ
 foundOrZero (At i) = i
 foundOrZero Nothing = 0

@@ -38,7 +38,7 @@ pub record MeetsBlock (tree : List ℕ) (at end start count : ℕ) (locals : Lis
 pub record MeetsS (tree : List ℕ) (at end start count : ℕ) (locals : List ℕ) (m m′ : Machine) : Type 0 where
   pub meets : (s : Statement) → StatementAt s tree at → at + sizeS s ≡ end → Does start count locals m m′ (compileStatement s)
 
--- `infix` and `if_part`: an expression of one kind
+-- `infix_part` and `if_part`: an expression of one kind
 pub record MeetsKind (kind : ℕ) (tree : List ℕ) (at end start count : ℕ) (locals : List ℕ) (m m′ : Machine) : Type 0 where
   pub meets : (e : Expression) → kindE e ≡ kind → ExpressionAt e tree at → at + sizeE e ≡ end → Does start count locals m m′ (compileExpression e)
 
