@@ -4,9 +4,9 @@ use mathlib.Core.Bool.{Bool, true, false, cond, not, _&&_}
 use mathlib.Core.List.{List}
 use Prim.Native.Nat.{ℕ, zero, suc, _+_, _-_, _*_, _%_, _≤_, _<_}
 use native.Mathlib.Omega.{arith}
-use lib.ListN.{length, getD}
+use lib.ListN.{getD}
 use lib.Dec.{leb, ltb}
-use borrow.Author.Tests.{le-leb, lt-leb, not-true, not-false}
+use borrow.Author.Tests.{lt-ltb, le-leb, lt-leb, not-true, not-false}
 use Rattle.words.specs.Record.{fieldOf, kindAt, spanAt, positionAt, valueAt, mostLevels}
 use Rattle.tree.specs.Rules.{slotOf, ruleOf, mayStand, goesOn, slotAfter, isDue, firstSlot, inRange}
 use Rattle.tree.specs.Rows.{slotRow, ruleRow, holdsIn, rangeIn}
@@ -16,7 +16,7 @@ use Rattle.tree.specs.declared.Outcome.{Outcome}
 use Rattle.tree.specs.declared.Outcome.the-variants.{Went, Fault}
 use Rattle.tree.proofs.Spans.{and-left, and-right, within-true}
 use Rattle.tree.proofs.Tables.{hold-row, range-row, first-row}
-use Rattle.tree.proofs.Walks.{lacks-done, lacks-on, walk-done, walk-on, walk-unsound, head-unsound, head-deep, head-fine}
+use Rattle.tree.proofs.Walks.{lacks-done, lacks-on, walk-done, walk-on, walk-unsound}
 
 -- blame, settle
 
@@ -49,24 +49,16 @@ and-none {a} y A n = let f : a ≡ false = not-true a n in rw (← A, f)
 pub and-some : {a x r : Bool} (y : Bool) → a ≡ x → not a ≡ false → r ≡ y → r ≡ (x && y)
 and-some {a} y A n R = let f : a ≡ true = not-false a n in rw (← A, f) R
 
--- the four words of a record, where they are read in place
+-- the four words of a record, read in place
 
-module _ (w : List ℕ) (i : ℕ) where
-  pub read-kind : getD w (i * 4) 0 ≡ kindAt w i
-  unfolding fieldOf
-  read-kind = let z : i * 4 ≡ i * 4 + 0 = omega arith in ap (λ (n : ℕ). getD w n 0) z
+abbrev pub word : List ℕ → ℕ → ℕ → ℕ
+word w i zero = getD w (i * 4) 0
+word w i (suc n) = getD w (i * 4 + suc n) 0
 
-  pub read-span : getD w (i * 4 + 1) 0 ≡ spanAt w i
-  unfolding fieldOf
-  read-span = refl
-
-  pub read-position : getD w (i * 4 + 2) 0 ≡ positionAt w i
-  unfolding fieldOf
-  read-position = refl
-
-  pub read-value : getD w (i * 4 + 3) 0 ≡ valueAt w i
-  unfolding fieldOf
-  read-value = refl
+read : (w : List ℕ) (i n : ℕ) → n < 4 → word w i n ≡ fieldOf w i n
+unfolding fieldOf
+read w i zero h = let z : i * 4 ≡ i * 4 + 0 = omega arith in ap (λ (m : ℕ). getD w m 0) z
+read w i (suc n) h = simp (lt-ltb (suc n) 4 h)
 
 -- no documents are lacking
 
@@ -122,12 +114,21 @@ walk-turn w s l t i e h x =
     (in-turn (lacksOf w (firstSlot (kindAt w i)) (i + 1) (i + spanAt w i)) (leb l mostLevels) (thisAfter (kindAt w i) (valueAt w i) t) i
     (λ t₁. walkOf w (firstSlot (kindAt w i)) (l + 1) t₁ (i + 1) (i + spanAt w i)) (λ t₂. walkOf w (slotAfter s (kindAt w i)) l t₂ (i + spanAt w i) e))
 
-module _ (w : List ℕ) (s l t i e : ℕ) {k sp p v row rule : ℕ} (h : i < e) (K : k ≡ kindAt w i) (S : sp ≡ spanAt w i) (P : p ≡ positionAt w i)
-    (X : v ≡ valueAt w i) (R : row ≡ slotRow (slotOf s)) (Q : rule ≡ ruleRow (ruleOf k))
-    {b : Bool} (B : b ≡ (holdsIn row k && (withinOf i sp e && (rangeIn rule p v && sameThis k v t)))) where
+module _ (w : List ℕ) (s l t i e : ℕ) {row rule : ℕ} (h : i < e) (R : row ≡ slotRow (slotOf s)) (Q : rule ≡ ruleRow (ruleOf (word w i 0)))
+    {b : Bool} (B : b ≡ (holdsIn row (word w i 0) && (withinOf i (word w i 1) e && (rangeIn rule (word w i 2) (word w i 3)
+    && sameThis (word w i 0) (word w i 3) t)))) where
+  K : word w i 0 ≡ kindAt w i
+  K = read w i 0 (omega arith)
+
+  S : word w i 1 ≡ spanAt w i
+  S = read w i 1 (omega arith)
+
+  X : word w i 3 ≡ valueAt w i
+  X = read w i 3 (omega arith)
+
   told : b ≡ (mayStand s (kindAt w i) && (withinOf i (spanAt w i) e && (inRange (kindAt w i) (positionAt w i) (valueAt w i)
       && sameThis (kindAt w i) (valueAt w i) t)))
-  told = B ∙ rw (hold-row s k R, range-row k p v Q, K, S, P, X)
+  told = B ∙ rw (hold-row s (word w i 0) R, range-row (word w i 0) (word w i 2) (word w i 3) Q, K, S, read w i 2 (omega arith), X)
 
   sound-is : soundAt w s t i e ≡ (b && not (lacksOf w (firstSlot (kindAt w i)) (i + 1) (i + spanAt w i)))
   unfolding soundAt
@@ -138,20 +139,17 @@ module _ (w : List ℕ) (s l t i e : ℕ) {k sp p v row rule : ℕ} (h : i < e) 
   walk-fails q n = let f : b ≡ false = not-true b n in rw (walk-unsound w s l t i e h (sound-is ∙ simp f))
 
   module _ (n : not b ≡ false) where
-    all : (mayStand s (kindAt w i) && (withinOf i (spanAt w i) e && (inRange (kindAt w i) (positionAt w i) (valueAt w i)
-        && sameThis (kindAt w i) (valueAt w i) t))) ≡ true
-    all = sym told ∙ not-false b n
+    whole : withinOf i (spanAt w i) e ≡ true
+    whole = and-left _ _ (and-right (mayStand s (kindAt w i)) _ (sym told ∙ not-false b n))
 
-    inner-within : withinOf i (spanAt w i) e ≡ true
-    inner-within = and-left _ _ (and-right (mayStand s (kindAt w i)) _ all)
+    pub walk-span : (0 < word w i 1) × (i + word w i 1 ≤ e)
+    walk-span = let x = within-true i (spanAt w i) e whole in let y = S in (omega arith, omega arith)
 
-    pub walk-span : (0 < sp) × (i + sp ≤ e)
-    walk-span = let x = within-true i (spanAt w i) e inner-within in (omega arith, omega arith)
-
-    module _ {u f : ℕ} (U : u ≡ thisAfter k v t) (F : f ≡ rule % 32) {o : Outcome}
-        (O : o ≡ blamed w f i (i + 1) (i + sp) (cond (leb l mostLevels) (walkOf w f (l + 1) u (i + 1) (i + sp)) (Fault 4 i))) where
+    module _ {u f : ℕ} (U : u ≡ thisAfter (word w i 0) (word w i 3) t) (F : f ≡ rule % 32) {o : Outcome}
+        (O : o ≡ blamed w f i (i + 1) (i + word w i 1)
+        (cond (leb l mostLevels) (walkOf w f (l + 1) u (i + 1) (i + word w i 1)) (Fault 4 i))) where
       first-is : f ≡ firstSlot (kindAt w i)
-      first-is = F ∙ first-row k Q ∙ ap firstSlot K
+      first-is = F ∙ first-row (word w i 0) Q ∙ ap firstSlot K
 
       this-is : u ≡ thisAfter (kindAt w i) (valueAt w i) t
       this-is = U ∙ rw (K, X)
@@ -164,7 +162,7 @@ module _ (w : List ℕ) (s l t i e : ℕ) {k sp p v row rule : ℕ} (h : i < e) 
       pub walk-found : (q : ℕ) {r z : ℕ} → o ≡ Fault r z → blamed w s q i e (Fault r z) ≡ blamed w s q i e (walkOf w s l t i e)
       walk-found q g = rw (walk-then, g)
 
-      pub walk-past : (q : ℕ) {x y : ℕ} → o ≡ Went x → y ≡ slotAfter s k
-          → blamed w s q i e (walkOf w s l t i e) ≡ blamed w y q (i + sp) e (walkOf w y l x (i + sp) e)
+      pub walk-past : (q : ℕ) {x y : ℕ} → o ≡ Went x → y ≡ slotAfter s (word w i 0)
+          → blamed w s q i e (walkOf w s l t i e) ≡ blamed w y q (i + word w i 1) e (walkOf w y l x (i + word w i 1) e)
       unfolding blamed
-      walk-past q g Y = rw (walk-then, g, lacks-on w s i e h inner-within, Y, K, S)
+      walk-past q g Y = rw (walk-then, g, lacks-on w s i e h whole, Y, K, S)

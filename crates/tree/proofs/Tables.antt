@@ -151,17 +151,21 @@ none-past k (x ∷ xs) t h =
 
 -- may_stand
 
+pub may-past : (s k : ℕ) → 50 ≤ k → false ≡ mayStand s k
+unfolding mayStand
+may-past s k h = sym (none-past k (slotOf s .kinds) (every-slot s .past) h)
+
+may-bit : (s k : ℕ) → k < 50 → bit (slotRow (slotOf s)) k ≡ mayStand s k
+unfolding mayStand
+may-bit s k h = same-is _ _ (below-at (λ j. same (bit (slotRow (slotOf s)) j) (has j (slotOf s .kinds))) 50 (every-slot s .kinds) k h)
+
 hold-bit : (s k : ℕ) → holdsIn (slotRow (slotOf s)) k ≡ mayStand s k
-unfolding holdsIn mayStand
+unfolding holdsIn
 hold-bit s k = go (decLt k 50)
   where
-    go : Dec (k < 50) → (ltb k 50 && bit (slotRow (slotOf s)) k) ≡ has k (slotOf s .kinds)
-    go (yes h) =
-        simp (lt-ltb k 50 h)
-        (same-is _ _ (below-at (λ j. same (bit (slotRow (slotOf s)) j) (has j (slotOf s .kinds))) 50 (every-slot s .kinds) k h))
-    go (no h) =
-        let l : 50 ≤ k = omega (arith, h) in
-        simp (le-ltb k 50 l) (sym (none-past k (slotOf s .kinds) (every-slot s .past) l))
+    go : Dec (k < 50) → (ltb k 50 && bit (slotRow (slotOf s)) k) ≡ mayStand s k
+    go (yes h) = simp (lt-ltb k 50 h) (may-bit s k h)
+    go (no h) = let l : 50 ≤ k = omega (arith, h) in simp (le-ltb k 50 l) (may-past s k l)
 
 pub hold-row : (s k : ℕ) {r : ℕ} → r ≡ slotRow (slotOf s) → holdsIn r k ≡ mayStand s k
 hold-row s k q = ap (λ (x : ℕ). holdsIn x k) q ∙ hold-bit s k

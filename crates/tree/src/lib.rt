@@ -1,5 +1,6 @@
 // Rows 2, 3 and 4 of 01 on any words: `check` goes once over the records, in their order. At each it looks at the record by itself
-// (`sound`: row 3), at its level (row 4), and then at its children, one level down.
+// (`stands`: row 3), at its level (row 4), and then at its children, one level down. That a child is lacking, which is row 3 at the parent, shows after the
+// last child; where one of them is at fault, `blame` goes on over the others to see it.
 use words::record::POSITION;
 use words::record::RECORD_WORDS;
 use words::record::SPAN;

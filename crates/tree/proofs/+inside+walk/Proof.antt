@@ -5,7 +5,7 @@ use mathlib.Core.Path.{_≡_, refl, sym, _∙_}
 use Prim.Native.Nat.{_≤_, _-_, _+_, _*_, ℕ, _<_}
 use Rattle.tree.specs.Check.{walkOf}
 use Rattle.tree.specs.Children.{blamed}
-use Rattle.tree.proofs.Lacking.{blame-done, inside-low, inside-on, read-kind, read-span, read-position, read-value, walk-fails, walk-span, walk-found, walk-past}
+use Rattle.tree.proofs.Lacking.{blame-done, inside-low, inside-on, walk-fails, walk-span, walk-found, walk-past}
 use borrow.Fn.Kinds.{In}
 use borrow.Fn.PlainCycle.{Measures, is, falls, and}
 use Rattle.tree.proofs.inside.Reads as inside
@@ -104,11 +104,11 @@ walk-returns t c =
     let c9 = c .before .before .before .before .before .before .before .before .before in
     let c10 = c9 .before in
     let c12 = c10 .before .before in
-    c .blame .ensures ∙ walk-fails (c12 .args .tree .now) (c10 .loop .s) (c12 .args .level) (c10 .loop .t) (c10 .loop .i) (c12 .args .end)
-    (c9 .loop-test .taken)
-    (read-kind (c12 .args .tree .now) (c10 .loop .i)) (read-span (c12 .args .tree .now) (c10 .loop .i)) (read-position (c12 .args .tree .now) (c10 .loop .i))
-    (read-value (c12 .args .tree .now) (c10 .loop .i)) (c .before .before .before .before .slot-row .ensures) (c .before .before .before .rule-row .ensures)
-    (c .before .before .stands .ensures) (c12 .args .parent) (c .before .if1 .taken) ∙ sym (c10 .loop .inv .1)
+    c .blame .ensures
+    ∙ walk-fails (c12 .args .tree .now) (c10 .loop .s) (c12 .args .level) (c10 .loop .t) (c10 .loop .i) (c12 .args .end)
+    (c9 .loop-test .taken) (c .before .before .before .before .slot-row .ensures) (c .before .before .before .rule-row .ensures)
+    (c .before .before .stands .ensures) (c12 .args .parent) (c .before .if1 .taken)
+    ∙ sym (c10 .loop .inv .1)
 
 walk-add-inside : (t : ℕ) → walk-lts.Need-add-inside (walk-calls t) (walk-at t) walk.Post walk-Inv-loop walk-μ-loop
 walk-add-inside t c =
@@ -118,9 +118,8 @@ walk-add-inside t c =
     let c13 = c11 .before .before in
     omega (
       arith,
-      walk-span (c13 .args .tree .now) (c11 .loop .s) (c13 .args .level) (c11 .loop .t) (c11 .loop .i) (c13 .args .end) (c10 .loop-test .taken)
-          (read-kind (c13 .args .tree .now) (c11 .loop .i)) (read-span (c13 .args .tree .now) (c11 .loop .i)) (read-position (c13 .args .tree .now) (c11 .loop .i))
-          (read-value (c13 .args .tree .now) (c11 .loop .i)) (c5 .slot-row .ensures) (c .before .before .before .before .rule-row .ensures)
+      walk-span (c13 .args .tree .now) (c11 .loop .s) (c13 .args .level) (c11 .loop .t) (c11 .loop .i) (c13 .args .end)
+          (c10 .loop-test .taken) (c5 .slot-row .ensures) (c .before .before .before .before .rule-row .ensures)
           (c .before .before .before .stands .ensures) (c .before .before .if1 .left),
       c13 .fits .end,
     )
@@ -133,9 +132,8 @@ walk-inside-requires t c κs =
     let c13 = c11 .before .before in (
       omega (
         arith,
-        walk-span (c13 .args .tree .now) (c11 .loop .s) (c13 .args .level) (c11 .loop .t) (c11 .loop .i) (c13 .args .end) (c10 .loop-test .taken)
-            (read-kind (c13 .args .tree .now) (c11 .loop .i)) (read-span (c13 .args .tree .now) (c11 .loop .i)) (read-position (c13 .args .tree .now) (c11 .loop .i))
-            (read-value (c13 .args .tree .now) (c11 .loop .i)) (c5 .slot-row .ensures) (c .before .before .before .before .rule-row .ensures)
+        walk-span (c13 .args .tree .now) (c11 .loop .s) (c13 .args .level) (c11 .loop .t) (c11 .loop .i) (c13 .args .end)
+            (c10 .loop-test .taken) (c5 .slot-row .ensures) (c .before .before .before .before .rule-row .ensures)
             (c .before .before .before .stands .ensures) (c .before .before .if1 .left),
         c11 .loop .inv .0,
         c13 .pre .0,
@@ -143,17 +141,14 @@ walk-inside-requires t c κs =
       (
         omega (
           arith,
-          walk-span (c13 .args .tree .now) (c11 .loop .s) (c13 .args .level) (c11 .loop .t) (c11 .loop .i) (c13 .args .end) (c10 .loop-test .taken)
-              (read-kind (c13 .args .tree .now) (c11 .loop .i)) (read-span (c13 .args .tree .now) (c11 .loop .i)) (read-position (c13 .args .tree .now) (c11 .loop .i))
-              (read-value (c13 .args .tree .now) (c11 .loop .i)) (c5 .slot-row .ensures) (c .before .before .before .before .rule-row .ensures)
+          walk-span (c13 .args .tree .now) (c11 .loop .s) (c13 .args .level) (c11 .loop .t) (c11 .loop .i) (c13 .args .end)
+              (c10 .loop-test .taken) (c5 .slot-row .ensures) (c .before .before .before .before .rule-row .ensures)
               (c .before .before .before .stands .ensures) (c .before .before .if1 .left),
         ),
         omega (
           arith,
-          walk-span (c13 .args .tree .now) (c11 .loop .s)
-              (c13 .args .level) (c11 .loop .t) (c11 .loop .i) (c13 .args .end) (c10 .loop-test .taken)
-              (read-kind (c13 .args .tree .now) (c11 .loop .i)) (read-span (c13 .args .tree .now) (c11 .loop .i)) (read-position (c13 .args .tree .now) (c11 .loop .i))
-              (read-value (c13 .args .tree .now) (c11 .loop .i)) (c5 .slot-row .ensures) (c .before .before .before .before .rule-row .ensures)
+          walk-span (c13 .args .tree .now) (c11 .loop .s) (c13 .args .level) (c11 .loop .t) (c11 .loop .i) (c13 .args .end)
+              (c10 .loop-test .taken) (c5 .slot-row .ensures) (c .before .before .before .before .rule-row .ensures)
               (c .before .before .before .stands .ensures) (c .before .before .if1 .left),
           c13 .pre .1,
         ),
@@ -172,11 +167,11 @@ walk-returns-2 t c =
     let c16 = c15 .before in
     let c18 = c16 .before .before in
     c .blame2 .ensures
-    ∙ walk-found (c18 .args .tree .now) (c16 .loop .s) (c18 .args .level) (c16 .loop .t) (c16 .loop .i) (c18 .args .end) (c15 .loop-test .taken)
-    (read-kind (c18 .args .tree .now) (c16 .loop .i)) (read-span (c18 .args .tree .now) (c16 .loop .i)) (read-position (c18 .args .tree .now) (c16 .loop .i))
-    (read-value (c18 .args .tree .now) (c16 .loop .i)) (c10 .slot-row .ensures) (c9 .rule-row .ensures) (c8 .stands .ensures) (c7 .if1 .left)
-    (c6 .this-after .ensures) (c5 .row-first .ensures) (c .before .before .before .before .inside .ensures) (c18 .args .parent)
-    (c .before .before .inner2 .given .1) ∙ sym (c16 .loop .inv .1)
+    ∙ walk-found (c18 .args .tree .now) (c16 .loop .s) (c18 .args .level) (c16 .loop .t) (c16 .loop .i) (c18 .args .end)
+    (c15 .loop-test .taken) (c10 .slot-row .ensures) (c9 .rule-row .ensures)
+    (c8 .stands .ensures) (c7 .if1 .left) (c6 .this-after .ensures) (c5 .row-first .ensures) (c .before .before .before .before .inside .ensures)
+    (c18 .args .parent) (c .before .before .inner2 .given .1)
+    ∙ sym (c16 .loop .inv .1)
 
 walk-add-i : (t : ℕ) → walk-lts.Need-add-i (walk-calls t) (walk-at t) walk.Post walk-Inv-loop walk-μ-loop
 walk-add-i t c =
@@ -189,9 +184,9 @@ walk-add-i t c =
     let c18 = c16 .before .before in
     omega (
       arith,
-      walk-span (c18 .args .tree .now) (c16 .loop .s) (c18 .args .level) (c16 .loop .t) (c16 .loop .i) (c18 .args .end) (c15 .loop-test .taken)
-          (read-kind (c18 .args .tree .now) (c16 .loop .i)) (read-span (c18 .args .tree .now) (c16 .loop .i)) (read-position (c18 .args .tree .now) (c16 .loop .i))
-          (read-value (c18 .args .tree .now) (c16 .loop .i)) (c10 .slot-row .ensures) (c9 .rule-row .ensures) (c8 .stands .ensures) (c7 .if1 .left),
+      walk-span (c18 .args .tree .now) (c16 .loop .s) (c18 .args .level) (c16 .loop .t) (c16 .loop .i) (c18 .args .end)
+          (c15 .loop-test .taken) (c10 .slot-row .ensures) (c9 .rule-row .ensures)
+          (c8 .stands .ensures) (c7 .if1 .left),
       c18 .fits .end,
     )
 
@@ -206,10 +201,9 @@ walk-loop-less t c =
     let c18 = c16 .before .before in
     omega (
       arith,
-      walk-span (c18 .args .tree .now) (c16 .loop .s) (c18 .args .level) (c16 .loop .t) (c16 .loop .i) (c18 .args .end) (c15 .loop-test .taken)
-          (read-kind (c18 .args .tree .now) (c16 .loop .i)) (read-span (c18 .args .tree .now) (c16 .loop .i)) (read-position (c18 .args .tree .now) (c16 .loop .i))
-          (read-value (c18 .args .tree .now) (c16 .loop .i)) (c10 .slot-row .ensures) (c9 .rule-row .ensures) (c8 .stands .ensures) (c7 .if1 .left),
-      c15 .loop-test .taken,
+      walk-span (c18 .args .tree .now) (c16 .loop .s) (c18 .args .level) (c16 .loop .t) (c16 .loop .i) (c18 .args .end)
+          (c15 .loop-test .taken) (c10 .slot-row .ensures) (c9 .rule-row .ensures)
+          (c8 .stands .ensures) (c7 .if1 .left),
     )
 
 walk-loop-again : (t : ℕ) → walk-lts.Need-loop-again (walk-calls t) (walk-at t) walk.Post walk-Inv-loop walk-μ-loop
@@ -225,17 +219,16 @@ walk-loop-again t c =
     let c18 = c16 .before .before in (
       omega (
         arith,
-        walk-span (c18 .args .tree .now) (c16 .loop .s) (c18 .args .level) (c16 .loop .t) (c16 .loop .i) (c18 .args .end) (c15 .loop-test .taken)
-            (read-kind (c18 .args .tree .now) (c16 .loop .i)) (read-span (c18 .args .tree .now) (c16 .loop .i)) (read-position (c18 .args .tree .now) (c16 .loop .i))
-            (read-value (c18 .args .tree .now) (c16 .loop .i)) (c10 .slot-row .ensures) (c9 .rule-row .ensures) (c8 .stands .ensures) (c7 .if1 .left),
+        walk-span (c18 .args .tree .now) (c16 .loop .s) (c18 .args .level) (c16 .loop .t) (c16 .loop .i) (c18 .args .end)
+            (c15 .loop-test .taken) (c10 .slot-row .ensures) (c9 .rule-row .ensures)
+            (c8 .stands .ensures) (c7 .if1 .left),
         c16 .loop .inv .0,
       ),
       c16 .loop .inv .1
-          ∙ walk-past (c18 .args .tree .now) (c16 .loop .s) (c18 .args .level) (c16 .loop .t) (c16 .loop .i) (c18 .args .end) (c15 .loop-test .taken)
-          (read-kind (c18 .args .tree .now) (c16 .loop .i)) (read-span (c18 .args .tree .now) (c16 .loop .i)) (read-position (c18 .args .tree .now) (c16 .loop .i))
-          (read-value (c18 .args .tree .now) (c16 .loop .i)) (c10 .slot-row .ensures) (c9 .rule-row .ensures) (c8 .stands .ensures) (c7 .if1 .left)
-          (c6 .this-after .ensures) (c5 .row-first .ensures) (c .before .before .before .before .inside .ensures) (c18 .args .parent)
-          (c .before .before .inner .given .1) (c .row-after .ensures),
+          ∙ walk-past (c18 .args .tree .now) (c16 .loop .s) (c18 .args .level) (c16 .loop .t) (c16 .loop .i) (c18 .args .end)
+          (c15 .loop-test .taken) (c10 .slot-row .ensures) (c9 .rule-row .ensures)
+          (c8 .stands .ensures) (c7 .if1 .left) (c6 .this-after .ensures) (c5 .row-first .ensures) (c .before .before .before .before .inside .ensures)
+          (c18 .args .parent) (c .before .before .inner .given .1) (c .row-after .ensures),
     )
 
 walk-returns-3 : (t : ℕ) → walk-lts.Need-returns-3 (walk-calls t) (walk-at t) walk.Post walk-Inv-loop walk-μ-loop
