@@ -1,4 +1,4 @@
-// `backend/compiler.rs`: expressions, statements and function bodies over lent areas. The cycle of compilers has one entry, `statements`.
+// `backend/compiler.rs`: expressions, statements and function bodies over lent areas. The cycle of compilers has one entry, `body`.
 ghost use mathlib.Core.Path.{_≡_};
 ghost use Prim.Native.Nat.{_<_};
 ghost use Rattle.words.specs.Record.{tokenAt, kindAt, positionAt, valueAt};
@@ -1048,7 +1048,7 @@ fn block(
 }
 
 // Statements one after the other.
-pub fn statements(
+fn statements(
     tree: &[u64],
     at: usize,
     end: usize,
@@ -1371,4 +1371,39 @@ fn for_part(
         return state;
     }
     state
+}
+
+// The statements of a function: the entry of the cycle.
+pub fn body(
+    tree: &[u64],
+    at: usize,
+    end: usize,
+    state: FunctionState,
+    start: usize,
+    count: usize,
+    locals: &[u64],
+    code: &mut [u64],
+    constants: &mut [u64],
+    names: &mut [u64],
+    breaks: &mut [u64],
+    errors: &mut [u64],
+) -> FunctionState
+    ensures { λ r. ⌜ MeetsSs (now (tree .entry)) at end start count (now (locals .entry))
+        (machine state (now (code .entry)) (now (constants .entry)) (now (names .entry)) (now (breaks .entry)) (now (errors .entry)))
+        (machine r (now (code .exit)) (now (constants .exit)) (now (names .exit)) (now (breaks .exit)) (now (errors .exit))) ⌝ }
+{
+    statements(
+        tree,
+        at,
+        end,
+        state,
+        start,
+        count,
+        locals,
+        code,
+        constants,
+        names,
+        breaks,
+        errors,
+    )
 }
