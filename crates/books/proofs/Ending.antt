@@ -3,6 +3,7 @@
 use Prim.Native.Nat.{ℕ, suc, _+_, _-_, _≤_, _<_}
 use native.Mathlib.Nat.{sub-zero}
 use native.Mathlib.Omega.{arith}
+use native.Mathlib.Decide.{ℕ-discrete}
 use mathlib.Core.Path.{_≡_, refl, sym, ap, subst, _∙_}
 use mathlib.Core.Bool.{Bool, true, false, cond}
 use lib.Dec.{eqb}
@@ -13,14 +14,14 @@ use Rattle.words.specs.Ast.{Document}
 use Rattle.words.specs.Areas.{clearedFrom, entryField}
 use Rattle.words.specs.Object.{Constant, constantOf}
 use Rattle.words.specs.declared.reply.Reply as struct
-use Rattle.words.specs.Reply.{delivery, refusal}
+use Rattle.words.specs.Reply.{areaTotals, delivery, refusal}
 use Rattle.definition.specs.Uses.{Use, Limits, firstOver}
 use Rattle.definition.specs.Compiler.{Error}
 use Rattle.definition.specs.Book.{hasText, Assembly, Context, newContext}
 use Rattle.definition.specs.DependencySolver.{Ending, Delivered, Faulty, Ring, Worked, filesOf, needed, compileNeeded}
 use Rattle.definition.specs.Program.{bit, constantEntry, flat, filled, errorTables, entriesFrom, errorEntry, bookEntry, globalDependencies}
 use Rattle.definition.specs.Answer.{Answer, Delivery, Refusal, ringErrors, answerEnding, answerBy, answerWorked, limitsOf, answer, replyOf, areasOf}
-use Rattle.definition.specs.Within.{Areas}
+use Rattle.definition.specs.Within.{Areas, KeepsWithin}
 use Rattle.definition.proofs.Cells.{single-length, single-at}
 use Rattle.building.proofs.Filling.{filled-field}
 use Rattle.building.specs.Held.{Filled, Marks, unmarked, marked}
@@ -29,8 +30,9 @@ use Rattle.documents.specs.Shelf.{shelf}
 use Rattle.documents.specs.Documents.{Resting}
 use Rattle.books.specs.Driving.{Zero, Cleared, Lent, Came, came-delivered, came-faulty}
 use Rattle.books.specs.Driving.{came-ring, Outcome, Accepted, Fronts, Works, MarkedFrom, markOf, Emptied}
-use Rattle.books.specs.Promise.{areas, lengthsOf, saying, answering, Compiles}
-use Rattle.books.proofs.Whole.{filled-is, totals, delivered-words, delivered-reply}
+use Rattle.books.specs.Promise.{areas, lengthsOf, saying, answering, logsIn, Compiles}
+use Rattle.books.specs.Finishing.{totals, Finishes, Runs}
+use Rattle.books.proofs.Whole.{filled-is, delivered-words, delivered-reply}
 use Rattle.books.proofs.Delivering.{compiles}
 use Rattle.books.proofs.Beginning.{zero-filled}
 
@@ -327,36 +329,78 @@ all-cleared E z = record {
   books = E .books;
 }
 
--- the ways of `compile`, over the areas that were lent
-module _ (tree c₀ k₀ f₀ m₀ p₀ t₀ l₀ u₀ n₀ b₀ e₀ o₀ : List ℕ) where
-  abbrev lent : Areas
-  lent = areas c₀ k₀ f₀ m₀ p₀ t₀ l₀ u₀ n₀ b₀ e₀ o₀
+-- the ways of `finish`
+pub finish-full : {s : book.Book} {row place : ℕ} {c k f m p t l u n b e o c″ k″ f″ m″ p″ t″ l″ u″ n″ b″ e″ o″ : List ℕ} {r : struct.Reply} → (s .full ≡ 0 → ⊥)
+    → Emptied c″ k″ f″ m″ p″ t″ l″ u″ n″ b″ o″ → Zero e″ → r ≡ refusal 9 (s .full) → Finishes s row place c k f m p t l u n b e o c″ k″ f″ m″ p″ t″ l″ u″ n″ b″ e″ o″ r
+finish-full ne E z says = record { full = λ _. (E, (z, says)); refused = λ y _. absurd (ne y); whole = λ y _. absurd (ne y) }
 
-  pub compile-row : {set c k f m p t l u n b e o : List ℕ} {row place : ℕ} {r : struct.Reply}
-      → SameLengths c₀ k₀ f₀ m₀ p₀ t₀ l₀ u₀ n₀ b₀ e₀ o₀ c k f m p t l u n b e o
-      → Emptied c k f m p t l u n b o → Zero e → Fronts tree row place set → (row ≡ 0 → ⊥) → r ≡ refusal row place
-      → Compiles tree lent (areas c k f m p t l u n b e o) r
-  compile-row S E ze F ne says = compile-refused tree lent refl (same-lengths S) (all-cleared E ze) F ne says
+pub finish-row : {s : book.Book} {row place : ℕ} {c k f m p t l u n b e o c″ k″ f″ m″ p″ t″ l″ u″ n″ b″ o″ : List ℕ} {r : struct.Reply} → s .full ≡ 0 → (row ≡ 0 → ⊥)
+    → Emptied c″ k″ f″ m″ p″ t″ l″ u″ n″ b″ o″ → r ≡ refusal row place → Finishes s row place c k f m p t l u n b e o c″ k″ f″ m″ p″ t″ l″ u″ n″ b″ e o″ r
+finish-row y ne E says = record { full = λ h. absurd (h y); refused = λ _ _. (E, (refl, says)); whole = λ _ h. absurd (ne h) }
 
-  module _ {set c k f m p t l u n b e o : List ℕ} {s′ : book.Book} {c′ k′ f′ m′ p′ t′ l′ u′ n′ b′ e′ o′ : List ℕ} {row place number at : ℕ}
-      (S : SameLengths c₀ k₀ f₀ m₀ p₀ t₀ l₀ u₀ n₀ b₀ e₀ o₀ c k f m p t l u n b e o) (E : Emptied c k f m p t l u n b o) (ze : Zero e)
-      (F : Fronts tree number at set) (went : number ≡ 0)
-      (W : Works tree set c k f m p t l u n b e o s′ c′ k′ f′ m′ p′ t′ l′ u′ n′ b′ e′ o′ row place) where
-    pub compile-short : {c″ k″ f″ m″ p″ t″ l″ u″ n″ b″ e″ o″ : List ℕ} {r : struct.Reply} → (s′ .full ≡ 0 → ⊥)
-        → SameLengths c₀ k₀ f₀ m₀ p₀ t₀ l₀ u₀ n₀ b₀ e₀ o₀ c″ k″ f″ m″ p″ t″ l″ u″ n″ b″ e″ o″
-        → Emptied c″ k″ f″ m″ p″ t″ l″ u″ n″ b″ o″ → Zero e″ → r ≡ refusal 9 (s′ .full) → Compiles tree lent (areas c″ k″ f″ m″ p″ t″ l″ u″ n″ b″ e″ o″) r
-    compile-short ne S″ E″ ze″ says =
-        compile-full tree lent refl (same-lengths S) (all-cleared E ze) F went W (same-lengths S″) ne (all-cleared E″ ze″) says
+pub finish-whole : {s : book.Book} {row place globals : ℕ} {c k f m p t l u n b e o : List ℕ} {r : struct.Reply} → s .full ≡ 0 → row ≡ 0
+    → MarkedFrom k 0 (s .constants) 0 globals → r ≡ delivery (totals s place globals) → Finishes s row place c k f m p t l u n b e o c k f m p t l u n b e o r
+finish-whole {globals = globals} y h M says = record { full = λ g. absurd (g y); refused = λ _ g. absurd (g h); whole = λ _ _. (refl, (globals, (M, says))) }
 
-    pub compile-faulty : {c″ k″ f″ m″ p″ t″ l″ u″ n″ b″ o″ : List ℕ} {r : struct.Reply} → s′ .full ≡ 0 → (row ≡ 0 → ⊥)
-        → SameLengths c₀ k₀ f₀ m₀ p₀ t₀ l₀ u₀ n₀ b₀ e₀ o₀ c″ k″ f″ m″ p″ t″ l″ u″ n″ b″ e′ o″ → Emptied c″ k″ f″ m″ p″ t″ l″ u″ n″ b″ o″
-        → r ≡ refusal row place → Compiles tree lent (areas c″ k″ f″ m″ p″ t″ l″ u″ n″ b″ e′ o″) r
-    compile-faulty y ne S″ E″ says =
-        compile-errors tree lent refl (same-lengths S) (all-cleared E ze) F went W (same-lengths S″) y ne (E″ .code) (E″ .constants) (E″ .functions)
-        (E″ .models)
-        (E″ .properties) (E″ .methods) (E″ .locals) (E″ .publics) (E″ .names) (E″ .breaks) (E″ .books) says
+-- the ways of `run`
+module _ {tree c k f m p t l u n b e o : List ℕ} where
+  abbrev zeros : Areas
+  zeros = areas c k f m p t l u n b e o
 
-    pub compile-whole : {globals : ℕ} {r : struct.Reply} → s′ .full ≡ 0 → row ≡ 0
-        → SameLengths c₀ k₀ f₀ m₀ p₀ t₀ l₀ u₀ n₀ b₀ e₀ o₀ c′ k′ f′ m′ p′ t′ l′ u′ n′ b′ e′ o′
-        → MarkedFrom k′ 0 (s′ .constants) 0 globals → r ≡ delivery (totals s′ place globals) → Compiles tree lent (areas c′ k′ f′ m′ p′ t′ l′ u′ n′ b′ e′ o′) r
-    compile-whole y h S′ M says = compile-delivered tree lent refl (same-lengths S) (all-cleared E ze) F went W (same-lengths S′) y h M says
+  pub run-row : {set : List ℕ} {row place : ℕ} {r : struct.Reply} → Fronts tree row place set → (row ≡ 0 → ⊥) → r ≡ refusal row place
+      → Runs tree c k f m p t l u n b e o c k f m p t l u n b e o r
+  run-row F ne says = record { runs = λ z. compile-refused tree zeros refl refl z F ne says }
+
+  module _ {set : List ℕ} {s′ : book.Book} {c′ k′ f′ m′ p′ t′ l′ u′ n′ b′ e′ o′ c″ k″ f″ m″ p″ t″ l″ u″ n″ b″ e″ o″ : List ℕ} {row place number at : ℕ} {r : struct.Reply}
+      (F : Fronts tree number at set) (went : number ≡ 0) (W : Works tree set c k f m p t l u n b e o s′ c′ k′ f′ m′ p′ t′ l′ u′ n′ b′ e′ o′ row place)
+      (E : Finishes s′ row place c′ k′ f′ m′ p′ t′ l′ u′ n′ b′ e′ o′ c″ k″ f″ m″ p″ t″ l″ u″ n″ b″ e″ o″ r) (S : SameLengths c k f m p t l u n b e o c″ k″ f″ m″ p″ t″ l″ u″ n″ b″ e″ o″) where
+    ended-full : Cleared c k f m p t l u n b e o → (s′ .full ≡ 0 → ⊥) → Compiles tree zeros (areas c″ k″ f″ m″ p″ t″ l″ u″ n″ b″ e″ o″) r
+    ended-full z ne =
+        let X = E .full ne in
+        compile-full tree zeros refl refl z F went W (same-lengths S) ne (all-cleared (X .0) (X .1 .0)) (X .1 .1)
+
+    ended-refused : Cleared c k f m p t l u n b e o → s′ .full ≡ 0 → (row ≡ 0 → ⊥) → Compiles tree zeros (areas c″ k″ f″ m″ p″ t″ l″ u″ n″ b″ e″ o″) r
+    ended-refused z y ne =
+        let X = E .refused y ne in
+        let Z = X .0 in
+        let long : lengthsOf zeros ≡ lengthsOf (areas c″ k″ f″ m″ p″ t″ l″ u″ n″ b″ e′ o″) =
+        subst (λ (x : List ℕ). lengthsOf zeros ≡ lengthsOf (areas c″ k″ f″ m″ p″ t″ l″ u″ n″ b″ x o″)) (X .1 .0) (same-lengths S) in
+        subst (λ (x : List ℕ). Compiles tree zeros (areas c″ k″ f″ m″ p″ t″ l″ u″ n″ b″ x o″) r) (sym (X .1 .0))
+        (compile-errors tree zeros refl refl z F went W long y ne (Z .code) (Z .constants) (Z .functions) (Z .models) (Z .properties) (Z .methods) (Z .locals)
+        (Z .publics) (Z .names) (Z .breaks) (Z .books) (X .1 .1))
+
+    ended-whole : Cleared c k f m p t l u n b e o → s′ .full ≡ 0 → row ≡ 0 → Compiles tree zeros (areas c″ k″ f″ m″ p″ t″ l″ u″ n″ b″ e″ o″) r
+    ended-whole z y h =
+        let X = E .whole y h in
+        subst (λ (m : Areas). Compiles tree zeros m r) (sym (X .0))
+        (compile-delivered tree zeros refl refl z F went W (same-lengths S ∙ ap lengthsOf (X .0)) y h (X .1 .1 .0) (X .1 .1 .1))
+
+    pub run-finished : Runs tree c k f m p t l u n b e o c″ k″ f″ m″ p″ t″ l″ u″ n″ b″ e″ o″ r
+    run-finished = record { runs = go }
+      where
+        by-row : Cleared c k f m p t l u n b e o → s′ .full ≡ 0 → Dec (row ≡ 0) → Compiles tree zeros (areas c″ k″ f″ m″ p″ t″ l″ u″ n″ b″ e″ o″) r
+        by-row z y (yes h) = ended-whole z y h
+        by-row z y (no ne) = ended-refused z y ne
+
+        by-full : Cleared c k f m p t l u n b e o → Dec (s′ .full ≡ 0) → Compiles tree zeros (areas c″ k″ f″ m″ p″ t″ l″ u″ n″ b″ e″ o″) r
+        by-full z (yes y) = by-row z y (ℕ-discrete row 0)
+        by-full z (no ne) = ended-full z ne
+
+        go : Cleared c k f m p t l u n b e o → Compiles tree zeros (areas c″ k″ f″ m″ p″ t″ l″ u″ n″ b″ e″ o″) r
+        go z = by-full z (ℕ-discrete (s′ .full) 0)
+
+-- the promise is of the lengths alone
+carried : {tree : List ℕ} {before before′ after : Areas} {r : struct.Reply} → lengthsOf before ≡ lengthsOf before′ → Compiles tree before′ after r
+    → Compiles tree before after r
+carried {tree} {after = after} {r} q C = record {
+  reply = C .reply ∙ ap (λ (ls : List ℕ). replyOf (answer tree ls)) (sym q);
+  words = C .words ∙ ap (λ (ls : List ℕ). areasOf ls (answer tree ls)) (sym q);
+  within = λ z. subst
+      (λ (ls : List ℕ). KeepsWithin after (areaTotals (r .totals)) (r .totals .«entry_point») (r .totals .«global_dependencies») (logsIn (answer tree ls)))
+      (sym q) (C .within z);
+}
+
+-- the way of `compile`
+pub compile-runs : {tree c₀ k₀ f₀ m₀ p₀ t₀ l₀ u₀ n₀ b₀ e₀ o₀ c k f m p t l u n b e o c″ k″ f″ m″ p″ t″ l″ u″ n″ b″ e″ o″ : List ℕ} {r : struct.Reply} → SameLengths c₀ k₀ f₀ m₀ p₀ t₀ l₀ u₀ n₀ b₀ e₀ o₀ c k f m p t l u n b e o → Emptied c k f m p t l u n b o → Zero e
+    → Runs tree c k f m p t l u n b e o c″ k″ f″ m″ p″ t″ l″ u″ n″ b″ e″ o″ r → Compiles tree (areas c₀ k₀ f₀ m₀ p₀ t₀ l₀ u₀ n₀ b₀ e₀ o₀) (areas c″ k″ f″ m″ p″ t″ l″ u″ n″ b″ e″ o″) r
+compile-runs S E z R = carried (same-lengths S) (R .runs (all-cleared E z))

@@ -18,6 +18,7 @@ use Rattle.documents.specs.declared.book.Book as struct
 use Rattle.documents.specs.Shelf.{shelf, Stock, Keeping}
 use Rattle.documents.specs.Documents.{openedBook, nobody, Resting}
 use Rattle.books.specs.Promise.{areas, lengthsOf, saying}
+use Rattle.books.specs.Finishing.{totals}
 
 -- the zeros are as many as are left
 pub filled-is : {width : ℕ} {l : List ℕ} {es : Entries} {n : ℕ} → Filled width l es n → l ≡ filled (length l) es
@@ -26,25 +27,6 @@ filled-is {l = l} {es = es} f =
     ap (λ (x : List ℕ). length x) (f .is) ∙ length-append (flat es) (replicate (f .zeros) 0) ∙ rw (length-replicate {A = ℕ} (f .zeros) 0) in
     let left : length l - length (flat es) ≡ f .zeros = omega arith in
     f .is ∙ rw left
-
--- the totals of a delivery
-abbrev pub totals : struct.Book → ℕ → ℕ → Totals
-totals s books globals = record {
-  code = s .code;
-  constants = s .constants;
-  functions = s .functions;
-  models = s .models;
-  properties = s .properties;
-  methods = s .methods;
-  «context_locals» = s .locals;
-  «public_names» = s .publics;
-  «scope_names» = 0;
-  breaks = 0;
-  errors = 0;
-  books = books;
-  «entry_point» = s .«entry_point»;
-  «global_dependencies» = globals;
-}
 
 module _ {κ : Limits} {s : struct.Book} {c k f m p t l u n b e o : List ℕ} {context : Context} {uses : List Use} {books globals : ℕ}
     (R : Resting κ s c k f m p t l u n b e context uses) (z : s .full ≡ 0) (shelved : o ≡ filled (length o) (entriesFrom bookEntry 0 (context .assemblies)))

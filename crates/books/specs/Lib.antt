@@ -2,3 +2,4 @@ pub mod Promise
 pub mod Driving
 pub mod Sets
 pub mod Solving
+pub mod Finishing

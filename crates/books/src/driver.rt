@@ -4,6 +4,7 @@ ghost use lib.ListN.{replicate};
 ghost use Rattle.building.specs.Taking.{taken};
 ghost use Rattle.books.specs.Driving.{Rings, Fronts, FirstConstants, markOf, MarkedFrom, Emptied, begunBook};
 ghost use Rattle.books.specs.Driving.{Drives, Works};
+ghost use Rattle.books.specs.Finishing.{Finishes, Runs};
 use crate::solver;
 use building::scopes::Found;
 use building::taking;
@@ -14,6 +15,8 @@ use words::areas;
 use words::record;
 use words::record::field;
 use words::reply;
+use words::reply::Reply;
+use words::reply::Totals;
 
 // A row of 01 and its place; row 0 for none.
 pub struct Row {
@@ -45,7 +48,7 @@ fn ring(done: usize, count: usize, errors: &mut [u64], books: &[u64]) -> Taken
 }
 
 // Rows 2 to 6, and the set of the books needed.
-pub(crate) fn front(tree: &[u64], chosen: &mut [u64]) -> Row
+fn front(tree: &[u64], chosen: &mut [u64]) -> Row
     requires { ⌜ now chosen ≡ replicate 16384 0 ⌝ }
     ensures { λ r. ⌜ Fronts (now (tree .entry)) (r .number) (r .place) (now (chosen .exit)) ⌝ }
 {
@@ -98,7 +101,7 @@ fn one_if(word: u64) -> u64
 }
 
 // The constants that are marked.
-pub(crate) fn count_marked(constants: &[u64], count: usize) -> u64
+fn count_marked(constants: &[u64], count: usize) -> u64
     ensures { λ r. ⌜ MarkedFrom (now (constants .entry)) 0 count 0 r ⌝ }
 {
     let mut i: usize = 0;
@@ -264,7 +267,7 @@ fn begun(t: Taken, constants: usize) -> Book
 }
 
 // The books that are needed, into areas of zeros.
-pub(crate) fn work(
+fn work(
     tree: &[u64],
     chosen: &[u64],
     code: &mut [u64],
@@ -325,5 +328,141 @@ pub(crate) fn work(
         errors,
         books,
         &mut compiled,
+    )
+}
+
+// The end of a call: a full area or a row clears the areas, the errors of rows 7 and 8 apart; else the reply says what stands in them.
+fn finish(
+    ended: Ended,
+    code: &mut [u64],
+    constants: &mut [u64],
+    functions: &mut [u64],
+    models: &mut [u64],
+    properties: &mut [u64],
+    methods: &mut [u64],
+    locals: &mut [u64],
+    publics: &mut [u64],
+    names: &mut [u64],
+    breaks: &mut [u64],
+    errors: &mut [u64],
+    books: &mut [u64],
+) -> Reply
+    ensures { λ r. ⌜ Finishes (ended .book) (ended .row) (ended .place)
+        (now (code .entry)) (now (constants .entry)) (now (functions .entry)) (now (models .entry)) (now (properties .entry)) (now (methods .entry))
+        (now (locals .entry)) (now (publics .entry)) (now (names .entry)) (now (breaks .entry)) (now (errors .entry)) (now (books .entry))
+        (now (code .exit)) (now (constants .exit)) (now (functions .exit)) (now (models .exit)) (now (properties .exit)) (now (methods .exit))
+        (now (locals .exit)) (now (publics .exit)) (now (names .exit)) (now (breaks .exit)) (now (errors .exit)) (now (books .exit)) r ⌝ }
+{
+    let book = ended.book;
+    if book.full != 0 {
+        clear_program(
+            code,
+            constants,
+            functions,
+            models,
+            properties,
+            methods,
+            locals,
+            publics,
+            names,
+            breaks,
+            books,
+        );
+        areas::clear_from(errors, 0);
+        return Reply::refused(reply::AREA_FULL, book.full);
+    }
+    if ended.row != 0 {
+        clear_program(
+            code,
+            constants,
+            functions,
+            models,
+            properties,
+            methods,
+            locals,
+            publics,
+            names,
+            breaks,
+            books,
+        );
+        return Reply::refused(ended.row, ended.place);
+    }
+    let marked = count_marked(constants, book.constants);
+    let totals = Totals {
+        code: book.code as u64,
+        constants: book.constants as u64,
+        functions: book.functions as u64,
+        models: book.models as u64,
+        properties: book.properties as u64,
+        methods: book.methods as u64,
+        context_locals: book.locals as u64,
+        public_names: book.publics as u64,
+        scope_names: 0,
+        breaks: 0,
+        errors: 0,
+        books: ended.place,
+        entry_point: book.entry_point,
+        global_dependencies: marked,
+    };
+    Reply::delivered(totals)
+}
+
+// The call from areas of zeros: rows 2 to 6, the work, its end.
+pub(crate) fn run(
+    tree: &[u64],
+    code: &mut [u64],
+    constants: &mut [u64],
+    functions: &mut [u64],
+    models: &mut [u64],
+    properties: &mut [u64],
+    methods: &mut [u64],
+    locals: &mut [u64],
+    publics: &mut [u64],
+    names: &mut [u64],
+    breaks: &mut [u64],
+    errors: &mut [u64],
+    books: &mut [u64],
+) -> Reply
+    ensures { λ r. ⌜ Runs (now (tree .entry))
+        (now (code .entry)) (now (constants .entry)) (now (functions .entry)) (now (models .entry)) (now (properties .entry)) (now (methods .entry))
+        (now (locals .entry)) (now (publics .entry)) (now (names .entry)) (now (breaks .entry)) (now (errors .entry)) (now (books .entry))
+        (now (code .exit)) (now (constants .exit)) (now (functions .exit)) (now (models .exit)) (now (properties .exit)) (now (methods .exit))
+        (now (locals .exit)) (now (publics .exit)) (now (names .exit)) (now (breaks .exit)) (now (errors .exit)) (now (books .exit)) r ⌝ }
+{
+    let mut chosen = [0; 16384];
+    let row = front(tree, &mut chosen);
+    if row.number != 0 {
+        return Reply::refused(row.number, row.place);
+    }
+    let ended = work(
+        tree,
+        &chosen,
+        code,
+        constants,
+        functions,
+        models,
+        properties,
+        methods,
+        locals,
+        publics,
+        names,
+        breaks,
+        errors,
+        books,
+    );
+    finish(
+        ended,
+        code,
+        constants,
+        functions,
+        models,
+        properties,
+        methods,
+        locals,
+        publics,
+        names,
+        breaks,
+        errors,
+        books,
     )
 }

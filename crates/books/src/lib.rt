@@ -5,9 +5,7 @@ pub mod driver;
 mod solver;
 
 use words::areas;
-use words::reply;
 use words::reply::Reply;
-use words::reply::Totals;
 
 // Compiles the books that the words of a tree spell, whatever the words are, into the twelve areas.
 pub fn compile(
@@ -45,14 +43,8 @@ pub fn compile(
         books,
     );
     areas::clear_from(errors, 0);
-    let mut chosen = [0; 16384];
-    let row = driver::front(tree, &mut chosen);
-    if row.number != 0 {
-        return Reply::refused(row.number, row.place);
-    }
-    let ended = driver::work(
+    driver::run(
         tree,
-        &chosen,
         code,
         constants,
         functions,
@@ -65,57 +57,5 @@ pub fn compile(
         breaks,
         errors,
         books,
-    );
-    let book = ended.book;
-    if book.full != 0 {
-        driver::clear_program(
-            code,
-            constants,
-            functions,
-            models,
-            properties,
-            methods,
-            locals,
-            publics,
-            names,
-            breaks,
-            books,
-        );
-        areas::clear_from(errors, 0);
-        return Reply::refused(reply::AREA_FULL, book.full);
-    }
-    if ended.row != 0 {
-        driver::clear_program(
-            code,
-            constants,
-            functions,
-            models,
-            properties,
-            methods,
-            locals,
-            publics,
-            names,
-            breaks,
-            books,
-        );
-        return Reply::refused(ended.row, ended.place);
-    }
-    let marked = driver::count_marked(constants, book.constants);
-    let totals = Totals {
-        code: book.code as u64,
-        constants: book.constants as u64,
-        functions: book.functions as u64,
-        models: book.models as u64,
-        properties: book.properties as u64,
-        methods: book.methods as u64,
-        context_locals: book.locals as u64,
-        public_names: book.publics as u64,
-        scope_names: 0,
-        breaks: 0,
-        errors: 0,
-        books: ended.place,
-        entry_point: book.entry_point,
-        global_dependencies: marked,
-    };
-    Reply::delivered(totals)
+    )
 }
