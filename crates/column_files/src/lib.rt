@@ -14,18 +14,15 @@ use tree::Shape;
 use tree::check;
 use words::areas::clear_from;
 use words::areas::write4;
+use words::record::RECORD_WORDS;
+use words::reply::AREA_FULL;
+use words::reply::BAD_LINE;
 ghost use mathlib.Core.Path.{_≡_};
 ghost use mathlib.Core.List.{_++_};
 ghost use Prim.Native.Nat.{_+_, _*_, _≤_};
 ghost use lib.ListN.{length, drop};
 ghost use Rattle.column_files.specs.Files.{Lent, linesIn, linesBy, LinesRead};
 ghost use Rattle.column_files.specs.Convert.{columnsToRecords, recordsToColumns, refusal, shortReply, Converts};
-
-const BAD_LINE: u64 = 1;
-
-const AREA_FULL: u64 = 9;
-
-const RECORD_WORDS: usize = 4;
 
 // What a converter answers: the number of a refusal's row and its place, or 0 and 0, and how many records it converted.
 #[repr(C)]

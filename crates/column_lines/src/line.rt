@@ -3,6 +3,7 @@
 use crate::number::Number;
 use crate::number::read_number;
 use crate::number::write_number;
+use words::record::INTEGER;
 use words::record::POSITION_BASE;
 use words::record::column_of;
 use words::record::line_of;
@@ -27,8 +28,6 @@ pub const LINE_LENGTH: usize = VALUE_END + 1;
 
 pub const NEWLINE: u8 = 10;
 
-const SIGNED_KIND: u64 = 33;
-
 // What a line spells: a record's kind, span, position and value, or none.
 pub enum Line {
     Record(u64, u64, u64, u64),
@@ -39,7 +38,7 @@ fn is_signed(kind: Number) -> bool
     ensures { λ r. ⌜ r ≡ signedIs kind ⌝ }
 {
     match kind {
-        Number::Word(k) => k == SIGNED_KIND,
+        Number::Word(k) => k == INTEGER,
         Number::Off => false,
     }
 }
@@ -131,7 +130,7 @@ pub fn write_line(out: &mut [u8], kind: u64, span: u64, position: u64, value: u6
     write_field(out, SPAN_END, LINE_END, row, false);
     let column = column_of(position);
     write_field(out, LINE_END, COLUMN_END, column, false);
-    write_field(out, COLUMN_END, VALUE_END, value, kind == SIGNED_KIND);
+    write_field(out, COLUMN_END, VALUE_END, value, kind == INTEGER);
     out[VALUE_END] = NEWLINE;
     true
 }

@@ -231,8 +231,9 @@ pub no-part-yields : Yields compileNoPart
 unfolding compileNoPart
 no-part-yields = record { moves = Moves.no-part-moves; gives = λ w g e. good-solid g (sound-null (g .pool) (g .sound)) }
 
-good-depth : {w : Work} (n : ℕ) → Good w → Good (withFunction (withDepth n (w .function)) w)
-good-depth n g = record {
+-- the fields that no claim speaks of: depth and parameters
+good-fields : {w : Work} (n : ℕ) (b : Bool) (m : ℕ) → Good w → Good (withFunction (withParameters b m (withDepth n (w .function))) w)
+good-fields n b m g = record {
   sound = record {
     reach = g .sound .reach;
     sized = g .sound .sized;
@@ -250,6 +251,9 @@ good-depth n g = record {
   names = g .names;
   marks = g .marks;
 }
+
+good-depth : {w : Work} (n : ℕ) → Good w → Good (withFunction (withDepth n (w .function)) w)
+good-depth {w} n g = good-fields n (w .function .isInstance) (w .function .parameterCount) g
 
 pub deeper-compiles : {a : Step} → Compiles a → Compiles (deeper a)
 unfolding deeper
@@ -642,24 +646,7 @@ mutual
 -- a function
 
 good-parameters : {w : Work} (b : Bool) (n : ℕ) → Good w → Good (withFunction (withParameters b n (w .function)) w)
-good-parameters b n g = record {
-  sound = record {
-    reach = g .sound .reach;
-    sized = g .sound .sized;
-    low = g .sound .low;
-    room = g .sound .room;
-    fits = g .sound .fits;
-    rescue = g .sound .rescue;
-    scopes = g .sound .scopes;
-    breaks = g .sound .breaks;
-    loops = g .sound .loops;
-    traced = g .sound .traced;
-    belongs = g .sound .belongs;
-  };
-  pool = g .pool;
-  names = g .names;
-  marks = g .marks;
-}
+good-parameters {w} b n g = good-fields (w .function .depth) b n g
 
 parameter-compiles : (t : Token) → Compiles (compileParameter t)
 unfolding compileParameter

@@ -10,7 +10,7 @@ use mathlib.Core.List.{List, [], _∷_, _++_}
 use lib.ListN.{length, length-append, length-set}
 use lib.Dec.{eqb, ltb}
 use Rattle.words.specs.Ast.{Token}
-use Rattle.words.specs.Areas.{entriesIn, wordFits, contextLocalsArea}
+use Rattle.words.specs.Areas.{entriesIn, wordFits, writeWord, contextLocalsArea}
 use Rattle.words.specs.Object.{Constant, constantOf}
 use Rattle.definition.specs.FunctionState.{Entry, newFunctionState, findName}
 use Rattle.definition.specs.Uses.{Limits}
@@ -28,7 +28,7 @@ use Rattle.building.specs.declared.taking.Taken.{Taken}
 use Rattle.building.specs.State.{begun}
 use Rattle.building.specs.Taking.{taken}
 use Rattle.building.specs.Found.{foundOf}
-use Rattle.building.specs.Pool.{pooling, addConstantC, withWord}
+use Rattle.building.specs.Pool.{pooling, addConstantC}
 use Rattle.building.specs.Context.{localing, defineContextC, setValueC}
 use Rattle.building.specs.Held.{Filled, LocalsHeld, machine, Held}
 use Rattle.building.proofs.Filling.{over-fits, over-here}
@@ -209,13 +209,13 @@ value-length : (full count i constant : ℕ) (l : List ℕ) → length (setValue
 unfolding setValueC
 value-length full count i constant l = go (eqb full 0) (ltb i count)
   where
-    word : (k v : ℕ) (w : List ℕ) → length (withWord 4 i k v w) ≡ length w
+    word : (k v : ℕ) (w : List ℕ) → length (writeWord 4 i k v w) ≡ length w
     word k v w = cond-case (λ (r : List ℕ). length r ≡ length w) (wordFits 4 i k (length w)) (λ y. length-set w (i * 4 + k) v) (λ y. refl)
 
-    go : (a b : Bool) → length (cond a (cond b (withWord 4 i 3 constant (withWord 4 i 2 1 l)) l) l) ≡ length l
+    go : (a b : Bool) → length (cond a (cond b (writeWord 4 i 3 constant (writeWord 4 i 2 1 l)) l) l) ≡ length l
     go false b = refl
     go true false = refl
-    go true true = word 3 constant (withWord 4 i 2 1 l) ∙ word 2 1 l
+    go true true = word 3 constant (writeWord 4 i 2 1 l) ∙ word 2 1 l
 
 value-keeping : {κ : Limits} {ps : List ℕ} {s : struct.Book} {c k f m p t l u n b e : List ℕ} {x : Book} → s .full ≡ 0 → (i constant : ℕ) {l′ : List ℕ}
     → l′ ≡ setValueC (s .full) (s .locals) i constant l → i < length (x .context .localNames) → Keeping κ ps (shelf s c k f m p t l u n b e) x

@@ -5,7 +5,7 @@ use Rattle.building.specs.declared.function_state.FunctionState.{FunctionState}
 use Rattle.building.specs.declared.scopes.Defined.{Defined}
 use Rattle.building.specs.declared.scopes.Found.{Found}
 use Rattle.building.specs.Emission.{Coded, coded, emitC, emitReturnC}
-use Rattle.building.specs.Scopes.{Naming, naming, defineC}
+use Rattle.building.specs.Scopes.{naming, defineC}
 
 abbrev pub defined : Found → FunctionState → Defined
 defined f s = record { found = f; state = s }

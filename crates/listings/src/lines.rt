@@ -16,8 +16,10 @@ use words::areas::METHOD_WORDS;
 use words::areas::MODEL_WORDS;
 use words::areas::PROPERTY_WORDS;
 use words::areas::entry_word;
+use words::object;
 use words::opcode::OPCODE_UNIT;
 use words::program::function_record;
+use words::record;
 use words::record::column_of;
 use words::record::line_of;
 
@@ -45,11 +47,6 @@ pub const GLOBAL: u64 = 9;
 pub const FILE: u64 = 10;
 
 pub const ERROR: u64 = 11;
-
-// The kinds of an integer constant and of an integer token.
-const INTEGER_CONSTANT: u64 = 2;
-
-const INTEGER_TOKEN: u64 = 33;
 
 // The sections that list the entries of one area; of instructions, those of one function.
 pub enum Section {
@@ -122,7 +119,7 @@ fn constant_line(constants: &[u64], i: usize) -> Fields
 {
     let kind = entry_word(constants, CONSTANT_WORDS, i, 0);
     let value = entry_word(constants, CONSTANT_WORDS, i, 1);
-    short_line(CONSTANT, i as u64, kind, value, kind == INTEGER_CONSTANT)
+    short_line(CONSTANT, i as u64, kind, value, kind == object::INTEGER)
 }
 
 fn model_line(models: &[u64], i: usize) -> Fields
@@ -198,7 +195,7 @@ fn error_line(errors: &[u64], i: usize) -> Fields
         fifth: kind,
         sixth: 0,
         last: value,
-        signed: kind == INTEGER_TOKEN,
+        signed: kind == record::INTEGER,
     }
 }
 

@@ -1,5 +1,6 @@
 -- The tree of `intermediate/ast.rs`. Texts are numbers (01, 'The tree'); a token has the position, the kind and the value of its record.
--- The Rust's `Vec`s and `Box`es become types of their own, and an optional part two constructors.
+-- The Rust's `Vec`s and `Box`es become types of their own, and an optional part two constructors. Constructors have the Rust's names, but for `Text` (its
+-- `String`), `Expr` (`Statement::Expression`) and `PlainFunction` (`Definition::Function`); those of other definitions end in `Definition`
 use Prim.Native.Nat.{ℕ}
 use mathlib.Core.Option.{Option}
 use mathlib.Core.List.{List}
