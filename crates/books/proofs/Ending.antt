@@ -331,10 +331,12 @@ all-cleared E z = record {
 
 -- the ways of `finish`
 pub finish-full : {s : book.Book} {row place : ℕ} {c k f m p t l u n b e o c″ k″ f″ m″ p″ t″ l″ u″ n″ b″ e″ o″ : List ℕ} {r : struct.Reply} → (s .full ≡ 0 → ⊥)
-    → Emptied c″ k″ f″ m″ p″ t″ l″ u″ n″ b″ o″ → Zero e″ → r ≡ refusal 9 (s .full) → Finishes s row place c k f m p t l u n b e o c″ k″ f″ m″ p″ t″ l″ u″ n″ b″ e″ o″ r
+    → Emptied c″ k″ f″ m″ p″ t″ l″ u″ n″ b″ o″ → Zero e″ → r ≡ refusal 9 (s .full)
+    → Finishes s row place c k f m p t l u n b e o c″ k″ f″ m″ p″ t″ l″ u″ n″ b″ e″ o″ r
 finish-full ne E z says = record { full = λ _. (E, (z, says)); refused = λ y _. absurd (ne y); whole = λ y _. absurd (ne y) }
 
-pub finish-row : {s : book.Book} {row place : ℕ} {c k f m p t l u n b e o c″ k″ f″ m″ p″ t″ l″ u″ n″ b″ o″ : List ℕ} {r : struct.Reply} → s .full ≡ 0 → (row ≡ 0 → ⊥)
+pub finish-row : {s : book.Book} {row place : ℕ} {c k f m p t l u n b e o c″ k″ f″ m″ p″ t″ l″ u″ n″ b″ o″ : List ℕ} {r : struct.Reply} → s .full ≡ 0
+    → (row ≡ 0 → ⊥)
     → Emptied c″ k″ f″ m″ p″ t″ l″ u″ n″ b″ o″ → r ≡ refusal row place → Finishes s row place c k f m p t l u n b e o c″ k″ f″ m″ p″ t″ l″ u″ n″ b″ e o″ r
 finish-row y ne E says = record { full = λ h. absurd (h y); refused = λ _ _. (E, (refl, says)); whole = λ _ h. absurd (ne h) }
 
@@ -344,49 +346,54 @@ finish-whole {globals = globals} y h M says = record { full = λ g. absurd (g y)
 
 -- the ways of `run`
 module _ {tree c k f m p t l u n b e o : List ℕ} where
-  abbrev zeros : Areas
-  zeros = areas c k f m p t l u n b e o
-
   pub run-row : {set : List ℕ} {row place : ℕ} {r : struct.Reply} → Fronts tree row place set → (row ≡ 0 → ⊥) → r ≡ refusal row place
       → Runs tree c k f m p t l u n b e o c k f m p t l u n b e o r
-  run-row F ne says = record { runs = λ z. compile-refused tree zeros refl refl z F ne says }
+  run-row F ne says = record { runs = λ z. compile-refused tree (areas c k f m p t l u n b e o) refl refl z F ne says }
 
-  module _ {set : List ℕ} {s′ : book.Book} {c′ k′ f′ m′ p′ t′ l′ u′ n′ b′ e′ o′ c″ k″ f″ m″ p″ t″ l″ u″ n″ b″ e″ o″ : List ℕ} {row place number at : ℕ} {r : struct.Reply}
+  module _ {set : List ℕ} {s′ : book.Book} {c′ k′ f′ m′ p′ t′ l′ u′ n′ b′ e′ o′ c″ k″ f″ m″ p″ t″ l″ u″ n″ b″ e″ o″ : List ℕ} {row place number at : ℕ}
+      {r : struct.Reply}
       (F : Fronts tree number at set) (went : number ≡ 0) (W : Works tree set c k f m p t l u n b e o s′ c′ k′ f′ m′ p′ t′ l′ u′ n′ b′ e′ o′ row place)
-      (E : Finishes s′ row place c′ k′ f′ m′ p′ t′ l′ u′ n′ b′ e′ o′ c″ k″ f″ m″ p″ t″ l″ u″ n″ b″ e″ o″ r) (S : SameLengths c k f m p t l u n b e o c″ k″ f″ m″ p″ t″ l″ u″ n″ b″ e″ o″) where
-    ended-full : Cleared c k f m p t l u n b e o → (s′ .full ≡ 0 → ⊥) → Compiles tree zeros (areas c″ k″ f″ m″ p″ t″ l″ u″ n″ b″ e″ o″) r
+      (E : Finishes s′ row place c′ k′ f′ m′ p′ t′ l′ u′ n′ b′ e′ o′ c″ k″ f″ m″ p″ t″ l″ u″ n″ b″ e″ o″ r)
+      (S : SameLengths c k f m p t l u n b e o c″ k″ f″ m″ p″ t″ l″ u″ n″ b″ e″ o″) where
+    ended-full : Cleared c k f m p t l u n b e o → (s′ .full ≡ 0 → ⊥)
+        → Compiles tree (areas c k f m p t l u n b e o) (areas c″ k″ f″ m″ p″ t″ l″ u″ n″ b″ e″ o″) r
     ended-full z ne =
         let X = E .full ne in
-        compile-full tree zeros refl refl z F went W (same-lengths S) ne (all-cleared (X .0) (X .1 .0)) (X .1 .1)
+        compile-full tree (areas c k f m p t l u n b e o) refl refl z F went W (same-lengths S) ne (all-cleared (X .0) (X .1 .0)) (X .1 .1)
 
-    ended-refused : Cleared c k f m p t l u n b e o → s′ .full ≡ 0 → (row ≡ 0 → ⊥) → Compiles tree zeros (areas c″ k″ f″ m″ p″ t″ l″ u″ n″ b″ e″ o″) r
+    ended-refused : Cleared c k f m p t l u n b e o → s′ .full ≡ 0 → (row ≡ 0 → ⊥)
+        → Compiles tree (areas c k f m p t l u n b e o) (areas c″ k″ f″ m″ p″ t″ l″ u″ n″ b″ e″ o″) r
     ended-refused z y ne =
         let X = E .refused y ne in
         let Z = X .0 in
-        let long : lengthsOf zeros ≡ lengthsOf (areas c″ k″ f″ m″ p″ t″ l″ u″ n″ b″ e′ o″) =
-        subst (λ (x : List ℕ). lengthsOf zeros ≡ lengthsOf (areas c″ k″ f″ m″ p″ t″ l″ u″ n″ b″ x o″)) (X .1 .0) (same-lengths S) in
-        subst (λ (x : List ℕ). Compiles tree zeros (areas c″ k″ f″ m″ p″ t″ l″ u″ n″ b″ x o″) r) (sym (X .1 .0))
-        (compile-errors tree zeros refl refl z F went W long y ne (Z .code) (Z .constants) (Z .functions) (Z .models) (Z .properties) (Z .methods) (Z .locals)
+        let long : lengthsOf (areas c k f m p t l u n b e o) ≡ lengthsOf (areas c″ k″ f″ m″ p″ t″ l″ u″ n″ b″ e′ o″) =
+        subst (λ (x : List ℕ). lengthsOf (areas c k f m p t l u n b e o) ≡ lengthsOf (areas c″ k″ f″ m″ p″ t″ l″ u″ n″ b″ x o″)) (X .1 .0) (same-lengths S) in
+        subst (λ (x : List ℕ). Compiles tree (areas c k f m p t l u n b e o) (areas c″ k″ f″ m″ p″ t″ l″ u″ n″ b″ x o″) r) (sym (X .1 .0))
+        (compile-errors tree (areas c k f m p t l u n b e o) refl refl z F went W long y ne (Z .code) (Z .constants) (Z .functions) (Z .models)
+        (Z .properties) (Z .methods) (Z .locals)
         (Z .publics) (Z .names) (Z .breaks) (Z .books) (X .1 .1))
 
-    ended-whole : Cleared c k f m p t l u n b e o → s′ .full ≡ 0 → row ≡ 0 → Compiles tree zeros (areas c″ k″ f″ m″ p″ t″ l″ u″ n″ b″ e″ o″) r
+    ended-whole : Cleared c k f m p t l u n b e o → s′ .full ≡ 0 → row ≡ 0
+        → Compiles tree (areas c k f m p t l u n b e o) (areas c″ k″ f″ m″ p″ t″ l″ u″ n″ b″ e″ o″) r
     ended-whole z y h =
         let X = E .whole y h in
-        subst (λ (m : Areas). Compiles tree zeros m r) (sym (X .0))
-        (compile-delivered tree zeros refl refl z F went W (same-lengths S ∙ ap lengthsOf (X .0)) y h (X .1 .1 .0) (X .1 .1 .1))
+        subst (λ (x : Areas). Compiles tree (areas c k f m p t l u n b e o) x r) (sym (X .0))
+        (compile-delivered tree (areas c k f m p t l u n b e o) refl refl z F went W (same-lengths S ∙ ap lengthsOf (X .0)) y h (X .1 .1 .0) (X .1 .1 .1))
 
     pub run-finished : Runs tree c k f m p t l u n b e o c″ k″ f″ m″ p″ t″ l″ u″ n″ b″ e″ o″ r
     run-finished = record { runs = go }
       where
-        by-row : Cleared c k f m p t l u n b e o → s′ .full ≡ 0 → Dec (row ≡ 0) → Compiles tree zeros (areas c″ k″ f″ m″ p″ t″ l″ u″ n″ b″ e″ o″) r
+        by-row : Cleared c k f m p t l u n b e o → s′ .full ≡ 0 → Dec (row ≡ 0)
+            → Compiles tree (areas c k f m p t l u n b e o) (areas c″ k″ f″ m″ p″ t″ l″ u″ n″ b″ e″ o″) r
         by-row z y (yes h) = ended-whole z y h
         by-row z y (no ne) = ended-refused z y ne
 
-        by-full : Cleared c k f m p t l u n b e o → Dec (s′ .full ≡ 0) → Compiles tree zeros (areas c″ k″ f″ m″ p″ t″ l″ u″ n″ b″ e″ o″) r
+        by-full : Cleared c k f m p t l u n b e o → Dec (s′ .full ≡ 0)
+            → Compiles tree (areas c k f m p t l u n b e o) (areas c″ k″ f″ m″ p″ t″ l″ u″ n″ b″ e″ o″) r
         by-full z (yes y) = by-row z y (ℕ-discrete row 0)
         by-full z (no ne) = ended-full z ne
 
-        go : Cleared c k f m p t l u n b e o → Compiles tree zeros (areas c″ k″ f″ m″ p″ t″ l″ u″ n″ b″ e″ o″) r
+        go : Cleared c k f m p t l u n b e o → Compiles tree (areas c k f m p t l u n b e o) (areas c″ k″ f″ m″ p″ t″ l″ u″ n″ b″ e″ o″) r
         go z = by-full z (ℕ-discrete (s′ .full) 0)
 
 -- the promise is of the lengths alone
@@ -401,6 +408,8 @@ carried {tree} {after = after} {r} q C = record {
 }
 
 -- the way of `compile`
-pub compile-runs : {tree c₀ k₀ f₀ m₀ p₀ t₀ l₀ u₀ n₀ b₀ e₀ o₀ c k f m p t l u n b e o c″ k″ f″ m″ p″ t″ l″ u″ n″ b″ e″ o″ : List ℕ} {r : struct.Reply} → SameLengths c₀ k₀ f₀ m₀ p₀ t₀ l₀ u₀ n₀ b₀ e₀ o₀ c k f m p t l u n b e o → Emptied c k f m p t l u n b o → Zero e
-    → Runs tree c k f m p t l u n b e o c″ k″ f″ m″ p″ t″ l″ u″ n″ b″ e″ o″ r → Compiles tree (areas c₀ k₀ f₀ m₀ p₀ t₀ l₀ u₀ n₀ b₀ e₀ o₀) (areas c″ k″ f″ m″ p″ t″ l″ u″ n″ b″ e″ o″) r
+pub compile-runs : {tree c₀ k₀ f₀ m₀ p₀ t₀ l₀ u₀ n₀ b₀ e₀ o₀ c k f m p t l u n b e o c″ k″ f″ m″ p″ t″ l″ u″ n″ b″ e″ o″ : List ℕ} {r : struct.Reply}
+    → SameLengths c₀ k₀ f₀ m₀ p₀ t₀ l₀ u₀ n₀ b₀ e₀ o₀ c k f m p t l u n b e o → Emptied c k f m p t l u n b o → Zero e
+    → Runs tree c k f m p t l u n b e o c″ k″ f″ m″ p″ t″ l″ u″ n″ b″ e″ o″ r
+    → Compiles tree (areas c₀ k₀ f₀ m₀ p₀ t₀ l₀ u₀ n₀ b₀ e₀ o₀) (areas c″ k″ f″ m″ p″ t″ l″ u″ n″ b″ e″ o″) r
 compile-runs S E z R = carried (same-lengths S) (R .runs (all-cleared E z))
