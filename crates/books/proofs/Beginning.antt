@@ -26,9 +26,10 @@ use Rattle.building.proofs.Notes.{over-longer}
 use Rattle.books.specs.Sets.{SetIs, Ascends, Below}
 use Rattle.books.specs.Solving.{Bundle, booksOf, TakesBooks}
 use Rattle.building.proofs.ContextLaws.{Grown, grown, over, took-law, took-full}
-use Rattle.books.specs.declared.documents.Book as struct
-use Rattle.books.specs.Driving.{Zero, begunBook, FirstConstants, Accepted, Cleared, Lent, Resting, Driving, Drives, Works}
-use Rattle.books.proofs.Calm.{Calms}
+use Rattle.documents.specs.declared.book.Book as struct
+use Rattle.documents.specs.Documents.{Resting}
+use Rattle.books.specs.Driving.{Zero, begunBook, FirstConstants, Accepted, Cleared, Lent, Driving, Drives, Works}
+use Rattle.documents.proofs.Calm.{Calms}
 use Rattle.books.proofs.Steadfast.{drive-longer}
 use Rattle.books.proofs.BundleRange.{fine-limit}
 use Rattle.books.proofs.StandsLaws.{set-empty, needed-ascends, needed-below}

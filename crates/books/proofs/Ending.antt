@@ -24,9 +24,10 @@ use Rattle.definition.specs.Within.{Areas}
 use Rattle.definition.proofs.Cells.{single-length, single-at}
 use Rattle.building.proofs.Filling.{filled-field}
 use Rattle.building.specs.Held.{Filled, Marks, unmarked, marked}
-use Rattle.books.specs.declared.documents.Book as book
-use Rattle.books.specs.Shelf.{shelf}
-use Rattle.books.specs.Driving.{Zero, Cleared, Lent, Resting, Came, came-delivered, came-faulty}
+use Rattle.documents.specs.declared.book.Book as book
+use Rattle.documents.specs.Shelf.{shelf}
+use Rattle.documents.specs.Documents.{Resting}
+use Rattle.books.specs.Driving.{Zero, Cleared, Lent, Came, came-delivered, came-faulty}
 use Rattle.books.specs.Driving.{came-ring, Outcome, Accepted, Fronts, Works, MarkedFrom, markOf, Emptied}
 use Rattle.books.specs.Promise.{areas, lengthsOf, saying, answering, Compiles}
 use Rattle.books.proofs.Whole.{filled-is, totals, delivered-words, delivered-reply}

@@ -23,15 +23,16 @@ use Rattle.building.specs.Taking.{taken}
 use Rattle.building.specs.Held.{Filled, Marks}
 use Rattle.building.proofs.Filling.{over-fits, over-here}
 use Rattle.building.proofs.Notes.{over-longer}
-use Rattle.books.specs.declared.documents.Book as struct
+use Rattle.documents.specs.declared.book.Book as struct
 use Rattle.bodies.specs.Meets.{skipC}
 use Rattle.books.specs.Sets.{addBit, SetIs, Ascends, setSize}
 use Rattle.books.specs.Solving.{InSets, bookUnit, booksOf, Stands, Ready, FindsReady, Brings}
-use Rattle.books.specs.Shelf.{shelf, Keeping, Shelved}
-use Rattle.books.specs.Driving.{Leaves, Rung, Rings, Resting, MeetsDocument, Came, came-delivered, came-faulty, came-ring, Outcome, Driving, Drives}
-use Rattle.books.proofs.Calm.{Calms}
+use Rattle.documents.specs.Shelf.{shelf, Keeping, Shelved}
+use Rattle.documents.specs.Documents.{Resting, MeetsDocument}
+use Rattle.books.specs.Driving.{Leaves, Rung, Rings, Came, came-delivered, came-faulty, came-ring, Outcome, Driving, Drives}
+use Rattle.documents.proofs.Calm.{Calms}
 use Rattle.books.proofs.Steadfast.{calm-definitions, drive-longer, after-longer, files-more}
-use Rattle.books.proofs.PuttingAway.{putAway, put-away}
+use Rattle.documents.proofs.PuttingAway.{putAway, put-away}
 use Rattle.books.proofs.Lefts.{all-ready, files-length, files-at, leaves-are}
 use Rattle.books.proofs.StandsLaws.{without-length, without-ascends, without-missing}
 use Rattle.books.proofs.FileLists.{set-add}

@@ -9,7 +9,7 @@ use Rattle.definition.specs.Compiler.{Error}
 use Rattle.definition.specs.Book.{Assembly, Context, Book, opened, compileDefinition, compileDefinitions, compileDocument}
 use Rattle.definition.specs.DependencySolver.{Worked, afterBook, driveBy, drive, ready, without, filesOf}
 use Rattle.definition.proofs.Steady.{Longer, same, more, longer-trans}
-use Rattle.books.proofs.Calm.{Calm, Calms, calm-refl, calm-trans}
+use Rattle.documents.proofs.Calm.{Calm, Calms, calm-refl, calm-trans}
 
 module _ (calm : (d : Definition) → Calms (compileDefinition d)) where
   pub calm-definitions : (ds : List Definition) → Calms (compileDefinitions ds)

@@ -14,9 +14,9 @@ use Rattle.definition.specs.Program.{Entries, flat, filled, filledAll, tablesOf
 use Rattle.definition.specs.Program.{modelProperties, assemblyPublics}
 use Rattle.definition.specs.Answer.{Delivery, Refusal, replyOf, areasOf}
 use Rattle.building.specs.Held.{Filled}
-use Rattle.books.specs.declared.documents.Book as struct
-use Rattle.books.specs.Shelf.{shelf, Stock, Keeping}
-use Rattle.books.specs.Driving.{openedBook, nobody, Resting}
+use Rattle.documents.specs.declared.book.Book as struct
+use Rattle.documents.specs.Shelf.{shelf, Stock, Keeping}
+use Rattle.documents.specs.Documents.{openedBook, nobody, Resting}
 use Rattle.books.specs.Promise.{areas, lengthsOf, saying}
 
 -- the zeros are as many as are left

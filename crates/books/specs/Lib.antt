@@ -1,11 +1,4 @@
-pub mod Shelf
-pub mod Making
 pub mod Promise
 pub mod Driving
 pub mod Sets
 pub mod Solving
-pub mod Modelling
-pub mod Deeds
-pub mod Adding
-pub mod Including
-pub mod Implementing

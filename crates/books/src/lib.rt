@@ -1,10 +1,7 @@
 // The compile call: `backend/compiler.rs` and `backend/dependency_solver.rs` over lent areas.
 ghost use Rattle.books.specs.Promise.{areas, Compiles};
 
-pub mod documents;
 pub mod driver;
-pub mod functions;
-pub mod models;
 mod solver;
 
 use words::areas;

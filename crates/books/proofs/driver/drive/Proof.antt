@@ -1,8 +1,8 @@
 -- `books::driver::drive` meets its contract. The invariant: what finishes from here finishes the whole. Assumes nothing.
 -- Made from Proof.answers by `answers make`: edit that file, and not this one.
-use Rattle.books.proofs.DefinitionWays.{calm-definition}
+use Rattle.documents.proofs.DefinitionWays.{calm-definition}
 use Rattle.books.proofs.Rounds.{drive-end, drive-ring, round-full, round-faulty, round-more}
-use Rattle.books.specs.declared.documents.Book.{Book}
+use Rattle.documents.specs.declared.book.Book.{Book}
 use Rattle.books.specs.Driving.{Drives}
 use lib.ListN.{length}
 use mathlib.Core.Path.{_≡_, refl, _∙_}

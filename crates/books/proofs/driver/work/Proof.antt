@@ -1,8 +1,8 @@
 -- `books::driver::work` meets its contract: too many records, no room for the beginning, and the books. Assumes nothing.
 -- Made from Proof.answers by `answers make`: edit that file, and not this one.
-use Rattle.books.proofs.DefinitionWays.{calm-definition}
+use Rattle.documents.proofs.DefinitionWays.{calm-definition}
 use Rattle.books.proofs.Beginning.{work-huge, work-full, work-on}
-use Rattle.books.specs.declared.documents.Book.{Book}
+use Rattle.documents.specs.declared.book.Book.{Book}
 use mathlib.Core.Path.{refl, ap, _∙_}
 use Rattle.books.proofs.driver.work.Statement.{statement}
 use Rattle.books.proofs.driver.work.Tie as tie

@@ -1,0 +1,169 @@
+-- One lemma for each way through the routines of an include: what its calls ensure is the definition's deed. Assumes nothing.
+use Prim.Native.Nat.{ℕ, _+_, _-_, _≤_, _<_}
+use native.Mathlib.Omega.{arith}
+use mathlib.Core.Path.{_≡_, refl, sym, ap, _∙_}
+use mathlib.Core.Bool.{false}
+use mathlib.Core.Option.{Option, none, some}
+use mathlib.Core.List.{List, [], _∷_}
+use lib.ListN.{length}
+use lib.Dec.{eqb}
+use borrow.Author.Tests.{eq-eqb, ne-eqb}
+use Rattle.words.specs.Ast.{Token, Alias}
+use Rattle.words.specs.Areas.{entryField}
+use Rattle.words.specs.Record.{valueAt}
+use Rattle.tree.specs.At.{AliasAt, RunAt, runSize, double}
+use Rattle.definition.specs.Uses.{Limits}
+use Rattle.definition.specs.Book.{Assembly, Book, defineContextLocal, findAssembly, publicOf, includedName, giveValue, compileAlias}
+use Rattle.definition.specs.Book.{compileIncludeDefinition}
+use Rattle.building.specs.declared.scopes.Found.{Found}
+use Rattle.building.specs.declared.scopes.Found.the-variants.{At, Nothing}
+use Rattle.building.specs.Found.{foundOf}
+use Rattle.documents.specs.declared.book.Book as struct
+use Rattle.documents.specs.Shelf.{shelf, Keeping, Shelved}
+use Rattle.documents.specs.Deeds.{LocalsSeek, Below, LocalsValue}
+use Rattle.documents.specs.Including.{isPublic, findBookC, findPublicC, publicConstant, includedBy, includedC, LocalsInclude, TakesName, TakesNames}
+use Rattle.documents.proofs.Calm.{calm-local, calm-give, calm-alias}
+use Rattle.documents.proofs.Shelving.{keeping-longer, unfilled}
+use Rattle.documents.proofs.DeedWays.{defined-below}
+use Rattle.documents.proofs.PublicNames.{included-law}
+
+-- `is_public`
+module _ (index name : ℕ) (w : List ℕ) (i : ℕ) {there : ℕ} (h₀ : there ≡ entryField 3 i 0 w) where
+  pub public-other : (there ≡ index → ⊥) → false ≡ isPublic index name w i
+  public-other ne = rw (← h₀, ne-eqb there index ne)
+
+  pub public-name : there ≡ index → {other : ℕ} → other ≡ entryField 3 i 1 w → eqb other name ≡ isPublic index name w i
+  public-name q h₁ = rw (← h₀, ← h₁, eq-eqb there index q)
+
+-- `included_name`
+module _ (many count file name : ℕ) (books w : List ℕ) {there : Found} (searched : there ≡ foundOf (findBookC many file books)) where
+  pub included-unknown : there ≡ Nothing → Nothing ≡ foundOf (includedC many count file name books w)
+  included-unknown lost = go (findBookC many file books) (sym searched ∙ lost)
+    where
+      go : (o : Option ℕ) → foundOf o ≡ Nothing → Nothing ≡ foundOf (includedBy o count name w)
+      go none q = refl
+      go (some j) q = absurd (let y : _≡_ {A = ℕ} 0 1 = cc in omega arith)
+
+  included-known : {j : ℕ} → there ≡ At j → includedC many count file name books w ≡ publicConstant (findPublicC 0 count j name w) w
+  included-known {j} is = go (findBookC many file books) (sym searched ∙ is)
+    where
+      go : (o : Option ℕ) → foundOf o ≡ At j → includedBy o count name w ≡ publicConstant (findPublicC 0 count j name w) w
+      go none q = absurd (let y : _≡_ {A = ℕ} 0 1 = cc in omega arith)
+      go (some i) q = let same : i ≡ j = cc in rw same
+
+  pub included-none : {j : ℕ} → there ≡ At j → {found : Found} → found ≡ foundOf (findPublicC 0 count j name w) → found ≡ Nothing
+      → Nothing ≡ foundOf (includedC many count file name books w)
+  included-none {j} is hf lost = rw (included-known is) (go (findPublicC 0 count j name w) (sym hf ∙ lost))
+    where
+      go : (o : Option ℕ) → foundOf o ≡ Nothing → Nothing ≡ foundOf (publicConstant o w)
+      go none q = refl
+      go (some j) q = absurd (let y : _≡_ {A = ℕ} 0 1 = cc in omega arith)
+
+  pub included-some : {j : ℕ} → there ≡ At j → {found : Found} → found ≡ foundOf (findPublicC 0 count j name w) → {i : ℕ} → found ≡ At i
+      → {constant : ℕ} → constant ≡ entryField 3 i 2 w → At constant ≡ foundOf (includedC many count file name books w)
+  included-some {j} is hf {i} at {constant} hc = rw (included-known is) (go (findPublicC 0 count j name w) (sym hf ∙ at))
+    where
+      go : (o : Option ℕ) → foundOf o ≡ At i → At constant ≡ foundOf (publicConstant o w)
+      go none q = absurd (let y : _≡_ {A = ℕ} 0 1 = cc in omega arith)
+      go (some n) q = let same : n ≡ i = cc in rw (same, hc)
+
+-- `alias`
+module _ (tree : List ℕ) (at next file : ℕ) (books u : List ℕ) {local : ℕ} (hl : local ≡ valueAt tree next) {s s₁ : struct.Book} {l l₁ : List ℕ} {found : Found}
+    (D : LocalsSeek s l s₁ l₁ found (defineContextLocal local)) where
+  -- the local is defined, whatever comes of the public name
+  after-local : {l′ : List ℕ}
+      → ((c k f m p t n b e : List ℕ) (κ : Limits) (ps : List ℕ) (x : Book) → Shelved books (x .context .assemblies)
+      → Keeping κ ps (shelf s c k f m p t l u n b e) x → Keeping κ ps (shelf s₁ c k f m p t l₁ u n b e) (defineContextLocal local x .book)
+      → (let d = defineContextLocal local x in Keeping κ ps (shelf s₁ c k f m p t l′ u n b e)
+      (giveValue (d .place) (includedName file (valueAt tree at) (x .context)) (d .book))))
+      → TakesName tree at next file books u s l s₁ l′
+  unfolding compileAlias
+  after-local after = record {
+    takes = λ a name alias. record {
+      deeds = λ c k f m p t n b e. record {
+        meets = λ κ ps x B H.
+            let is : a .alias .value ≡ local = ap (λ (v : Token). v .value) (alias .token) ∙ sym hl in
+            let public : a .publicName .value ≡ valueAt tree at = ap (λ (v : Token). v .value) (name .token) in
+            rw (is, public) (after c k f m p t n b e κ ps x B H (D .seeks c k f m p t u n b e .meets κ ps x H));
+      };
+    };
+  }
+
+  pub takes-full : (s₁ .full ≡ 0 → ⊥) → TakesName tree at next file books u s l s₁ l₁
+  takes-full ne =
+      after-local (λ c k f m p t n b e κ ps x B H H₁.
+      let d = defineContextLocal local x in
+      keeping-longer (calm-give (d .place) (includedName file (valueAt tree at) (x .context)) (d .book) .uses) ne H₁)
+
+  module _ (z : s₁ .full ≡ 0) {name : ℕ} (hn : name ≡ valueAt tree at) {value : Found}
+      (hv : value ≡ foundOf (includedC (s₁ .file) (s₁ .publics) file name books u)) where
+    -- the books before are as they were
+    included : (c k f m p t n b e : List ℕ) (κ : Limits) (ps : List ℕ) (x : Book) → Shelved books (x .context .assemblies)
+        → Keeping κ ps (shelf s₁ c k f m p t l₁ u n b e) (defineContextLocal local x .book)
+        → value ≡ foundOf (includedName file (valueAt tree at) (x .context))
+    included c k f m p t n b e κ ps x B H₁ =
+        let kept : defineContextLocal local x .book .context .assemblies ≡ x .context .assemblies = calm-local local x .assemblies in
+        hv ∙ ap foundOf (included-law file name (H₁ .rest z) (rw kept B)
+        ∙ ap (λ (as′ : List Assembly). publicOf (findAssembly file as′) name) kept
+        ∙ ap (λ (n : ℕ). includedName file n (x .context)) hn)
+
+    pub takes-none : value ≡ Nothing → TakesName tree at next file books u s l s₁ l₁
+    takes-none lost =
+        after-local (λ c k f m p t n b e κ ps x B H H₁.
+        let d = defineContextLocal local x in
+        rw (go (includedName file (valueAt tree at) (x .context)) (d .place) (d .book) (sym (included c k f m p t n b e κ ps x B H₁) ∙ lost)) H₁)
+      where
+        go : (o p : Option ℕ) (x : Book) → foundOf o ≡ Nothing → giveValue p o x ≡ x
+        go none p x q = refl
+        go (some c) p x q = absurd (let y : _≡_ {A = ℕ} 0 1 = cc in omega arith)
+
+    pub takes-value : {constant : ℕ} → value ≡ At constant → {l′ : List ℕ} → LocalsValue s₁ l₁ l′ found constant
+        → TakesName tree at next file books u s l s₁ l′
+    takes-value {constant} is {l′} L =
+        after-local (λ c k f m p t n b e κ ps x B H H₁.
+        let d = defineContextLocal local x in
+        let many : x .context .pool .localCount ≡ length (x .context .localNames) = H .rest (unfilled (calm-local local x .uses) H H₁ z) .counted in
+        go c k f m p t n b e κ ps (d .book) (d .place) (D .seeks c k f m p t u n b e .sought κ ps x H z) (defined-below local x many)
+        (includedName file (valueAt tree at) (x .context)) (sym (included c k f m p t n b e κ ps x B H₁) ∙ is) H₁)
+      where
+        go : (c k f m p t n b e : List ℕ) (κ : Limits) (ps : List ℕ) (x : Book) (p′ : Option ℕ) → found ≡ foundOf p′
+            → Below p′ (length (x .context .localNames)) → (o : Option ℕ) → foundOf o ≡ At constant
+            → Keeping κ ps (shelf s₁ c k f m p t l₁ u n b e) x → Keeping κ ps (shelf s₁ c k f m p t l′ u n b e) (giveValue p′ o x)
+        go c k f m p t n b e κ ps x p′ r below none q H₁ = absurd (let y : _≡_ {A = ℕ} 0 1 = cc in omega arith)
+        go c k f m p t n b e κ ps x p′ r below (some v) q H₁ =
+            let same : constant ≡ v = cc in
+            L .values c k f m p t u n b e κ ps x p′ v (record { agrees = λ _. (r, same, below) }) H₁
+
+-- `include_definition`: no pair is left
+pub pairs-end : (tree : List ℕ) (i end file : ℕ) {books u : List ℕ} {s : struct.Book} {l : List ℕ} → end - i ≤ 1
+    → TakesNames tree i end file books u s l s l
+unfolding compileIncludeDefinition runSize
+pairs-end tree i end file h = record {
+  takes = λ as′ at same. record {
+    deeds = λ c k f m p t n b e. record { meets = λ κ ps x B H. rw (none-left as′ (omega (arith, same, h))) H };
+  };
+}
+  where
+    none-left : (as′ : List Alias) → runSize double as′ ≤ 1 → compileIncludeDefinition file as′ ≡ (λ x. x)
+    none-left [] q = refl
+    none-left (a ∷ as′) q = absurd (omega arith)
+
+-- a pair, and those after it
+pub pairs-more : (tree : List ℕ) (i end file : ℕ) {books u : List ℕ} {s s₁ s′ : struct.Book} {l l₁ l′ : List ℕ} → 1 < end - i
+    → TakesName tree i (i + 1) file books u s l s₁ l₁ → TakesNames tree (i + 1 + 1) end file books u s₁ l₁ s′ l′
+    → TakesNames tree i end file books u s l s′ l′
+unfolding RunAt runSize compileIncludeDefinition
+pairs-more tree i end file {books} {u} {s} {s₁} {s′} {l} {l₁} {l′} h A R = record { takes = go }
+  where
+    go : (as′ : List Alias) → RunAt AliasAt double as′ tree i → i + runSize double as′ ≡ end
+        → LocalsInclude books u s l s′ l′ (compileIncludeDefinition file as′)
+    go [] there same = absurd (omega arith)
+    go (a ∷ as′) there same =
+        let next : i + 2 ≡ i + 1 + 1 = omega arith in
+        record {
+          deeds = λ c k f m p t n b e. record {
+            meets = λ κ ps x B H.
+                R .takes as′ (rw (← next) (there .1)) (omega (arith, same)) .deeds c k f m p t n b e .meets κ ps (compileAlias file a x)
+                (rw (calm-alias file a x .assemblies) B) (A .takes a (there .0 .0) (there .0 .1) .deeds c k f m p t n b e .meets κ ps x B H);
+          };
+        }

@@ -1,0 +1,241 @@
+-- A function of a book compiled to its end, and added to the book or dropped: one lemma for each way. By the laws of a function's begin and end, and by
+-- what a function leaves as it was. Assumes nothing.
+use Prim.Native.Nat.{ℕ, suc, _+_, _^_, _<_}
+use native.Mathlib.Nat.{zero-add}
+use native.Mathlib.Omega.{arith}
+use mathlib.Core.Path.{_≡_, refl, sym, ap, _∙_}
+use mathlib.Core.Bool.{Bool, true, false}
+use mathlib.Core.List.{List, [], _∷_, _++_}
+use lib.ListN.{length}
+use lib.Dec.{eqb}
+use borrow.Author.Tests.{eqb-true, eqb-false}
+use Rattle.words.specs.Ast.{FunctionDefinition}
+use Rattle.words.specs.Areas.{functionsArea, entriesIn}
+use Rattle.words.specs.Record.{mostRecords}
+use Rattle.definition.specs.FunctionState.{newFunctionState, getLastPosition}
+use Rattle.definition.specs.FunctionState as method
+use Rattle.definition.specs.Uses.{Limits, total}
+use Rattle.definition.specs.Within.{All, none as nil, _&_}
+use Rattle.definition.specs.Compiler.{Work, doing, withFunction, compileParameters, compileStatements, compileFunctionDefinitionBase}
+use Rattle.definition.specs.Book.{Function, Book, working, codeOf, compileBase, addFunction}
+use Rattle.definition.specs.Program.{Entries, codeEntries, functionCode, functionEntry, functionEntries}
+use Rattle.definition.proofs.Lists.{all-append, all-map}
+use Rattle.definition.proofs.Limits.{LimitedFunction}
+use Rattle.definition.proofs.Steady.{Longer, same, more, longer-trans, Steady}
+use Rattle.definition.proofs.Steady.{steady-trans, steady-function, steady-return, steady-parameters, steady-statements}
+use Rattle.definition.proofs.Good.{function-moves}
+use Rattle.definition.proofs.Room.{room, room-limited}
+use Rattle.definition.proofs.Operands.{function-kept}
+use Rattle.building.specs.declared.function_state.FunctionState.{FunctionState}
+use Rattle.building.specs.declared.taking.Taken.{Taken}
+use Rattle.building.specs.State.{begun}
+use Rattle.building.specs.Scopes.{naming, endFunctionC}
+use Rattle.building.specs.Taking.{Took, taken}
+use Rattle.building.specs.Context.{functionWords}
+use Rattle.building.specs.Held.{machine, Filled, Held}
+use Rattle.building.proofs.Filling.{capped, over-fits, over-here}
+use Rattle.building.proofs.Notes.{held-longer, over-longer, back}
+use Rattle.building.proofs.PoolLaws.{entries-more}
+use Rattle.building.proofs.FunctionLaws.{Between, done, between-law}
+use Rattle.building.proofs.ContextLaws.{Grown, grown, over, function-words, add-function-law, took-full}
+use Rattle.building.proofs.StateLaws.{touch-law}
+use Rattle.building.proofs.ScopeLaws.{end-law}
+use Rattle.documents.specs.declared.book.Book as struct
+use Rattle.documents.specs.Shelf.{shelf, Stock, Fitted, Keeping}
+use Rattle.documents.specs.Deeds.{resumedBook}
+use Rattle.documents.specs.Making.{MeetsBase}
+use Rattle.documents.specs.Adding.{withFunctionCount, Bounded, ended, baseOf, Built, Makes, AddsFunction}
+use Rattle.documents.proofs.Calm.{Calm}
+use Rattle.documents.proofs.Resuming.{codeSoFar, held-working, named-same}
+
+-- what a function leaves as it was
+pub base-steady : (f : FunctionDefinition) (w : Work) → Steady (withFunction newFunctionState w) (compileFunctionDefinitionBase (f .parameters) (f .body) w)
+unfolding compileFunctionDefinitionBase
+base-steady f w =
+    let w₁ = compileParameters (f .parameters) (withFunction newFunctionState w) in
+    let w₂ = doing (λ g. method.withParameters (g .isInstance) (length (f .parameters)) g) w₁ in
+    let w₃ = compileStatements (f .body) w₂ in
+    steady-trans (steady-parameters (f .parameters) (withFunction newFunctionState w)) (steady-trans {b = w₂} (steady-function w₁ _ refl)
+    (steady-trans (steady-statements (f .body) w₂) (steady-return (getLastPosition (w₃ .function)) w₃)))
+
+pub base-longer : (f : FunctionDefinition) (x : Book) → Longer (x .uses) (baseOf f x .uses)
+base-longer f x = longer-trans (more (more (more same))) (base-steady f (working x) .uses)
+
+pub calm-base : (f : FunctionDefinition) (x : Book) → Calm x (compileBase f x .book)
+unfolding compileBase
+calm-base f x = record { uses = base-longer f x; assemblies = refl; filename = refl; index = refl }
+
+-- no break is left
+pub base-breaks : (f : FunctionDefinition) (w : Work) → compileFunctionDefinitionBase (f .parameters) (f .body) w .function .breakScopes ≡ []
+base-breaks f w = function-moves (f .parameters) (f .body) w .breaks
+
+-- the locals' number stands in 64 bits
+pub few-locals : (f : FunctionDefinition) → Bounded f → (w : Work)
+    → compileFunctionDefinitionBase (f .parameters) (f .body) w .function .localCount < 2 ^ 64
+few-locals f l w =
+    let n = length (w .context .constants) in
+    let k = function-kept mostRecords (λ (area : ℕ). n) (f .parameters) (f .body) (omega arith) (omega (arith, l .records)) w
+    (record { known = omega arith }) in
+    omega (arith, k .body .few, room-limited f (record { records = l .records; levels = l .levels }))
+
+pub bounded : {f : FunctionDefinition} → LimitedFunction f → Bounded f
+bounded l = record { records = l .records; levels = l .levels }
+
+pub all-bounded : {fs : List FunctionDefinition} → All LimitedFunction fs → All Bounded fs
+all-bounded l = all-map (λ f h. bounded h) l
+
+-- `make`
+module _ {tree : List ℕ} {at end : ℕ} {s : struct.Book} {l c k n b e : List ℕ} {r : FunctionState}
+    (worked : r ≡ begun (s .full) (s .code) (s .constants) (s .errors)) where
+  pub make-full : (s .full ≡ 0 → ⊥) → Makes tree at end s l c k n b e r c k n b e
+  make-full ne = record {
+    makes = λ kind f h q g m p t u κ ps x H.
+        record { book = H; function = rw worked (held-longer {w′ = ended (baseOf f x)} (base-longer f x) ne (held-working H)) };
+  }
+
+  pub make-meets : s .full ≡ 0 → {r₁ r′ : FunctionState} {c′ k′ n₁ n′ b′ e′ : List ℕ}
+      → MeetsBase tree at end (s .«first_local») (s .locals) l (machine r c k n b e) (machine r₁ c′ k′ n₁ b′ e′)
+      → naming r′ n′ ≡ endFunctionC (naming r₁ n₁) → Makes tree at end s l c k n b e r′ c′ k′ n′ b′ e′
+  make-meets z {r₁} {r′} {c′} {k′} {n₁} {n′} {b′} {e′} B ends = record {
+    makes = λ kind f h q g m p t u κ ps x H.
+        let A : Held κ (codeSoFar x) (machine r c k n b e) (withFunction newFunctionState (working x)) = rw worked (touch-law (held-working H)) in
+        record { book = H; function = end-law (B .meets kind f h q κ (codeSoFar x) (working x) (H .rest z .named) A) ends };
+  }
+
+-- `add_function`
+
+entries-of : (start : ℕ) (fs : List Function) (f : Function)
+    → functionEntries start (fs ++ (f ∷ [])) ≡ functionEntries start fs ++ (functionEntry (start + codeOf fs) f ∷ [])
+entries-of start [] f = let here : start + 0 ≡ start = omega arith in rw here
+entries-of start (g ∷ fs) f =
+    let n = length (g .state .instructions) in
+    let next : start + (n + codeOf fs) ≡ start + n + codeOf fs = omega arith in
+    rw next (ap (λ (es : Entries). functionEntry start g ∷ es) (entries-of (start + n) fs f))
+
+pub functions-length : (start : ℕ) (fs : List Function) → length (functionEntries start fs) ≡ length fs
+functions-length start [] = refl
+functions-length start (f ∷ fs) = ap suc (functions-length (start + length (f .state .instructions)) fs)
+
+module _ {κ : Limits} {ps : List ℕ} {s : struct.Book} {c₀ k₀ n₀ b₀ e₀ c k n b e g m p t l u : List ℕ} {r : FunctionState} {x : Book} {f : FunctionDefinition}
+    (B : Built κ ps (shelf s c₀ k₀ g m p t l u n₀ b₀ e₀) x f (machine r c k n b e)) where
+  -- not full after the function, not full before
+  pub built-back : r .full ≡ 0 → s .full ≡ 0
+  built-back = back (base-longer f x) (held-working (B .book)) (B .function)
+
+  pub built-between : r .full ≡ 0 → Between (codeSoFar x ++ codeEntries (baseOf f x .function .instructions) (baseOf f x .function .positions)) (r .code)
+      (r .constants) (r .errors) c k n b e (done (ended (baseOf f x)))
+  built-between z = between-law (B .function) z refl (ap total (base-breaks f (working x)))
+
+  abbrev made : ℕ → Function
+  made name = record { state = baseOf f x .function; name = name; file = x .assembly .index }
+
+  -- the areas that functions are built in are as long as before
+  pub added-fitted : {s′ : struct.Book} {g′ : List ℕ} → length g′ ≡ length g → Fitted κ (shelf s′ c k g′ m p t l u n b e)
+  added-fitted long =
+      let F = B .book .fitted in
+      let K = capped (B .function) in
+      record {
+        code = K .code;
+        constants = K .constants;
+        functions = ap (λ (w : ℕ). entriesIn 8 w) long ∙ F .functions;
+        models = F .models;
+        properties = F .properties;
+        methods = F .methods;
+        locals = F .locals;
+        publics = F .publics;
+        names = K .names;
+        breaks = K .breaks;
+        errors = K .errors;
+      }
+
+  module _ (l′ : Bounded f) (name : ℕ) where
+    -- the entry is the definition's
+    added-words : r .full ≡ 0 → functionWords r (s .file) name ≡ functionEntry (codeOf (x .context .functions)) (made name)
+    added-words z =
+        let C = B .function .rest z in
+        let start : length (codeSoFar x) ≡ codeOf (x .context .functions) = sym (C .before) ∙ base-steady f (working x) .before in
+        function-words C (few-locals f l′ (working x)) (s .file) name ∙ rw (start, B .book .rest (built-back z) .file)
+
+    added-stock : r .full ≡ 0 → {g′ : List ℕ}
+        → Filled 8 g′ (functionEntries 0 (x .context .functions) ++ (functionWords r (s .file) name ∷ [])) (s .functions + 1)
+        → Stock ps (shelf (withFunctionCount (taken 0 (s .functions + 1)) (resumedBook s r)) c k g′ m p t l u n b e)
+        (addFunction (compileBase f x .state) name (compileBase f x .book))
+    unfolding compileBase
+    added-stock z F =
+        let S = B .book .rest (built-back z) in
+        let C = B .function .rest z in
+        let A = built-between z in
+        let fs = x .context .functions in
+        let first : 0 + codeOf fs ≡ codeOf fs = zero-add (codeOf fs) in
+        record {
+          code = rw (entries-more functionCode 0 fs (made name)) (A .filled-code);
+          sized = all-append (S .sized) (C .sized & nil);
+          constants = A .filled-constants;
+          marks = A .marks;
+          functions = rw (entries-of 0 fs (made name), first, ← added-words z) F;
+          models = S .models;
+          properties = S .properties;
+          methods = S .methods;
+          locals = S .locals;
+          counted = function-moves (f .parameters) (f .body) (working x) .context ∙ S .counted;
+          valued = S .valued;
+          named = named-same (base-steady f (working x) .locals) (S .named);
+          publics = S .publics;
+          first-public = S .first-public;
+          file = S .file;
+          last-index = S .last-index;
+          indexed = S .indexed;
+          entry = S .entry;
+          names = A .filled-names;
+          breaks = A .filled-breaks;
+          errors = A .filled-errors;
+        }
+
+    added-grown : r .full ≡ 0 → {T : Taken} {g′ : List ℕ}
+        → Grown functionsArea (s .functions) (functionWords r (s .file) name) g (functionEntries 0 (x .context .functions)) T g′
+        → Keeping κ ps (shelf (withFunctionCount T (resumedBook s r)) c k g′ m p t l u n b e)
+        (addFunction (compileBase f x .state) name (compileBase f x .book))
+    unfolding compileBase
+    added-grown z (grown room filled long) =
+        let many : s .functions ≡ length (x .context .functions) =
+        B .book .rest (built-back z) .functions .count ∙ functions-length 0 (x .context .functions) in
+        record {
+          fitted = added-fitted long;
+          full = over-fits κ _ _ (rw z at (B .function .full)) refl (omega (arith, room, B .book .fitted .functions, many));
+          rest = λ _. added-stock z filled;
+        }
+    added-grown z (over none-left) =
+        let many : s .functions ≡ length (x .context .functions) =
+        B .book .rest (built-back z) .functions .count ∙ functions-length 0 (x .context .functions) in
+        record {
+          fitted = added-fitted refl;
+          full = over-here κ _ _ (B .function .full) z (omega (arith, none-left, B .book .fitted .functions, many)) (omega arith);
+          rest = λ y. absurd (omega (arith, y));
+        }
+
+    added-keeping : {T : Taken} {g′ : List ℕ} → Took functionsArea (r .full) (s .functions) (functionWords r (s .file) name) g T g′
+        → Keeping κ ps (shelf (withFunctionCount T (resumedBook s r)) c k g′ m p t l u n b e)
+        (addFunction (compileBase f x .state) name (compileBase f x .book))
+    unfolding compileBase
+    added-keeping {T} {g′} took = go (eqb (r .full) 0) refl
+      where
+        go : (v : Bool) → eqb (r .full) 0 ≡ v → Keeping κ ps (shelf (withFunctionCount T (resumedBook s r)) c k g′ m p t l u n b e)
+            (addFunction (compileBase f x .state) name (compileBase f x .book))
+        go true q =
+            let z = eqb-true (r .full) 0 q in
+            added-grown z (add-function-law r (s .file) name took z (B .book .rest (built-back z) .functions))
+        go false q =
+            let ne = eqb-false (r .full) 0 q in
+            let stays = took-full took ne in
+            rw (stays .0, stays .1) (record {
+              fitted = added-fitted refl;
+              full = over-longer κ (more same) (B .function .full) ne;
+              rest = λ y. absurd (ne y);
+            })
+
+module _ {s : struct.Book} {r : FunctionState} {g : List ℕ} (name : ℕ) where
+  pub add-meets : {s₁ : struct.Book} {T : Taken} {g′ : List ℕ} → s₁ ≡ resumedBook s r
+      → Took functionsArea (s₁ .full) (s₁ .functions) (functionWords r (s₁ .file) name) g T g′ → AddsFunction name s r g (withFunctionCount T s₁) g′
+  add-meets {T = T} {g′ = g′} back′ took = rw back′ (record {
+    adds = λ f l′ c₀ k₀ n₀ b₀ e₀ c k n b e m p t l u κ ps x B. added-keeping B l′ name (rw back′ at took);
+  })

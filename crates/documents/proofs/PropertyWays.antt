@@ -1,0 +1,195 @@
+-- One lemma for each way through `add_property` and the loop over a model's properties, over what their calls ensure. Assumes nothing.
+use Prim.Native.Nat.{ℕ, suc, _+_, _-_, _≤_, _<_}
+use native.Mathlib.Omega.{arith}
+use mathlib.Core.Path.{_≡_, refl, sym, ap, _∙_}
+use mathlib.Core.Bool.{Bool, true, false, cond}
+use mathlib.Core.Option.{Option, none, some}
+use mathlib.Core.List.{List, [], _∷_, _++_, append-assoc}
+use lib.ListN.{length, getD}
+use lib.Dec.{eqb}
+use borrow.Author.Tests.{eq-eqb}
+use Rattle.words.specs.Ast.{Token}
+use Rattle.words.specs.Record.{tokenAt, valueAt}
+use Rattle.words.specs.Areas.{propertiesArea}
+use Rattle.definition.specs.Uses.{Limits}
+use Rattle.definition.specs.Book.{Book, Context, Model, Properties, noted, hasText, propertiesOf, pushBookError, addProperty, compileProperties}
+use Rattle.definition.specs.Program.{Entries, entriesFrom, propertyEntries, modelProperties}
+use Rattle.definition.proofs.Cells.{all-any, entries-length, single-length}
+use Rattle.tree.specs.At.{RunAt, runSize, NameAt, single}
+use Rattle.building.specs.declared.scopes.Found.{Found}
+use Rattle.building.specs.declared.scopes.Found.the-variants.{At, Nothing}
+use Rattle.building.specs.declared.taking.Taken.{Taken}
+use Rattle.building.specs.Found.{foundOf, firstFrom}
+use Rattle.building.specs.Taking.{Took}
+use Rattle.building.specs.Held.{Filled}
+use Rattle.building.proofs.ContextLaws.{took-law}
+use Rattle.documents.specs.declared.book.Book as struct
+use Rattle.documents.specs.Shelf.{Shelf, shelf, Stock, Keeping}
+use Rattle.documents.specs.Deeds.{ErrorsDo}
+use Rattle.documents.specs.Modelling.{isPair, findPairC, withPropertyCount, AddsProperty, AddsProperties, ModelsProperties}
+use Rattle.documents.proofs.ModelCalm.{calm-property}
+use Rattle.documents.proofs.Shelving.{keeping-longer, unfilled}
+use Rattle.documents.proofs.Pairs.{found-at, found-none, rowsFrom, rows-count, rows-more, row-word}
+use Rattle.documents.proofs.Stocking.{keeping-grown, stock-properties, fitted-properties}
+
+abbrev propertyWords : ℕ → ℕ → List ℕ
+propertyWords i n = i ∷ n ∷ []
+
+pub property-rows : (i j : ℕ) (ns : List ℕ) → propertyEntries i ns ≡ rowsFrom (propertyWords i) j ns
+property-rows i j [] = refl
+property-rows i j (n ∷ ns) = ap (λ (l : Entries). propertyWords i n ∷ l) (property-rows i (j + 1) ns)
+
+property-length : (i : ℕ) (ns : List ℕ) → length (propertyEntries i ns) ≡ length ns
+property-length i [] = refl
+property-length i (n ∷ ns) = ap suc (property-length i ns)
+
+pub before-length : (ms : List Model) → length (entriesFrom modelProperties 0 ms) ≡ propertiesOf ms
+before-length ms = entries-length modelProperties (λ m. length (m .properties)) 0 (λ j m u. property-length j (m .properties)) (all-any ms)
+
+-- a search, by the texts that are there
+isThere : Option ℕ → Bool
+isThere none = false
+isThere (some i) = true
+
+has-text : (name : ℕ) (test : ℕ → Bool) (ns : List ℕ) (from : ℕ) → ((j : ℕ) → j < length ns → test (from + j) ≡ eqb (getD ns j 0) name)
+    → hasText name ns ≡ isThere (firstFrom test (length ns) from)
+unfolding firstFrom isThere
+has-text name test [] from each = refl
+has-text name test (n ∷ ns) from each =
+    let rest = has-text name test ns (from + 1)
+    (λ j h. let step : from + suc j ≡ from + 1 + j = omega arith in rw step at (each (suc j) (omega arith))) in
+    go (eqb n name) (let same : from + 0 ≡ from = omega arith in rw same at (each 0 (omega arith))) rest
+  where
+    go : (b : Bool) → test from ≡ b → hasText name ns ≡ isThere (firstFrom test (length ns) (from + 1))
+        → cond b true (hasText name ns) ≡ isThere (cond (test from) (some from) (firstFrom test (length ns) (from + 1)))
+    go true q r = rw q
+    go false q r = rw q r
+
+module _ (i name : ℕ) (front : Entries) (ps : List ℕ) {p : List ℕ} {n : ℕ} (filled : Filled 2 p (front ++ propertyEntries i ps) n) where
+  rows : Filled 2 p (front ++ rowsFrom (propertyWords i) 0 ps) n
+  rows = rw (← property-rows i 0 ps) filled
+
+  property-count : n ≡ length front + length ps
+  property-count = rows-count (propertyWords i) front ps 0 (omega arith) rows
+
+  has-in : {from : ℕ} → from ≡ length front → hasText name ps ≡ isThere (findPairC 2 from n i name p)
+  has-in {from} q =
+      let many : n - from ≡ length ps = omega (arith, property-count) in
+      rw (many, q) (has-text name (isPair 2 i name p) ps (length front)
+      (λ j h. rw (
+        row-word (propertyWords i) front ps 0 (omega arith) rows j 0 h (omega arith),
+        row-word (propertyWords i) front ps 0 (omega arith) rows j 1 h (omega arith),
+        eq-eqb i i refl,
+      )))
+
+more-in : (i name : ℕ) (front : Entries) (ps : List ℕ)
+    → (front ++ propertyEntries i ps) ++ ((i ∷ name ∷ []) ∷ []) ≡ front ++ propertyEntries i (ps ++ (name ∷ []))
+more-in i name front ps =
+    append-assoc front (propertyEntries i ps) ((i ∷ name ∷ []) ∷ [])
+    ∙ ap (λ (l : Entries). front ++ l) (ap (λ (l : Entries). l ++ ((i ∷ name ∷ []) ∷ [])) (property-rows i 0 ps)
+    ∙ sym (rows-more (propertyWords i) 0 ps name) ∙ sym (property-rows i 0 (ps ++ (name ∷ []))))
+
+-- the count of models is the next model's number
+pub models-count : {ps : List ℕ} {m : Shelf} {w : Book} → Stock ps m w → m .book .models ≡ length (w .context .models)
+models-count {w = w} S = S .models .count ∙ single-length (λ _ x. x .file ∷ x .name ∷ []) 0 (w .context .models)
+
+-- whether the search finds the name
+there-by : {first : ℕ} {s : struct.Book} {p e : List ℕ} (name : ℕ) → s .full ≡ 0 → (c k f m t l u n b : List ℕ) (κ : Limits) (ps : List ℕ) (w : Book)
+    → first ≡ propertiesOf (w .context .models) → Keeping κ ps (shelf s c k f m p t l u n b e) w
+    → hasText name ps ≡ isThere (findPairC 2 first (s .properties) (s .models) name p)
+there-by {s = s} name z c k f m t l u n b κ ps w start H =
+    let S = H .rest z in
+    let models : s .models ≡ length (w .context .models) = models-count S in
+    rw models (has-in (length (w .context .models)) name (entriesFrom modelProperties 0 (w .context .models)) ps (S .properties)
+    (start ∙ sym (before-length (w .context .models))))
+
+-- `add_property`
+module _ {tree : List ℕ} {at first : ℕ} {s : struct.Book} {p e : List ℕ} where
+  pub property-full : (s .full ≡ 0 → ⊥) → AddsProperty tree at first s p e s p e
+  property-full ne = record { meets = λ c k f m t l u n b κ ps w start H. keeping-longer (calm-property (tokenAt tree at) ps w .uses) ne H }
+
+  pub property-there : s .full ≡ 0 → {g : Found} {i name : ℕ} → name ≡ valueAt tree at
+      → g ≡ foundOf (findPairC 2 first (s .properties) (s .models) name p) → g ≡ At i → {s′ : struct.Book} {e′ : List ℕ}
+      → ErrorsDo s e s′ e′ (pushBookError 6 (tokenAt tree at)) → AddsProperty tree at first s p e s′ p e′
+  unfolding isThere
+  property-there z {g} {i} {name} value searched at-i {s′} {e′} E = record {
+    meets = λ c k f m t l u n b κ ps w start H.
+        let has : hasText (valueAt tree at) ps ≡ true =
+        rw value at (there-by name z c k f m t l u n b κ ps w (start z) H
+        ∙ ap isThere (found-at (findPairC 2 first (s .properties) (s .models) name p) searched at-i)) in
+        rw has (E .deeds c k f m p t l u n b .meets κ ps w H);
+  }
+
+  pub property-new : s .full ≡ 0 → {g : Found} {name : ℕ} → name ≡ valueAt tree at
+      → g ≡ foundOf (findPairC 2 first (s .properties) (s .models) name p) → g ≡ Nothing → {r : Taken} {p′ : List ℕ}
+      → Took propertiesArea (s .full) (s .properties) (s .models ∷ name ∷ []) p r p′ → AddsProperty tree at first s p e (withPropertyCount r s) p′ e
+  unfolding isThere
+  property-new z {g} {name} value searched lost {r} {p′} T = record {
+    meets = λ c k f m t l u n b κ ps w start H.
+        let has : hasText (valueAt tree at) ps ≡ false =
+        rw value at (there-by name z c k f m t l u n b κ ps w (start z) H
+        ∙ ap isThere (found-none (findPairC 2 first (s .properties) (s .models) name p) searched lost)) in
+        rw has (go c k f m t l u n b κ ps w (start z) H (H .rest z));
+  }
+    where
+      go : (c k f m t l u n b : List ℕ) (κ : Limits) (ps : List ℕ) (w : Book) → first ≡ propertiesOf (w .context .models)
+          → Keeping κ ps (shelf s c k f m p t l u n b e) w → Stock ps (shelf s c k f m p t l u n b e) w
+          → Keeping κ (ps ++ (valueAt tree at ∷ [])) (shelf (withPropertyCount r s) c k f m p′ t l u n b e)
+          (noted propertiesArea (propertiesOf (w .context .models) + length ps + 1) w)
+      go c k f m t l u n b κ ps w start H S =
+          let index = length (w .context .models) in
+          let front = entriesFrom modelProperties 0 (w .context .models) in
+          let models : s .models ≡ index = models-count S in
+          let count = property-count index name front ps (S .properties) in
+          let entries : (front ++ propertyEntries index ps) ++ ((s .models ∷ name ∷ []) ∷ []) ≡ front ++ propertyEntries index (ps ++ (valueAt tree at ∷ [])) =
+          rw (models, value) (more-in index (valueAt tree at) front ps) in
+          keeping-grown H z propertiesArea (propertiesOf (w .context .models) + length ps + 1) _ refl
+          (took-law T z (S .properties)) (omega arith) refl (H .fitted .properties) (omega (arith, before-length (w .context .models))) refl
+          (λ e. fitted-properties e (H .fitted)) (λ f q. rw q (stock-properties S (rw (← entries) f)))
+
+-- the loop
+module _ (tree : List ℕ) (end first : ℕ) where
+  pub properties-end : (i : ℕ) {s : struct.Book} {p e : List ℕ} → end ≤ i → AddsProperties tree i end first s p e s p e
+  unfolding compileProperties RunAt runSize
+  properties-end i {s} {p} {e} past = record { meets = λ c k f m t l u n b κ ps w ts. go c k f m t l u n b κ ps w ts }
+    where
+      go : (c k f m t l u n b : List ℕ) (κ : Limits) (ps : List ℕ) (w : Book) (ts : List Token) → RunAt NameAt single ts tree i
+          → i + runSize single ts ≡ end → (s .full ≡ 0 → first ≡ propertiesOf (w .context .models)) → Keeping κ ps (shelf s c k f m p t l u n b e) w
+          → Keeping κ (compileProperties ts ps w .texts) (shelf s c k f m p t l u n b e) (compileProperties ts ps w .book)
+      go c k f m t l u n b κ ps w [] run q start H = H
+      go c k f m t l u n b κ ps w (x ∷ ts) run q start H = absurd (omega arith)
+
+  same-models : (t : Token) (ps : List ℕ) (w : Book) → addProperty t ps w .book .context ≡ w .context
+  same-models t ps w = go (hasText (t .value) ps)
+    where
+      go : (x : Bool) → cond {A = Properties} x (record { texts = ps; book = pushBookError 6 t w })
+          (record { texts = ps ++ (t .value ∷ []); book = noted propertiesArea (propertiesOf (w .context .models) + length ps + 1) w }) .book .context
+          ≡ w .context
+      go true = refl
+      go false = refl
+
+  pub properties-more : (i : ℕ) {s s₁ s′ : struct.Book} {p e p₁ e₁ p′ e′ : List ℕ} → i < end → AddsProperty tree i first s p e s₁ p₁ e₁
+      → AddsProperties tree (i + 1) end first s₁ p₁ e₁ s′ p′ e′ → AddsProperties tree i end first s p e s′ p′ e′
+  unfolding compileProperties RunAt runSize
+  properties-more i {s} {s₁} {s′} {p} {e} {p₁} {e₁} {p′} {e′} inside A B =
+      record { meets = λ c k f m t l u n b κ ps w ts. go c k f m t l u n b κ ps w ts }
+    where
+      go : (c k f m t l u n b : List ℕ) (κ : Limits) (ps : List ℕ) (w : Book) (ts : List Token) → RunAt NameAt single ts tree i
+          → i + runSize single ts ≡ end → (s .full ≡ 0 → first ≡ propertiesOf (w .context .models)) → Keeping κ ps (shelf s c k f m p t l u n b e) w
+          → Keeping κ (compileProperties ts ps w .texts) (shelf s′ c k f m p′ t l u n b e′) (compileProperties ts ps w .book)
+      go c k f m t l u n b κ ps w [] run q start H = absurd (omega arith)
+      go c k f m t l u n b κ ps w (x ∷ ts) run q start H =
+          let token : x ≡ tokenAt tree i = run .0 .token in
+          let H₁ = A .meets c k f m t l u n b κ ps w start H in
+          let w₁ = addProperty (tokenAt tree i) ps w in
+          rw token (B .meets c k f m t l u n b κ (w₁ .texts) (w₁ .book) ts (run .1) (omega arith)
+          (λ z. start (unfilled (calm-property (tokenAt tree i) ps w .uses) H H₁ z)
+          ∙ ap (λ (x : Context). propertiesOf (x .models)) (sym (same-models (tokenAt tree i) ps w))) H₁)
+
+  pub properties-done : (at : ℕ) {s s′ : struct.Book} {p e p′ e′ : List ℕ} → first ≡ s .properties → AddsProperties tree at end first s p e s′ p′ e′
+      → ModelsProperties tree at end s p e s′ p′ e′
+  properties-done at {s} q A = record {
+    meets = λ c k f m t l u n b κ w ts run size H. A .meets c k f m t l u n b κ [] w ts run size
+        (λ z. q ∙ property-count (length (w .context .models)) 0 (entriesFrom modelProperties 0 (w .context .models)) [] (H .rest z .properties)
+        ∙ omega (arith, before-length (w .context .models))) H;
+  }

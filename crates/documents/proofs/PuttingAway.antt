@@ -1,0 +1,184 @@
+-- A book opened, compiled and put away: the areas that are ready for a book stand for it before its first definition, and after its last they are ready
+-- for the next one, if no error was found. By the entries of the areas. Assumes nothing.
+use Prim.Native.Nat.{ℕ, suc, _+_, _≤_, _<_}
+use native.Mathlib.Omega.{arith}
+use native.Mathlib.Decide.{decLt}
+use mathlib.Core.Path.{_≡_, refl, sym, ap, subst, _∙_}
+use mathlib.Core.List.{List, [], _∷_, _++_, append-nil}
+use lib.ListN.{length, getD, length-append, List·getD-append}
+use lib.Seq.{getD-at}
+use Rattle.words.specs.Ast.{Definition, Document}
+use Rattle.tree.specs.At.{DocumentAt, sizeDoc, RunAt, runSize, DefinitionAt, sizeD}
+use Rattle.tree.proofs.View.{headD, sizeD-pos}
+use Rattle.definition.specs.FunctionState.{Entry}
+use Rattle.definition.specs.Uses.{Use, Limits, sumOf}
+use Rattle.definition.specs.Compiler.{Error}
+use Rattle.definition.specs.Book.{Assembly, Context, Book, opened, withContext, withAssemblies, publicsOf, compileDefinition, compileDefinitions}
+use Rattle.definition.specs.Program.{Entries, entriesFrom, assemblyPublics, publicEntries, errorEntry}
+use Rattle.definition.specs.Within.{All, _&_}
+use Rattle.definition.proofs.Limits.{LimitedDocument, LimitedFunction, functionsIn}
+use Rattle.definition.proofs.Cells.{entries-length, all-any}
+use Rattle.building.specs.Held.{Filled}
+use Rattle.building.proofs.PoolLaws.{entries-more}
+use Rattle.documents.specs.declared.book.Book as struct
+use Rattle.bodies.specs.Meets.{skipC}
+use Rattle.documents.specs.Shelf.{Shelf, shelf, Stock, Keeping, Shelved}
+use Rattle.documents.specs.Documents.{MeetsDefinition, MeetsDefinitions, nobody, openedBook, Resting, MeetsDocument}
+use Rattle.documents.proofs.Calm.{Calms}
+use Rattle.bodies.proofs.Tokens.{skip-law}
+
+-- a book's own name stands nowhere in the areas yet
+named : {κ : Limits} {m : Shelf} {c : Context} {uses : List Use} (d : Document) → Keeping κ [] m (opened nobody c uses) → Keeping κ [] m (opened d c uses)
+named d H = record {
+  fitted = H .fitted;
+  full = H .full;
+  rest = λ z.
+      let S = H .rest z in
+      record {
+        code = S .code;
+        sized = S .sized;
+        constants = S .constants;
+        marks = S .marks;
+        functions = S .functions;
+        models = S .models;
+        properties = S .properties;
+        methods = S .methods;
+        locals = S .locals;
+        counted = S .counted;
+        valued = S .valued;
+        named = S .named;
+        publics = S .publics;
+        first-public = S .first-public;
+        file = S .file;
+        last-index = S .last-index;
+        indexed = S .indexed;
+        entry = S .entry;
+        names = S .names;
+        breaks = S .breaks;
+        errors = S .errors;
+      };
+}
+
+pub document-meets : {tree : List ℕ} {at end index : ℕ} {books : List ℕ} {s : struct.Book} {c k f m p t l u n b e : List ℕ} {m′ : Shelf}
+    → MeetsDefinitions tree (at + 1) end books (shelf (openedBook s index) c k f m p t l u n b e) m′
+    → MeetsDocument tree at end index books s c k f m p t l u n b e m′
+document-meets {s = s} {c} {k} {f} {m} {p} {t} {l} {u} {n} {b} {e} M = record {
+  meets = λ d h q limited κ context uses i shelved R.
+      M .meets (d .definitions) (h .definitions) (omega arith) limited κ (opened d context uses) shelved
+      (subst (λ (x : ℕ). Keeping κ [] (shelf (openedBook s x) c k f m p t l u n b e) (opened d context uses)) (sym i) (named d (R .ready)));
+}
+
+pub document-past : {tree : List ℕ} {at end index : ℕ} {books : List ℕ} {s : struct.Book} {c k f m p t l u n b e : List ℕ} {m′ : Shelf} → end ≤ at
+    → MeetsDocument tree at end index books s c k f m p t l u n b e m′
+document-past past = record { meets = λ d h q limited κ context uses i shelved R. absurd (omega arith) }
+
+-- public names are as many as their entries
+publics-length : (file : ℕ) (es : List Entry) → length (publicEntries file es) ≡ length es
+publics-length file [] = refl
+publics-length file (e ∷ es) = ap suc (publics-length file es)
+
+assemblies-length : (as′ : List Assembly) → length (entriesFrom assemblyPublics 0 as′) ≡ publicsOf as′
+assemblies-length as′ = entries-length assemblyPublics (λ a. length (a .publics)) 0 (λ j a h. publics-length (a .index) (a .publics)) (all-any as′)
+
+publics-sum : (as′ : List Assembly) (a : Assembly) → publicsOf (as′ ++ (a ∷ [])) ≡ publicsOf as′ + length (a .publics)
+publics-sum [] a = omega arith
+publics-sum (x ∷ as′) a = omega (arith, publics-sum as′ a)
+
+abbrev unknown : Assembly
+unknown = record { filename = 0; index = 0; publics = [] }
+
+-- a book put away with its index
+module _ (as′ : List Assembly) (a : Assembly) (last : a .index ≡ length as′) where
+  indexed-more : ((i : ℕ) → i < length as′ → getD as′ i unknown .index ≡ i) → (i : ℕ) → i < length (as′ ++ (a ∷ []))
+      → getD (as′ ++ (a ∷ [])) i unknown .index ≡ i
+  indexed-more before i h = go (decLt i (length as′))
+    where
+      go : Dec (i < length as′) → getD (as′ ++ (a ∷ [])) i unknown .index ≡ i
+      go (yes q) = ap (λ (x : Assembly). x .index) (List·getD-append as′ (a ∷ []) unknown i q) ∙ before i q
+      go (no q) =
+          let here : length as′ ≡ i = omega (arith, h, length-append as′ (a ∷ [])) in
+          ap (λ (x : Assembly). x .index) (getD-at as′ a [] unknown i here) ∙ last ∙ here
+
+-- the book is put away
+abbrev pub putAway : Book → Context
+putAway b = withAssemblies (b .context .assemblies ++ (b .assembly ∷ [])) (b .context)
+
+pub put-away : {κ : Limits} {s : struct.Book} {c k f m p t l u n b e : List ℕ} {x : Book} → x .compiler .errors ≡ []
+    → Keeping κ [] (shelf s c k f m p t l u n b e) x → Resting κ s c k f m p t l u n b e (putAway x) (x .uses)
+put-away {x = x} clean H = record {
+  ready = record {
+    fitted = record {
+      code = H .fitted .code;
+      constants = H .fitted .constants;
+      functions = H .fitted .functions;
+      models = H .fitted .models;
+      properties = H .fitted .properties;
+      methods = H .fitted .methods;
+      locals = H .fitted .locals;
+      publics = H .fitted .publics;
+      names = H .fitted .names;
+      breaks = H .fitted .breaks;
+      errors = H .fitted .errors;
+    };
+    full = H .full;
+    rest = λ z.
+        let S = H .rest z in
+        let as′ = x .context .assemblies in
+        let a = x .assembly in
+        let entries : entriesFrom assemblyPublics 0 (as′ ++ (a ∷ [])) ≡ entriesFrom assemblyPublics 0 as′ ++ publicEntries (a .index) (a .publics) =
+        entries-more assemblyPublics 0 as′ a in
+        record {
+          code = S .code;
+          sized = S .sized;
+          constants = S .constants;
+          marks = S .marks;
+          functions = S .functions;
+          models = S .models;
+          properties = S .properties;
+          methods = S .methods;
+          locals = S .locals;
+          counted = S .counted;
+          valued = S .valued;
+          named = record { up-to = omega arith; each = λ i h. absurd (omega arith) };
+          publics = rw (append-nil (entriesFrom assemblyPublics 0 (as′ ++ (a ∷ []))), entries) (S .publics);
+          first-public = S .publics .count ∙ length-append (entriesFrom assemblyPublics 0 as′) (publicEntries (a .index) (a .publics))
+              ∙ rw (assemblies-length as′, publics-length (a .index) (a .publics)) (sym (publics-sum as′ a));
+          file = refl;
+          last-index = refl;
+          indexed = indexed-more as′ a (S .last-index) (S .indexed);
+          entry = S .entry;
+          names = S .names;
+          breaks = S .breaks;
+          errors = rw (ap (λ (es : List Error). entriesFrom errorEntry 0 es) clean) at (S .errors);
+        };
+  };
+}
+
+-- the loop over definitions: no deed changes the books put away
+module _ (calm : (d : Definition) → Calms (compileDefinition d)) {tree : List ℕ} {at end : ℕ} {books : List ℕ} where
+  pub definitions-end : {m : Shelf} → end ≤ at → MeetsDefinitions tree at end books m m
+  unfolding compileDefinitions runSize
+  definitions-end {m} past = record { meets = go }
+    where
+      go : (ds : List Definition) → RunAt DefinitionAt sizeD ds tree at → at + runSize sizeD ds ≡ end
+          → All (λ (d : Definition). All LimitedFunction (functionsIn d)) ds → (κ : Limits) (b : Book) → Shelved books (b .context .assemblies)
+          → Keeping κ [] m b → Keeping κ [] m (compileDefinitions ds b)
+      go [] h q l κ b s H = H
+      go (d ∷ ds) h q l κ b s H = absurd (omega (arith, sizeD-pos d))
+
+  pub definitions-more : {next : ℕ} {m m₁ m′ : Shelf} → at < end → next ≡ skipC tree at end → MeetsDefinition tree at next books m m₁
+      → MeetsDefinitions tree next end books m₁ m′ → MeetsDefinitions tree at end books m m′
+  unfolding compileDefinitions runSize RunAt
+  definitions-more {next} {m} {m₁} {m′} inside skipped A B = record { meets = go }
+    where
+      go : (ds : List Definition) → RunAt DefinitionAt sizeD ds tree at → at + runSize sizeD ds ≡ end
+          → All (λ (d : Definition). All LimitedFunction (functionsIn d)) ds → (κ : Limits) (b : Book) → Shelved books (b .context .assemblies)
+          → Keeping κ [] m b → Keeping κ [] m′ (compileDefinitions ds b)
+      go [] h q l κ b s H = absurd (omega arith)
+      go (d ∷ ds) h q (l & ls) κ b s H =
+          let mid : next ≡ at + sizeD d = skipped ∙ skip-law tree at end (headD d (h .0)) (sizeD-pos d) (omega arith) in
+          B .meets ds (rw mid (h .1)) (omega arith) ls κ (compileDefinition d b)
+          (subst (λ (as′ : List Assembly). Shelved books as′) (sym (calm d b .assemblies)) s) (A .meets d (h .0) (sym mid) l κ b s H)
+
+  pub definition-past : {m m′ : Shelf} → end ≤ at → MeetsDefinition tree at end books m m′
+  definition-past past = record { meets = λ d h q l κ b s H. absurd (omega (arith, sizeD-pos d)) }

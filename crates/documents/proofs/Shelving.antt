@@ -1,0 +1,34 @@
+-- Deeds one after the other, and with the mark set: doing nothing is doing any deed. By the notes, which are only added. Assumes nothing.
+use Prim.Native.Nat.{ℕ}
+use mathlib.Core.Path.{_≡_, _∙_}
+use mathlib.Core.Bool.{Bool, true, false}
+use mathlib.Core.List.{List}
+use lib.Dec.{eqb}
+use mathlib.Core.Path.{refl}
+use borrow.Author.Tests.{eqb-true, eqb-false}
+use Rattle.definition.specs.Uses.{Limits}
+use Rattle.definition.specs.Book.{Book, Deed}
+use Rattle.definition.proofs.Steady.{Longer}
+use Rattle.building.proofs.Notes.{marks-same, over-longer}
+use Rattle.documents.specs.Shelf.{Shelf, Keeping, Deeds}
+use Rattle.documents.proofs.Calm.{Calms}
+
+pub keeping-longer : {κ : Limits} {ps ps′ : List ℕ} {m : Shelf} {b b′ : Book} → Longer (b .uses) (b′ .uses) → (m .book .full ≡ 0 → ⊥)
+    → Keeping κ ps m b → Keeping κ ps′ m b′
+keeping-longer {κ} l ne H = record { fitted = H .fitted; full = over-longer κ l (H .full) ne; rest = λ z. absurd (ne z) }
+
+-- not full after, not full before
+pub unfilled : {κ : Limits} {ps ps′ : List ℕ} {m m′ : Shelf} {b b′ : Book} → Longer (b .uses) (b′ .uses) → Keeping κ ps m b → Keeping κ ps′ m′ b′
+    → m′ .book .full ≡ 0 → m .book .full ≡ 0
+unfilled {κ} {m = m} l H H′ z = go (eqb (m .book .full) 0) refl
+  where
+    go : (t : Bool) → eqb (m .book .full) 0 ≡ t → m .book .full ≡ 0
+    go true q = eqb-true (m .book .full) 0 q
+    go false q = marks-same (over-longer κ l (H .full) (eqb-false (m .book .full) 0 q)) (H′ .full) ∙ z
+
+pub full-deeds : {m : Shelf} {deed : Deed} → Calms deed → (m .book .full ≡ 0 → ⊥) → Deeds m m deed
+full-deeds C ne = record { meets = λ κ ps b H. keeping-longer (C b .uses) ne H }
+
+module _ {m m₁ m′ : Shelf} {d e : Deed} where
+  pub deeds-then : Deeds m m₁ d → Deeds m₁ m′ e → Deeds m m′ (λ b. e (d b))
+  deeds-then A B = record { meets = λ κ ps b H. B .meets κ ps (d b) (A .meets κ ps b H) }

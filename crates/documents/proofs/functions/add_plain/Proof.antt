@@ -1,0 +1,35 @@
+-- `documents::functions::add_plain` meets its contract: the entry point, and any other function. Assumes nothing.
+-- Made from Proof.answers by `answers make`: edit that file, and not this one.
+use Rattle.documents.proofs.FunctionDeeds.{plain-main, plain-other}
+use mathlib.Core.Path.{refl}
+use Rattle.documents.proofs.functions.add_plain.Statement.{statement}
+use Rattle.documents.proofs.functions.add_plain.Tie as tie
+use borrow.Author.Needs.{needs}
+
+returns : tie.Need-returns
+returns c =
+    let c8 = c .before .before .before .before .before .before .before .before in
+    let c12 = c8 .before .before .before .before in
+    plain-main refl (c12 .add-function .ensures) (c8 .add-constant .ensures) (c .before .before .before .set-value .ensures) (c .if1 .taken)
+
+returns-2 : tie.Need-returns-2
+returns-2 c =
+    let c8 = c .before .before .before .before .before .before .before .before in
+    let c12 = c8 .before .before .before .before in
+    plain-other refl (c12 .add-function .ensures) (c8 .add-constant .ensures) (c .before .before .before .set-value .ensures) (c .if1 .left)
+
+pub add-plain-spec : {M : Type 1} → statement M
+add-plain-spec =
+    tie.close
+    (tie.spec
+    (λ c κs. search needs)
+    (λ c κs. search needs)
+    (λ c κs. search needs)
+    (λ c. search needs)
+    (λ c. search needs)
+    (λ c. search needs)
+    returns
+    (λ c. search needs)
+    (λ c. search needs)
+    (λ c. search needs)
+    returns-2)

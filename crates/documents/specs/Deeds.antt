@@ -1,0 +1,109 @@
+-- What a routine that has some of the areas does to a book under compilation, whatever the other areas hold
+use Prim.Native.Nat.{ℕ, _+_, _<_}
+use mathlib.Core.Path.{_≡_}
+use mathlib.Core.Option.{Option, none, some}
+use mathlib.Core.List.{List}
+use lib.ListN.{length}
+use Rattle.words.specs.Ast.{Token, Binding}
+use Rattle.words.specs.Object.{constantOf}
+use Rattle.tree.specs.At.{Leaf, ValueAt, BindingAt, RunAt, runSize, double}
+use Rattle.definition.specs.Uses.{Limits}
+use Rattle.definition.specs.Book.{Book, Deed, Placed, MaybePlaced, setLocalValue, addBookConstant, valueOf, compileValue, compileBinding}
+use Rattle.definition.specs.Book.{compileLocalDefinition}
+use Rattle.building.specs.declared.function_state.FunctionState.{FunctionState}
+use Rattle.building.specs.declared.scopes.Found.{Found}
+use Rattle.building.specs.declared.taking.Taken.{Taken}
+use Rattle.building.specs.Found.{foundOf}
+use Rattle.documents.specs.declared.book.Book as struct
+use Rattle.documents.specs.Shelf.{shelf, Keeping, Deeds, Places, Seeks}
+
+-- the counts after a function, a constant or an error
+abbrev pub resumedBook : struct.Book → FunctionState → struct.Book
+resumedBook s r = record {
+  full = r .full;
+  code = r .code;
+  constants = r .constants;
+  functions = s .functions;
+  models = s .models;
+  properties = s .properties;
+  methods = s .methods;
+  locals = s .locals;
+  publics = s .publics;
+  errors = r .errors;
+  file = s .file;
+  «first_local» = s .«first_local»;
+  «first_public» = s .«first_public»;
+  «entry_point» = s .«entry_point»;
+}
+
+-- and after a context local
+abbrev pub withLocals : Taken → struct.Book → struct.Book
+withLocals t s = record {
+  full = t .full;
+  code = s .code;
+  constants = s .constants;
+  functions = s .functions;
+  models = s .models;
+  properties = s .properties;
+  methods = s .methods;
+  locals = t .count;
+  publics = s .publics;
+  errors = s .errors;
+  file = s .file;
+  «first_local» = s .«first_local»;
+  «first_public» = s .«first_public»;
+  «entry_point» = s .«entry_point»;
+}
+
+-- the errors
+pub record ErrorsDo (s : struct.Book) (e : List ℕ) (s′ : struct.Book) (e′ : List ℕ) (deed : Deed) : Type 0 where
+  pub deeds : (c k f m p t l u n b : List ℕ) → Deeds (shelf s c k f m p t l u n b e) (shelf s′ c k f m p t l u n b e′) deed
+
+-- the constants
+pub record ConstantsPlace (s : struct.Book) (k : List ℕ) (s′ : struct.Book) (k′ : List ℕ) (place : ℕ) (deed : Book → Placed) : Type 0 where
+  pub places : (c f m p t l u n b e : List ℕ) → Places (shelf s c k f m p t l u n b e) (shelf s′ c k′ f m p t l u n b e) place deed
+
+-- the context locals
+pub record LocalsSeek (s : struct.Book) (l : List ℕ) (s′ : struct.Book) (l′ : List ℕ) (found : Found) (deed : Book → MaybePlaced) : Type 0 where
+  pub seeks : (c k f m p t u n b e : List ℕ) → Seeks (shelf s c k f m p t l u n b e) (shelf s′ c k f m p t l′ u n b e) found deed
+
+-- a local that may be there is one of so many
+abbrev pub Below : Option ℕ → ℕ → Type 0
+Below none n = Unit {0}
+Below (some i) n = i < n
+
+-- the local and the constant are the definition's, where nothing is full, and the local is one of the book's context
+pub record Valuable (s : struct.Book) (found : Found) (constant : ℕ) (o : Option ℕ) (v : ℕ) (x : Book) : Type 0 where
+  pub agrees : s .full ≡ 0 → (found ≡ foundOf o) × (constant ≡ v) × Below o (length (x .context .localNames))
+
+pub record LocalsValue (s : struct.Book) (l l′ : List ℕ) (found : Found) (constant : ℕ) : Type 0 where
+  pub values : (c k f m p t u n b e : List ℕ) (κ : Limits) (ps : List ℕ) (x : Book) (o : Option ℕ) (v : ℕ) → Valuable s found constant o v x
+      → Keeping κ ps (shelf s c k f m p t l u n b e) x → Keeping κ ps (shelf s c k f m p t l′ u n b e) (setLocalValue o v x)
+
+-- the constants, the context locals and the errors
+pub record LocalsDo (s : struct.Book) (k l e : List ℕ) (s′ : struct.Book) (k′ l′ e′ : List ℕ) (deed : Deed) : Type 0 where
+  pub deeds : (c f m p t u n b : List ℕ) → Deeds (shelf s c k f m p t l u n b e) (shelf s′ c k′ f m p t l′ u n b e′) deed
+
+-- the local is the definition's, where nothing is full, and one of the book's context
+pub record Located (s : struct.Book) (found : Found) (o : Option ℕ) (x : Book) : Type 0 where
+  pub agrees : s .full ≡ 0 → (found ≡ foundOf o) × Below o (length (x .context .localNames))
+
+-- a constant, which is the value of a local
+pub record AddsValue (s : struct.Book) (found : Found) (kind value : ℕ) (k l : List ℕ) (s′ : struct.Book) (k′ l′ : List ℕ) : Type 0 where
+  pub adds : (c f m p t u n b e : List ℕ) (κ : Limits) (ps : List ℕ) (x : Book) (o : Option ℕ) → Located s found o x
+      → Keeping κ ps (shelf s c k f m p t l u n b e) x
+      → (let a = addBookConstant (constantOf kind value) x in Keeping κ ps (shelf s′ c k′ f m p t l′ u n b e) (setLocalValue o (a .place) (a .book)))
+
+-- the value of a local, at its place
+pub record GivesValue (tree : List ℕ) (at : ℕ) (s : struct.Book) (found : Found) (k l e : List ℕ) (s′ : struct.Book) (k′ l′ e′ : List ℕ) : Type 0 where
+  pub gives : (c f m p t u n b : List ℕ) (κ : Limits) (ps : List ℕ) (x : Book) (o : Option ℕ) (v : Token) → Leaf tree at (v .kind) v → Located s found o x
+      → Keeping κ ps (shelf s c k f m p t l u n b e) x → Keeping κ ps (shelf s′ c k′ f m p t l′ u n b e′) (compileValue (valueOf v) v o x)
+
+-- a pair of a local definition: its name, and its value at the next place
+pub record Binds (tree : List ℕ) (at next : ℕ) (s : struct.Book) (k l e : List ℕ) (s′ : struct.Book) (k′ l′ e′ : List ℕ) : Type 0 where
+  pub binds : (x : Binding) → Leaf tree at 40 (x .variable) → ValueAt (x .value) tree next → LocalsDo s k l e s′ k′ l′ e′ (compileBinding x)
+
+-- the pairs from a place up to the end
+pub record DefinesLocals (tree : List ℕ) (at end : ℕ) (s : struct.Book) (k l e : List ℕ) (s′ : struct.Book) (k′ l′ e′ : List ℕ) : Type 0 where
+  pub defines : (xs : List Binding) → RunAt BindingAt double xs tree at → at + runSize double xs ≡ end
+      → LocalsDo s k l e s′ k′ l′ e′ (compileLocalDefinition xs)

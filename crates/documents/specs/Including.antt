@@ -1,0 +1,59 @@
+-- The names that an include takes from the books before: searches in areas 12 and 8, and what the routines of an include do
+use Prim.Native.Nat.{ℕ, _+_, _-_}
+use mathlib.Core.Path.{_≡_}
+use mathlib.Core.Bool.{Bool, false, cond}
+use mathlib.Core.Option.{Option, none, some}
+use mathlib.Core.List.{List}
+use lib.Dec.{eqb}
+use Rattle.words.specs.Ast.{Alias}
+use Rattle.words.specs.Areas.{entryField}
+use Rattle.tree.specs.At.{Leaf, AliasAt, RunAt, runSize, double}
+use Rattle.definition.specs.Uses.{Limits}
+use Rattle.definition.specs.Book.{Book, Deed, compileAlias, compileIncludeDefinition}
+use Rattle.building.specs.Found.{firstFrom}
+use Rattle.documents.specs.declared.book.Book as struct
+use Rattle.documents.specs.Shelf.{Shelf, shelf, Keeping, Shelved}
+
+-- whether book i of area 12 is of a file, and the first that is
+abbrev pub isBook : ℕ → List ℕ → ℕ → Bool
+isBook file w i = eqb (entryField 1 i 0 w) file
+
+abbrev pub findBookC : ℕ → ℕ → List ℕ → Option ℕ
+findBookC many file w = firstFrom (isBook file w) many 0
+
+-- whether entry i of area 8 is a book's public name, and the first that is
+abbrev pub isPublic : ℕ → ℕ → List ℕ → ℕ → Bool
+isPublic index name w i = cond (eqb (entryField 3 i 0 w) index) (eqb (entryField 3 i 1 w) name) false
+
+abbrev pub findPublicC : ℕ → ℕ → ℕ → ℕ → List ℕ → Option ℕ
+findPublicC start count index name w = firstFrom (isPublic index name w) (count - start) start
+
+-- its constant
+abbrev pub publicConstant : Option ℕ → List ℕ → Option ℕ
+publicConstant none w = none
+publicConstant (some i) w = some (entryField 3 i 2 w)
+
+abbrev pub includedBy : Option ℕ → ℕ → ℕ → List ℕ → Option ℕ
+includedBy none count name w = none
+includedBy (some j) count name w = publicConstant (findPublicC 0 count j name w) w
+
+-- `find_constant_index_by_include`
+abbrev pub includedC : ℕ → ℕ → ℕ → ℕ → List ℕ → List ℕ → Option ℕ
+includedC many count file name books w = includedBy (findBookC many file books) count name w
+
+-- a deed among the books before, which area 12 names
+pub record DeedsAmong (books : List ℕ) (m m′ : Shelf) (deed : Deed) : Type 0 where
+  pub meets : (κ : Limits) (ps : List ℕ) (b : Book) → Shelved books (b .context .assemblies) → Keeping κ ps m b → Keeping κ ps m′ (deed b)
+
+-- of a routine that changes the context locals
+pub record LocalsInclude (books u : List ℕ) (s : struct.Book) (l : List ℕ) (s′ : struct.Book) (l′ : List ℕ) (deed : Deed) : Type 0 where
+  pub deeds : (c k f m p t n b e : List ℕ) → DeedsAmong books (shelf s c k f m p t l u n b e) (shelf s′ c k f m p t l′ u n b e) deed
+
+-- a pair of an include: the public name, and its local at the next place
+pub record TakesName (tree : List ℕ) (at next file : ℕ) (books u : List ℕ) (s : struct.Book) (l : List ℕ) (s′ : struct.Book) (l′ : List ℕ) : Type 0 where
+  pub takes : (a : Alias) → Leaf tree at 40 (a .publicName) → Leaf tree next 40 (a .alias) → LocalsInclude books u s l s′ l′ (compileAlias file a)
+
+-- the pairs from a place up to the end
+pub record TakesNames (tree : List ℕ) (at end file : ℕ) (books u : List ℕ) (s : struct.Book) (l : List ℕ) (s′ : struct.Book) (l′ : List ℕ) : Type 0 where
+  pub takes : (as′ : List Alias) → RunAt AliasAt double as′ tree at → at + runSize double as′ ≡ end
+      → LocalsInclude books u s l s′ l′ (compileIncludeDefinition file as′)

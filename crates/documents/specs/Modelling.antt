@@ -1,0 +1,208 @@
+-- What the routines of `models.rt` promise: whatever the areas that they do not have hold, counts and areas then stand for the deed's book
+use Prim.Native.Nat.{ℕ, zero, suc, _+_, _-_, _≤_}
+use mathlib.Core.Path.{_≡_}
+use mathlib.Core.Bool.{Bool, false, cond}
+use mathlib.Core.Option.{Option, none, some}
+use mathlib.Core.List.{List, [], _∷_}
+use lib.ListN.{length, getD}
+use lib.Dec.{eqb}
+use Rattle.words.specs.Ast.{Token, ApplyDefinition}
+use Rattle.words.specs.Object.{constantOf, modelKind}
+use Rattle.words.specs.Record.{tokenAt}
+use Rattle.words.specs.Areas.{entryField}
+use Rattle.definition.specs.Uses.{Limits}
+use Rattle.definition.specs.Book as book
+use Rattle.definition.specs.Book.{Placed, addMethods, publish, propertiesOf, addProperty, compileProperties}
+use Rattle.definition.specs.FunctionState.{Entry}
+use Rattle.definition.specs.Book.{Method, Deed, findModelIndexByLocalName, methodsIn, compileApplyDefinition}
+use Rattle.definition.specs.Book.{addBookConstant, addModel, defineContextLocal, setLocalValue, compileModelDefinition}
+use Rattle.tree.specs.At.{RunAt, runSize, NameAt, single, DefinitionAt}
+use Rattle.building.specs.declared.taking.Taken.{Taken}
+use Rattle.building.specs.declared.scopes.Found.{Found}
+use Rattle.building.specs.Found.{firstFrom}
+use Rattle.documents.specs.declared.book.Book.{Book}
+use Rattle.documents.specs.Shelf.{Shelf, shelf, Keeping, Deeds, Seeks}
+
+-- the counts after an entry more of area 4
+abbrev pub withModelCount : Taken → Book → Book
+withModelCount t s = record {
+  full = t .full;
+  code = s .code;
+  constants = s .constants;
+  functions = s .functions;
+  models = t .count;
+  properties = s .properties;
+  methods = s .methods;
+  locals = s .locals;
+  publics = s .publics;
+  errors = s .errors;
+  file = s .file;
+  «first_local» = s .«first_local»;
+  «first_public» = s .«first_public»;
+  «entry_point» = s .«entry_point»;
+}
+
+-- the counts after an entry more of area 5
+abbrev pub withPropertyCount : Taken → Book → Book
+withPropertyCount t s = record {
+  full = t .full;
+  code = s .code;
+  constants = s .constants;
+  functions = s .functions;
+  models = s .models;
+  properties = t .count;
+  methods = s .methods;
+  locals = s .locals;
+  publics = s .publics;
+  errors = s .errors;
+  file = s .file;
+  «first_local» = s .«first_local»;
+  «first_public» = s .«first_public»;
+  «entry_point» = s .«entry_point»;
+}
+
+-- the counts after an entry more of area 6
+abbrev pub withMethodCount : Taken → Book → Book
+withMethodCount t s = record {
+  full = t .full;
+  code = s .code;
+  constants = s .constants;
+  functions = s .functions;
+  models = s .models;
+  properties = s .properties;
+  methods = t .count;
+  locals = s .locals;
+  publics = s .publics;
+  errors = s .errors;
+  file = s .file;
+  «first_local» = s .«first_local»;
+  «first_public» = s .«first_public»;
+  «entry_point» = s .«entry_point»;
+}
+
+-- the counts after an entry more of area 8
+abbrev pub withPublicCount : Taken → Book → Book
+withPublicCount t s = record {
+  full = t .full;
+  code = s .code;
+  constants = s .constants;
+  functions = s .functions;
+  models = s .models;
+  properties = s .properties;
+  methods = s .methods;
+  locals = s .locals;
+  publics = t .count;
+  errors = s .errors;
+  file = s .file;
+  «first_local» = s .«first_local»;
+  «first_public» = s .«first_public»;
+  «entry_point» = s .«entry_point»;
+}
+
+-- whether the first two words of entry i are a and b
+abbrev pub isPair : ℕ → ℕ → ℕ → List ℕ → ℕ → Bool
+isPair width a b w i = cond (eqb (entryField width i 0 w) a) (eqb (entryField width i 1 w) b) false
+
+-- the first such entry from entry `from` on, up to the count
+abbrev pub findPairC : ℕ → ℕ → ℕ → ℕ → ℕ → List ℕ → Option ℕ
+findPairC width from count a b w = firstFrom (isPair width a b w) (count - from) from
+
+-- `insert_method`: area 6
+pub record InsertsMethod (model name function : ℕ) (s : Book) (t : List ℕ) (s′ : Book) (t′ : List ℕ) : Type 0 where
+  pub deeds : (c k f m p l u n b e : List ℕ) → Deeds (shelf s c k f m p t l u n b e) (shelf s′ c k f m p t′ l u n b e)
+      (addMethods (some model) (record { name = name; index = function } ∷ []))
+
+-- `publish`: area 8, of a constant whose number is the definition's where nothing is full
+pub record Publishes (place name : ℕ) (s : Book) (u : List ℕ) (s′ : Book) (u′ : List ℕ) : Type 0 where
+  pub meets : (c k f m p t l n b e : List ℕ) (κ : Limits) (ps : List ℕ) (q : Placed) → Keeping κ ps (shelf s c k f m p t l u n b e) (q .book)
+      → (s .full ≡ 0 → place ≡ q .place) → Keeping κ ps (shelf s′ c k f m p t l u′ n b e) (publish name q)
+
+-- `add_property`: areas 5 and 11; the properties of the model that is not there yet start at entry `first`
+pub record AddsProperty (tree : List ℕ) (at first : ℕ) (s : Book) (p e : List ℕ) (s′ : Book) (p′ e′ : List ℕ) : Type 0 where
+  pub meets : (c k f m t l u n b : List ℕ) (κ : Limits) (ps : List ℕ) (w : book.Book) → (s .full ≡ 0 → first ≡ propertiesOf (w .context .models))
+      → Keeping κ ps (shelf s c k f m p t l u n b e) w
+      → Keeping κ (addProperty (tokenAt tree at) ps w .texts) (shelf s′ c k f m p′ t l u n b e′) (addProperty (tokenAt tree at) ps w .book)
+
+-- the loop over a model's properties
+pub record AddsProperties (tree : List ℕ) (at end first : ℕ) (s : Book) (p e : List ℕ) (s′ : Book) (p′ e′ : List ℕ) : Type 0 where
+  pub meets : (c k f m t l u n b : List ℕ) (κ : Limits) (ps : List ℕ) (w : book.Book) (ts : List Token) → RunAt NameAt single ts tree at
+      → at + runSize single ts ≡ end → (s .full ≡ 0 → first ≡ propertiesOf (w .context .models)) → Keeping κ ps (shelf s c k f m p t l u n b e) w
+      → Keeping κ (compileProperties ts ps w .texts) (shelf s′ c k f m p′ t l u n b e′) (compileProperties ts ps w .book)
+
+-- `model_properties`: from none
+pub record ModelsProperties (tree : List ℕ) (at end : ℕ) (s : Book) (p e : List ℕ) (s′ : Book) (p′ e′ : List ℕ) : Type 0 where
+  pub meets : (c k f m t l u n b : List ℕ) (κ : Limits) (w : book.Book) (ts : List Token) → RunAt NameAt single ts tree at
+      → at + runSize single ts ≡ end → Keeping κ [] (shelf s c k f m p t l u n b e) w
+      → Keeping κ (compileProperties ts [] w .texts) (shelf s′ c k f m p′ t l u n b e′) (compileProperties ts [] w .book)
+
+-- the model that a context local is, by areas 7 and 2: none without a value or with another constant
+abbrev pub modelAtC : ℕ → List ℕ → List ℕ → Option ℕ
+modelAtC i l k =
+    cond (eqb (entryField 4 i 2 l) 1)
+    (cond (eqb (entryField 3 (entryField 4 i 3 l) 0 k) modelKind) (some (entryField 3 (entryField 4 i 3 l) 1 k)) none) none
+
+-- `find_model`: areas 7, 2 and 11
+pub record FindsModel (tree : List ℕ) (at : ℕ) (s : Book) (l k e : List ℕ) (found : Found) (s′ : Book) (e′ : List ℕ) : Type 0 where
+  pub seeks : (c f m p t u n b : List ℕ) → Seeks (shelf s c k f m p t l u n b e) (shelf s′ c k f m p t l u n b e′) found
+      (findModelIndexByLocalName (tokenAt tree at))
+
+abbrev pub noMethod : Method
+noMethod = record { model = 0; name = 0; function = 0 }
+
+-- a model's own of the n methods from the i-th on
+abbrev pub methodsFrom : ℕ → ℕ → ℕ → List Method → List Entry
+methodsFrom model i zero l = []
+methodsFrom model i (suc n) l =
+    let x = getD l i noMethod in
+    let rest = methodsFrom model (i + 1) n l in
+    cond (eqb (x .model) model) (record { name = x .name; index = x .function } ∷ rest) rest
+
+-- `copy_method`: area 6, one method of the source under the target, if it is one
+pub record CopiesMethod (source target i : ℕ) (s : Book) (t : List ℕ) (s′ : Book) (t′ : List ℕ) : Type 0 where
+  pub deeds : (c k f m p l u n b e : List ℕ) → Deeds (shelf s c k f m p t l u n b e) (shelf s′ c k f m p t′ l u n b e)
+      (λ w. addMethods (some target) (methodsFrom source i 1 (w .context .methods)) w)
+
+-- the loop over the first methods
+pub record CopiesFrom (source target i count : ℕ) (s : Book) (t : List ℕ) (s′ : Book) (t′ : List ℕ) : Type 0 where
+  pub meets : (c k f m p l u n b e : List ℕ) (κ : Limits) (ps : List ℕ) (w : book.Book) → (s .full ≡ 0 → count ≤ length (w .context .methods))
+      → Keeping κ ps (shelf s c k f m p t l u n b e) w
+      → Keeping κ ps (shelf s′ c k f m p t′ l u n b e) (addMethods (some target) (methodsFrom source i (count - i) (w .context .methods)) w)
+
+-- `copy_methods`: all methods of the source
+pub record CopiesMethods (source target : ℕ) (s : Book) (t : List ℕ) (s′ : Book) (t′ : List ℕ) : Type 0 where
+  pub deeds : (c k f m p l u n b e : List ℕ) → Deeds (shelf s c k f m p t l u n b e) (shelf s′ c k f m p t′ l u n b e)
+      (λ w. addMethods (some target) (methodsIn source (w .context .methods)) w)
+
+-- `apply_definition`: areas 6 and 11, over areas 7 and 2
+pub record Applies (tree : List ℕ) (at end : ℕ) (s : Book) (l k t e : List ℕ) (s′ : Book) (t′ e′ : List ℕ) : Type 0 where
+  pub deeds : (c f m p u n b : List ℕ) (source target : Token) → DefinitionAt (ApplyDefinition source target) tree at → at + 3 ≡ end
+      → Deeds (shelf s c k f m p t l u n b e) (shelf s′ c k f m p t′ l u n b e′) (compileApplyDefinition source target)
+
+-- between definitions, where no model is under way: `Deeds` and `Places` of what is compiled from no property
+pub record DeedsAlone (m m′ : Shelf) (deed : Deed) : Type 0 where
+  pub meets : (κ : Limits) (w : book.Book) → Keeping κ [] m w → Keeping κ [] m′ (deed w)
+
+pub record PlacesAlone (m m′ : Shelf) (place : ℕ) (deed : book.Book → Placed) : Type 0 where
+  pub meets : (κ : Limits) (w : book.Book) → Keeping κ [] m w → Keeping κ [] m′ (deed w .book)
+  pub placed : (κ : Limits) (w : book.Book) → Keeping κ [] m w → m′ .book .full ≡ 0 → place ≡ deed w .place
+
+-- the rest of `compile_model_definition`, after the properties
+abbrev pub placeModel : List ℕ → ℕ → book.Book → Placed
+placeModel properties name w =
+    let modelIndex = length (w .context .models) in
+    let a = addBookConstant (constantOf modelKind modelIndex) (addModel properties name w) in
+    let d = defineContextLocal name (a .book) in
+    record { place = a .place; book = setLocalValue (d .place) (a .place) (d .book) }
+
+-- `place_model`: areas 2, 4 and 7
+pub record PlacesModel (name : ℕ) (s : Book) (k m l : List ℕ) (place : ℕ) (s′ : Book) (k′ m′ l′ : List ℕ) : Type 0 where
+  pub meets : (c f p t u n b e : List ℕ) (κ : Limits) (ps : List ℕ) (w : book.Book) → Keeping κ ps (shelf s c k f m p t l u n b e) w
+      → Keeping κ [] (shelf s′ c k′ f m′ p t l′ u n b e) (placeModel ps name w .book)
+  pub placed : (c f p t u n b e : List ℕ) (κ : Limits) (ps : List ℕ) (w : book.Book) → Keeping κ ps (shelf s c k f m p t l u n b e) w
+      → s′ .full ≡ 0 → place ≡ placeModel ps name w .place
+
+-- `model_definition`: areas 2, 4, 5, 7 and 11
+pub record DefinesModel (tree : List ℕ) (at end : ℕ) (s : Book) (k m p l e : List ℕ) (place : ℕ) (s′ : Book) (k′ m′ p′ l′ e′ : List ℕ) : Type 0 where
+  pub places : (c f t u n b : List ℕ) (name : Token) (properties : List Token) → name ≡ tokenAt tree at → RunAt NameAt single properties tree (at + 1)
+      → at + 1 + runSize single properties ≡ end
+      → PlacesAlone (shelf s c k f m p t l u n b e) (shelf s′ c k′ f m′ p′ t l′ u n b e′) place (compileModelDefinition name properties)

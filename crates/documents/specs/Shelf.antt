@@ -1,0 +1,115 @@
+-- The relation between memory and the definition's `Book`: what the counts and the areas hold of a book under compilation, between its definitions
+use Prim.Native.Nat.{ℕ, _+_, _<_}
+use mathlib.Core.Path.{_≡_}
+use mathlib.Core.List.{List, [], _++_}
+use lib.ListN.{length, getD}
+use Rattle.words.specs.Areas.{codeArea, constantsArea, functionsArea, modelsArea, propertiesArea, methodsArea, contextLocalsArea, publicNamesArea}
+use Rattle.words.specs.Areas.{scopeNamesArea, breaksArea, errorsArea, entryWord}
+use Rattle.definition.specs.FunctionState.{Entry}
+use Rattle.definition.specs.Uses.{Limits, firstOver}
+use Rattle.definition.specs.Book.{Function, Assembly, Context, Book, Deed, Placed, MaybePlaced, publicsOf}
+use Rattle.definition.specs.Program.{Entries, entriesFrom, functionCode, constantEntry, functionEntries, modelEntry, propertyEntries, modelProperties}
+use Rattle.definition.specs.Program.{methodEntry, localEntry, publicEntries, assemblyPublics, errorEntry}
+use Rattle.definition.specs.Within.{All}
+use Rattle.building.specs.declared.scopes.Found.{Found}
+use Rattle.building.specs.Found.{foundOf}
+use Rattle.building.specs.Held.{Filled, LocalsHeld, Marks, Sized}
+use Rattle.documents.specs.declared.book.Book as struct
+
+-- the counts, and the areas that a book is compiled into (area 12 apart)
+pub record Shelf : Type 0 where
+  pub book : struct.Book
+  pub code : List ℕ
+  pub constants : List ℕ
+  pub functions : List ℕ
+  pub models : List ℕ
+  pub properties : List ℕ
+  pub methods : List ℕ
+  pub locals : List ℕ
+  pub publics : List ℕ
+  pub names : List ℕ
+  pub breaks : List ℕ
+  pub errors : List ℕ
+
+abbrev pub shelf : struct.Book → (c k f m p t l u n b e : List ℕ) → Shelf
+shelf s c k f m p t l u n b e = record {
+  book = s;
+  code = c;
+  constants = k;
+  functions = f;
+  models = m;
+  properties = p;
+  methods = t;
+  locals = l;
+  publics = u;
+  names = n;
+  breaks = b;
+  errors = e;
+}
+
+-- where nothing is full; `ps`: the properties of a model that is not there yet
+pub record Stock (ps : List ℕ) (m : Shelf) (b : Book) : Type 0 where
+  pub code : Filled 2 (m .code) (entriesFrom functionCode 0 (b .context .functions)) (m .book .code)
+  -- one position for each instruction
+  pub sized : All (λ (f : Function). length (f .state .positions) ≡ length (f .state .instructions)) (b .context .functions)
+  pub constants : Filled 3 (m .constants) (entriesFrom (constantEntry (b .context .pool .globals)) 0 (b .context .pool .constants)) (m .book .constants)
+  pub marks : All (λ (n : ℕ). n < length (b .context .pool .constants)) (b .context .pool .globals)
+  pub functions : Filled 8 (m .functions) (functionEntries 0 (b .context .functions)) (m .book .functions)
+  pub models : Filled 2 (m .models) (entriesFrom modelEntry 0 (b .context .models)) (m .book .models)
+  pub properties : Filled 2 (m .properties)
+      (entriesFrom modelProperties 0 (b .context .models) ++ propertyEntries (length (b .context .models)) ps) (m .book .properties)
+  pub methods : Filled 3 (m .methods) (entriesFrom methodEntry 0 (b .context .methods)) (m .book .methods)
+  pub locals : Filled 4 (m .locals) (entriesFrom (localEntry (b .context .localValues)) 0 (b .context .localNames)) (m .book .locals)
+  pub counted : b .context .pool .localCount ≡ length (b .context .localNames)
+  -- a value is that of a context local
+  pub valued : All (λ (e : Entry). e .name < length (b .context .localNames)) (b .context .localValues)
+  pub named : LocalsHeld (m .book .«first_local») (m .book .locals) (m .locals) (b .compiler)
+  pub publics : Filled 3 (m .publics)
+      (entriesFrom assemblyPublics 0 (b .context .assemblies) ++ publicEntries (b .assembly .index) (b .assembly .publics)) (m .book .publics)
+  pub first-public : m .book .«first_public» ≡ publicsOf (b .context .assemblies)
+  pub file : m .book .file ≡ b .assembly .index
+  -- a book's index is its place
+  pub last-index : b .assembly .index ≡ length (b .context .assemblies)
+  pub indexed : (i : ℕ) → i < length (b .context .assemblies)
+      → getD (b .context .assemblies) i (record { filename = 0; index = 0; publics = [] }) .index ≡ i
+  pub entry : m .book .«entry_point» ≡ b .context .entryPoint
+  pub names : Filled 2 (m .names) [] 0
+  pub breaks : Filled 1 (m .breaks) [] 0
+  pub errors : Filled 4 (m .errors) (entriesFrom errorEntry 0 (b .compiler .errors)) (m .book .errors)
+
+-- the areas' lengths are the limits
+pub record Fitted (κ : Limits) (m : Shelf) : Type 0 where
+  pub code : Sized κ codeArea (m .code)
+  pub constants : Sized κ constantsArea (m .constants)
+  pub functions : Sized κ functionsArea (m .functions)
+  pub models : Sized κ modelsArea (m .models)
+  pub properties : Sized κ propertiesArea (m .properties)
+  pub methods : Sized κ methodsArea (m .methods)
+  pub locals : Sized κ contextLocalsArea (m .locals)
+  pub publics : Sized κ publicNamesArea (m .publics)
+  pub names : Sized κ scopeNamesArea (m .names)
+  pub breaks : Sized κ breaksArea (m .breaks)
+  pub errors : Sized κ errorsArea (m .errors)
+
+-- within the limits κ, the counts and areas stand for the book b
+pub record Keeping (κ : Limits) (ps : List ℕ) (m : Shelf) (b : Book) : Type 0 where
+  pub fitted : Fitted κ m
+  pub full : Marks (firstOver κ (b .uses)) (m .book .full)
+  pub rest : m .book .full ≡ 0 → Stock ps m b
+
+-- area 12 names the books compiled so far, in their order
+pub record Shelved (books : List ℕ) (as′ : List Assembly) : Type 0 where
+  pub each : (i : ℕ) → i < length as′ → entryWord 1 i 0 books ≡ getD as′ i (record { filename = 0; index = 0; publics = [] }) .filename
+
+-- whatever book they stand for before, they stand for the deed's book after
+pub record Deeds (m m′ : Shelf) (deed : Deed) : Type 0 where
+  pub meets : (κ : Limits) (ps : List ℕ) (b : Book) → Keeping κ ps m b → Keeping κ ps m′ (deed b)
+
+-- and the number is the definition's, where nothing is full
+pub record Places (m m′ : Shelf) (place : ℕ) (deed : Book → Placed) : Type 0 where
+  pub meets : (κ : Limits) (ps : List ℕ) (b : Book) → Keeping κ ps m b → Keeping κ ps m′ (deed b .book)
+  pub placed : (κ : Limits) (ps : List ℕ) (b : Book) → Keeping κ ps m b → m′ .book .full ≡ 0 → place ≡ deed b .place
+
+pub record Seeks (m m′ : Shelf) (found : Found) (deed : Book → MaybePlaced) : Type 0 where
+  pub meets : (κ : Limits) (ps : List ℕ) (b : Book) → Keeping κ ps m b → Keeping κ ps m′ (deed b .book)
+  pub sought : (κ : Limits) (ps : List ℕ) (b : Book) → Keeping κ ps m b → m′ .book .full ≡ 0 → found ≡ foundOf (deed b .place)
