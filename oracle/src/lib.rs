@@ -6,7 +6,6 @@ pub mod areas;
 #[cfg(feature = "link")]
 pub mod bench;
 pub mod books;
-pub mod call;
 pub mod clock;
 pub mod columns;
 pub mod compare;
@@ -29,3 +28,4 @@ pub mod records;
 pub mod sample;
 pub mod shape;
 pub mod speed;
+pub mod views;

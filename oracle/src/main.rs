@@ -61,14 +61,14 @@ fn sizes(arguments: &[String]) -> Sizes {
     }
 }
 
-#[cfg(feature = "link-compile")]
+#[cfg(feature = "link")]
 fn library() -> Box<dyn Side + Send> {
-    Box::new(oracle::ours::compiler())
+    Box::new(oracle::ours::Library)
 }
 
-#[cfg(not(feature = "link-compile"))]
+#[cfg(not(feature = "link"))]
 fn library() -> Box<dyn Side + Send> {
-    panic!("--ours needs --features link-compile");
+    panic!("the library is there with --features link");
 }
 
 #[cfg(feature = "link")]
