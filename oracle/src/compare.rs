@@ -395,6 +395,26 @@ impl Tally {
         }
     }
 
+    /// The counts of another run beside these.
+    pub fn join(&mut self, other: &Tally) {
+        fn each(here: &mut [u64], there: &[u64]) {
+            here.iter_mut().zip(there).for_each(|(here, there)| *here += there);
+        }
+        self.cases += other.cases;
+        self.records += other.records;
+        self.compared += other.compared;
+        each(&mut self.rows, &other.rows);
+        self.panics += other.panics;
+        self.inexpressible += other.inexpressible;
+        self.oversized += other.oversized;
+        each(&mut self.errors, &other.errors);
+        self.lengths += other.lengths;
+        each(&mut self.full, &other.full);
+        each(&mut self.calls, &other.calls);
+        each(&mut self.calls_full, &other.calls_full);
+        self.differences += other.differences;
+    }
+
     pub fn print(&self) {
         println!("cases {}, records {}", self.cases, self.records);
         println!("compared with the Rust {}", self.compared);

@@ -28,4 +28,5 @@ pub mod records;
 pub mod sample;
 pub mod shape;
 pub mod speed;
+pub mod table;
 pub mod views;
