@@ -147,7 +147,7 @@ pub enum Answer {
     Refused { row: u64, place: u64, errors: Vec<ErrorAnswer> },
 }
 
-fn entries<const N: usize>(words: &[u64]) -> Vec<[u64; N]> {
+pub(crate) fn entries<const N: usize>(words: &[u64]) -> Vec<[u64; N]> {
     words.chunks_exact(N).map(|entry| entry.try_into().expect("chunks have this length")).collect()
 }
 

@@ -9,6 +9,8 @@ use crate::model::{compile, first_beyond, Run};
 use crate::random::Random;
 use crate::real::{run, Outcome};
 use crate::records::{flatten, records, trees, words, Node};
+use crate::views::{view, Answered, Viewed};
+use std::fmt::Debug;
 
 /// Code that the Rust, which has no areas, is still let to make.
 const MAX_CODE: usize = 4_000_000;
@@ -19,7 +21,12 @@ const AREA_FULL: u64 = 9;
 /// repository is another (src/ours.rs).
 pub trait Side {
     fn name(&self) -> &str;
-    fn compile(&mut self, words: &[u64], areas: Lent) -> Reply;
+    fn compile<'a>(&mut self, words: &[u64], areas: Lent<'a>) -> Answered<'a>;
+
+    /// What the typed views say of an answer.
+    fn view(&self, answered: &Answered) -> Result<Viewed, String> {
+        view(answered)
+    }
 }
 
 pub struct Model;
@@ -29,13 +36,13 @@ impl Side for Model {
         "model"
     }
 
-    fn compile(&mut self, words: &[u64], areas: Lent) -> Reply {
+    fn compile<'a>(&mut self, words: &[u64], mut areas: Lent<'a>) -> Answered<'a> {
         let run = compile(words, &areas.each_ref().map(|area| area.len()));
-        for (area, made) in areas.into_iter().zip(&run.areas) {
+        for (area, made) in areas.iter_mut().zip(&run.areas) {
             area[..made.len()].copy_from_slice(made);
             area[made.len()..].fill(0);
         }
-        run.reply
+        Answered { reply: run.reply.into(), areas: areas.map(|area| &*area) }
     }
 }
 
@@ -115,7 +122,7 @@ fn judge(case: &Case) -> Result<(Verdict, Run), String> {
         Outcome::Panicked => return Err("the Rust panics, the model does not expect it".to_string()),
         Outcome::Answer(_) if model.panics => return Err("the model expects a panic of the Rust".to_string()),
         Outcome::Answer(theirs) if theirs == ours => Seen::Compared,
-        Outcome::Answer(theirs) => return Err(difference(&theirs, &ours)),
+        Outcome::Answer(theirs) => return Err(difference(("the Rust", &theirs), ("the model", &ours))),
     };
     Ok((verdict, model))
 }
@@ -139,12 +146,12 @@ fn keeps_count(words: &[u64], model: &Run) -> Result<(), String> {
     Ok(())
 }
 
-/// The first lines in which the two answers differ.
-fn difference(theirs: &Answer, ours: &Answer) -> String {
-    let (left, right) = (format!("{theirs:#?}"), format!("{ours:#?}"));
+/// The first lines in which two answers differ, with who gives them.
+fn difference<T: Debug>(here: (&str, &T), there: (&str, &T)) -> String {
+    let (left, right) = (format!("{:#?}", here.1), format!("{:#?}", there.1));
     let unequal = left.lines().zip(right.lines()).enumerate().find(|(_, (a, b))| a != b);
     match unequal {
-        Some((line, (a, b))) => format!("line {line} of the answer: the Rust {a:?}, the model {b:?}"),
+        Some((line, (a, b))) => format!("line {line} of the answer: {} {a:?}, {} {b:?}", here.0, there.0),
         None => format!("answers of {} and {} lines", left.lines().count(), right.lines().count()),
     }
 }
@@ -186,8 +193,9 @@ fn judge_lengths(case: &Case, free: &Run, lengths: &Lengths) -> Result<u64, Stri
     Ok(if expected.row == AREA_FULL { expected.place } else { 0 })
 }
 
-/// One call of a third side in stale memory: the reply, every word of every area, the words beside
-/// them, and the input left alone. `areas` are the words expected up to the last entry.
+/// One call of a third side in stale memory: the reply, every word of every area, what the typed views
+/// say, the words beside the areas, and the input left alone. `areas` are the words expected up to the
+/// last entry.
 fn judge_call(
     side: &mut dyn Side,
     words: &[u64],
@@ -197,12 +205,18 @@ fn judge_call(
 ) -> Result<(), String> {
     let kept = words.to_vec();
     let mut memory = Memory::new(lengths, STALE);
-    let met = side.compile(words, memory.lend());
+    let lent = memory.lend();
+    let places = lent.each_ref().map(|area| area.as_ptr_range());
+    let answered = side.compile(words, lent);
+    let met: Reply = answered.reply.into();
     if met != *reply {
         return Err(format!("lengths {lengths:?}: the model {reply:?}, {} {met:?}", side.name()));
     }
+    if answered.areas.map(|area| area.as_ptr_range()) != places {
+        return Err(format!("lengths {lengths:?}: {} answers other areas than it was lent", side.name()));
+    }
     for i in 0..AREAS {
-        let (area, used) = (memory.area(i), areas[i].len());
+        let (area, used) = (answered.areas[i], areas[i].len());
         if area[..used] == areas[i] && area[used..].iter().all(|&word| word == 0) {
             continue;
         }
@@ -214,6 +228,12 @@ fn judge_call(
             i + 1,
             side.name()
         ));
+    }
+    let viewed = side.view(&answered).map_err(|message| format!("lengths {lengths:?}: {message}"))?;
+    let expected = Viewed { reply: *reply, answer: answer(reply, areas) };
+    if viewed != expected {
+        let message = difference(("the views", &viewed), ("the model", &expected));
+        return Err(format!("lengths {lengths:?}: {message}"));
     }
     if !memory.is_kept_beside() {
         return Err(format!("lengths {lengths:?}: {} writes beside the areas", side.name()));
@@ -373,6 +393,26 @@ impl Tally {
         for &area in full.iter().filter(|&&area| area != 0) {
             self.full[area as usize - 1] += 1;
         }
+    }
+
+    /// The counts of another run beside these.
+    pub fn join(&mut self, other: &Tally) {
+        fn each(here: &mut [u64], there: &[u64]) {
+            here.iter_mut().zip(there).for_each(|(here, there)| *here += there);
+        }
+        self.cases += other.cases;
+        self.records += other.records;
+        self.compared += other.compared;
+        each(&mut self.rows, &other.rows);
+        self.panics += other.panics;
+        self.inexpressible += other.inexpressible;
+        self.oversized += other.oversized;
+        each(&mut self.errors, &other.errors);
+        self.lengths += other.lengths;
+        each(&mut self.full, &other.full);
+        each(&mut self.calls, &other.calls);
+        each(&mut self.calls_full, &other.calls_full);
+        self.differences += other.differences;
     }
 
     pub fn print(&self) {

@@ -2,12 +2,13 @@
 //! there may be, chains of books, doublings. Too much for a comparison over thousands of cases; each
 //! call is made on a thread with a small stack.
 
-use crate::areas::{Lengths, Lent, Reply, AREAS, ENTRY_WORDS, UNLIMITED};
+use crate::areas::{Lengths, Lent, AREAS, ENTRY_WORDS, UNLIMITED};
 use crate::clock::now;
 use crate::compare::Side;
 use crate::model::compile;
 use crate::pieces::{body, deep, document, doubled, leaf, name_node, statement};
 use crate::records::{flatten, kind, Node, MAX_LEVEL, MAX_RECORDS, MAX_TEXT};
+use crate::views::{Answered, Viewed};
 use std::thread;
 
 pub struct Hostile {
@@ -131,18 +132,22 @@ impl Side for Narrow<'_> {
         self.side.name()
     }
 
-    fn compile(&mut self, words: &[u64], areas: Lent) -> Reply {
+    fn compile<'a>(&mut self, words: &[u64], areas: Lent<'a>) -> Answered<'a> {
         let Narrow { side, stack, .. } = self;
         let work = || {
             let start = now();
-            let reply = side.compile(words, areas);
-            (reply, now() - start)
+            let answered = side.compile(words, areas);
+            (answered, now() - start)
         };
-        let (reply, seconds) = thread::scope(|scope| {
+        let (answered, seconds) = thread::scope(|scope| {
             let worker = thread::Builder::new().stack_size(*stack).spawn_scoped(scope, work);
             worker.expect("a thread").join().expect("no panic")
         });
         self.seconds = seconds;
-        reply
+        answered
+    }
+
+    fn view(&self, answered: &Answered) -> Result<Viewed, String> {
+        self.side.view(answered)
     }
 }

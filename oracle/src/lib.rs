@@ -6,7 +6,6 @@ pub mod areas;
 #[cfg(feature = "link")]
 pub mod bench;
 pub mod books;
-pub mod call;
 pub mod clock;
 pub mod columns;
 pub mod compare;
@@ -30,3 +29,5 @@ pub mod sample;
 pub mod shape;
 pub mod speed;
 pub mod stored;
+pub mod table;
+pub mod views;

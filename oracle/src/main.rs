@@ -7,7 +7,8 @@ use oracle::generate::{case, Sizes};
 use oracle::hostile::Narrow;
 use oracle::real::Prepared;
 use oracle::records::records;
-use oracle::{columns, convert, examples, hostile, listing, sample, speed};
+use oracle::table::Column;
+use oracle::{clock, columns, convert, examples, hostile, listing, sample, speed, table};
 use std::collections::BTreeMap;
 use std::io::{Read, Write};
 use std::path::Path;
@@ -15,8 +16,9 @@ use std::process::ExitCode;
 use std::time::Instant;
 
 const USAGE: &str = "\
-oracle compare [--seed S] [--count N] [--large] [--ours] [--stop]
-    the Rust and the model (and the library) over N bundles; --stop ends at the first difference
+oracle compare [--seed S] [--seeds K] [--count N] [--large] [--ours] [--stop]
+    the Rust and the model (and the library) over N bundles of each of the K seeds from S on, with a
+    table at the end; --stop ends a seed at its first difference
 oracle case --seed S --index I [--large] [--column]
     the words of one bundle, or its column file
 oracle listing [--program]
@@ -62,14 +64,14 @@ fn sizes(arguments: &[String]) -> Sizes {
     }
 }
 
-#[cfg(feature = "link-compile")]
+#[cfg(feature = "link")]
 fn library() -> Box<dyn Side + Send> {
-    Box::new(oracle::ours::compiler())
+    Box::new(oracle::ours::Library)
 }
 
-#[cfg(not(feature = "link-compile"))]
+#[cfg(not(feature = "link"))]
 fn library() -> Box<dyn Side + Send> {
-    panic!("--ours needs --features link-compile");
+    panic!("the library is there with --features link");
 }
 
 #[cfg(feature = "link")]
@@ -91,24 +93,29 @@ fn report(first: &Difference) {
 }
 
 fn run_compare(arguments: &[String]) -> ExitCode {
-    let plan = Plan {
-        seed: number(arguments, "--seed", 1),
-        count: number(arguments, "--count", 1000),
-        sizes: sizes(arguments),
-        stop: has(arguments, "--stop"),
-    };
+    let (seed, count) = (number(arguments, "--seed", 1), number(arguments, "--count", 1000));
+    let (sizes, stop) = (sizes(arguments), has(arguments, "--stop"));
     let mut ours = has(arguments, "--ours").then(library);
-    let start = Instant::now();
-    let side = ours.as_mut().map(|side| &mut **side as &mut dyn Side);
-    println!("seed {}", plan.seed);
-    let (tally, first) = compare(plan, side);
-    tally.print();
-    println!("seconds {:.1}", start.elapsed().as_secs_f64());
-    if let Some(first) = &first {
-        report(first);
-        return ExitCode::FAILURE;
+    let mut columns = Vec::new();
+    let mut code = ExitCode::SUCCESS;
+    for seed in seed..seed + number(arguments, "--seeds", 1) {
+        let (start, processor) = (Instant::now(), clock::now());
+        let side = ours.as_mut().map(|side| &mut **side as &mut dyn Side);
+        println!("seed {seed}");
+        let (tally, first) = compare(Plan { seed, count, sizes, stop }, side);
+        tally.print();
+        let elapsed = start.elapsed().as_secs_f64();
+        println!("seconds {elapsed:.1}");
+        if let Some(first) = &first {
+            report(first);
+            code = ExitCode::FAILURE;
+        }
+        let large = if has(arguments, "--large") { " with `--large`" } else { "" };
+        let head = format!("seed {seed}, {}{large}", table::grouped(count));
+        columns.push(Column { head, tally, minutes: elapsed / 60.0, seconds: clock::now() - processor });
     }
-    ExitCode::SUCCESS
+    println!("\n{}", table::table(columns).trim_end());
+    code
 }
 
 fn run_case(arguments: &[String]) -> ExitCode {

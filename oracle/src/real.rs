@@ -34,7 +34,7 @@ pub enum Outcome {
     Unforeseen(String),
 }
 
-const MESSAGES: [&str; 10] = [
+pub(crate) const MESSAGES: [&str; 10] = [
     "variable already exists",
     "can not assign",
     "unknown operation",

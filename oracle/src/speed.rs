@@ -210,7 +210,7 @@ pub fn needs(words: &[u64]) -> Lengths {
 /// One call, in a function of its own so that a profile finds it.
 #[inline(never)]
 pub fn call_side(side: &mut dyn Side, words: &[u64], memory: &mut Memory) -> Reply {
-    side.compile(words, memory.lend())
+    side.compile(words, memory.lend()).reply.into()
 }
 
 /// Medians in seconds.

@@ -1,93 +1,44 @@
-//! The way of a call over the C ABI, on a function of this test that asks the model: what goes in
-//! arrives, what comes back is read, and a call that is wrong in one place is seen.
+//! The way of a third side's call, on one of this test that asks the model: what goes in arrives, what
+//! comes back is read, and a call or a view that is wrong in one place is seen.
 
-use oracle::areas::AREAS;
-use oracle::call::{CallReply, CallTotals, Called, CompileCall};
-use oracle::compare::{compare, Model, Plan, Side};
+use clover_back_end::Reply;
+use oracle::areas::{Answer, Delivery, ErrorAnswer, Lent, AREAS};
+use oracle::compare::{compare, judge_side, Model, Plan, Side};
 use oracle::generate::Sizes;
 use oracle::hostile::Narrow;
 use oracle::pieces::example;
+use oracle::views::{view, Answered, Viewed};
 
-/// A call of the library's form made of one over slices.
-macro_rules! stand_in {
-    ($name:ident, $spoil:expr) => {
-#[rustfmt::skip]
-        unsafe extern "C" fn $name(
-            tree: *const u64, tree_words: usize,
-            code: *mut u64, code_words: usize,
-            constants: *mut u64, constants_words: usize,
-            functions: *mut u64, functions_words: usize,
-            models: *mut u64, models_words: usize,
-            properties: *mut u64, properties_words: usize,
-            methods: *mut u64, methods_words: usize,
-            locals: *mut u64, locals_words: usize,
-            publics: *mut u64, publics_words: usize,
-            names: *mut u64, names_words: usize,
-            breaks: *mut u64, breaks_words: usize,
-            errors: *mut u64, errors_words: usize,
-            books: *mut u64, books_words: usize,
-        ) -> CallReply {
-            let mut lent = [
-                (code, code_words), (constants, constants_words), (functions, functions_words),
-                (models, models_words), (properties, properties_words), (methods, methods_words),
-                (locals, locals_words), (publics, publics_words), (names, names_words),
-                (breaks, breaks_words), (errors, errors_words), (books, books_words),
-            ];
-            let mut reply = unsafe { answered((tree, tree_words), &lent) };
-            let spoil: Spoil = $spoil;
-            unsafe { spoil(&mut reply, tree, &mut lent) };
-            reply
-        }
-    };
+type SpoilCall = fn(&mut Reply, &mut Lent);
+type SpoilView = fn(&mut Viewed);
+
+/// The model's call with a fault, or with one in what the views say.
+struct StandIn {
+    call: SpoilCall,
+    view: SpoilView,
 }
 
-type Spoil = unsafe fn(&mut CallReply, *const u64, &mut [(*mut u64, usize); AREAS]);
+const RIGHT: StandIn = StandIn { call: |_, _| {}, view: |_| {} };
 
-unsafe fn answered(tree: (*const u64, usize), lent: &[(*mut u64, usize); AREAS]) -> CallReply {
-    let words = unsafe { std::slice::from_raw_parts(tree.0, tree.1) };
-    let areas = lent.map(|(start, length)| unsafe { std::slice::from_raw_parts_mut(start, length) });
-    let reply = Model.compile(words, areas);
-    let totals = reply.totals;
-    CallReply {
-        number: reply.row,
-        place: reply.place,
-        totals: CallTotals {
-            code: totals[0],
-            constants: totals[1],
-            functions: totals[2],
-            models: totals[3],
-            properties: totals[4],
-            methods: totals[5],
-            context_locals: totals[6],
-            public_names: totals[7],
-            scope_names: totals[8],
-            breaks: totals[9],
-            errors: totals[10],
-            books: totals[11],
-            entry_point: reply.entry_point,
-            global_dependencies: reply.globals,
-        },
+impl Side for StandIn {
+    fn name(&self) -> &str {
+        "a stand-in"
+    }
+
+    fn compile<'a>(&mut self, words: &[u64], mut areas: Lent<'a>) -> Answered<'a> {
+        let mut reply = Model.compile(words, areas.each_mut().map(|area| &mut **area)).reply;
+        (self.call)(&mut reply, &mut areas);
+        Answered { reply, areas: areas.map(|area| &*area) }
+    }
+
+    fn view(&self, answered: &Answered) -> Result<Viewed, String> {
+        let mut viewed = view(answered)?;
+        (self.view)(&mut viewed);
+        Ok(viewed)
     }
 }
 
-stand_in!(right, |_, _, _| {});
-stand_in!(last_word, |_, _, lent| {
-    let (start, length) = lent[11];
-    if length > 0 {
-        unsafe { *start.add(length - 1) ^= 1 };
-    }
-});
-stand_in!(beside, |_, _, lent| unsafe { *lent[4].0.add(lent[4].1) = 0 });
-stand_in!(entry_point, |reply, _, _| reply.totals.entry_point ^= u64::from(reply.number == 0));
-stand_in!(place, |reply, _, _| reply.place ^= u64::from(reply.number == 9));
-stand_in!(exchanged, |_, _, lent| unsafe {
-    if lent[9].1 > 0 && lent[8].1 > 0 {
-        *lent[9].0 = 1;
-    }
-});
-
-fn differences(call: CompileCall, seed: u64, count: u64, sizes: Sizes) -> u64 {
-    let mut side = unsafe { Called::new("a stand-in", call) };
+fn differences(mut side: StandIn, seed: u64, count: u64, sizes: Sizes) -> u64 {
     let (tally, _) = compare(Plan { seed, count, sizes, stop: false }, Some(&mut side));
     assert!(tally.calls.iter().sum::<u64>() >= 3 * count || tally.differences > 0, "{tally:?}");
     if tally.differences == 0 && count >= 1000 {
@@ -98,21 +49,93 @@ fn differences(call: CompileCall, seed: u64, count: u64, sizes: Sizes) -> u64 {
 
 #[test]
 fn a_right_call_is_alike() {
-    assert_eq!(differences(right, 31, 2000, Sizes::Mixed), 0);
-    assert_eq!(differences(right, 32, 10, Sizes::Large), 0);
+    assert_eq!(differences(RIGHT, 31, 2000, Sizes::Mixed), 0);
+    assert_eq!(differences(RIGHT, 32, 10, Sizes::Large), 0);
 }
 
 #[test]
 fn wrong_calls_are_seen() {
-    for call in [last_word as CompileCall, beside, entry_point, place, exchanged] {
-        assert!(differences(call, 33, 60, Sizes::Mixed) > 0);
+    let faults: [SpoilCall; 8] = [
+        |_, areas| {
+            if let Some(last) = areas[11].last_mut() {
+                *last ^= 1;
+            }
+        },
+        // A word beside an area; the oracle's memory has some there.
+        |_, areas| unsafe { *areas[4].as_mut_ptr().add(areas[4].len()) = 0 },
+        |reply, _| reply.totals.entry_point ^= u64::from(reply.number == 0),
+        |reply, _| reply.place ^= u64::from(reply.number == 9),
+        |reply, _| reply.place ^= u64::from(reply.number == 0),
+        |reply, _| reply.totals.errors ^= u64::from(reply.number != 0),
+        |_, areas| {
+            if let (true, Some(first)) = (!areas[8].is_empty(), areas[9].first_mut()) {
+                *first = 1;
+            }
+        },
+        |_, areas| areas.swap(8, 9),
+    ];
+    for call in faults {
+        assert!(differences(StandIn { call, ..RIGHT }, 33, 60, Sizes::Mixed) > 0);
+    }
+}
+
+/// Spoils a delivery's views.
+fn on_delivery(viewed: &mut Viewed, spoil: fn(&mut Delivery)) {
+    if let Answer::Delivered(delivery) = &mut viewed.answer {
+        spoil(delivery);
+    }
+}
+
+fn on_refusal(viewed: &mut Viewed, spoil: fn(&mut u64, &mut u64, &mut Vec<ErrorAnswer>)) {
+    if let Answer::Refused { row, place, errors } = &mut viewed.answer {
+        spoil(row, place, errors);
     }
 }
 
 #[test]
+fn wrong_views_are_seen() {
+    let faults: [SpoilView; 21] = [
+        |viewed| viewed.reply.totals[8] += u64::from(viewed.reply.row == 0),
+        |viewed| viewed.reply.globals += u64::from(viewed.reply.row == 0),
+        |viewed| on_delivery(viewed, |d| d.functions.iter_mut().for_each(|f| f.parameters = f.locals)),
+        |viewed| on_delivery(viewed, |d| d.functions.iter_mut().for_each(|f| f.locals = f.parameters)),
+        |viewed| on_delivery(viewed, |d| d.functions.iter_mut().for_each(|f| f.rescue = 0)),
+        |viewed| on_delivery(viewed, |d| d.functions.iter_mut().for_each(|f| f.instance = false)),
+        |viewed| on_delivery(viewed, |d| d.functions.iter_mut().for_each(|f| f.file = 0)),
+        |viewed| on_delivery(viewed, |d| d.functions.iter_mut().for_each(|f| f.code.truncate(1))),
+        |viewed| on_delivery(viewed, |d| d.functions.iter_mut().for_each(|f| f.code.iter_mut().for_each(|c| c.1 = 0))),
+        |viewed| on_delivery(viewed, |d| d.constants.iter_mut().for_each(|c| c.1 &= 0xFFFF_FFFF)),
+        |viewed| on_delivery(viewed, |d| d.globals.truncate(1)),
+        |viewed| on_delivery(viewed, |d| d.models.iter_mut().for_each(|m| m.properties.reverse())),
+        |viewed| on_delivery(viewed, |d| d.models.iter_mut().for_each(|m| m.methods.clear())),
+        |viewed| on_delivery(viewed, |d| d.context.iter_mut().for_each(|c| c.2 = c.2.or(Some(0)))),
+        |viewed| on_delivery(viewed, |d| d.public.values_mut().for_each(|constant| *constant = 0)),
+        |viewed| on_delivery(viewed, |d| d.entry_point = 0),
+        |viewed| on_delivery(viewed, |d| d.books.reverse()),
+        |viewed| on_refusal(viewed, |row, _, _| *row = (*row).min(8)),
+        |viewed| on_refusal(viewed, |_, place, _| *place = 0),
+        |viewed| on_refusal(viewed, |_, _, errors| errors.truncate(1)),
+        |viewed| on_refusal(viewed, |_, _, errors| errors.iter_mut().for_each(|error| error[3] = 0)),
+    ];
+    for (at, view) in faults.into_iter().enumerate() {
+        assert!(differences(StandIn { view, ..RIGHT }, 33, 60, Sizes::Mixed) > 0, "fault {at}");
+    }
+}
+
+/// Two views that say other things of one answer are an error by themselves.
+#[test]
+fn views_must_agree() {
+    let mut memory = oracle::areas::Memory::new(&[100; AREAS], 0);
+    let mut answered = Model.compile(&example(), memory.lend());
+    assert!(view(&answered).is_ok());
+    answered.reply.totals.global_dependencies += 1;
+    assert!(view(&answered).is_err());
+}
+
+#[test]
 fn a_call_on_a_small_stack() {
-    let mut called = unsafe { Called::new("a stand-in", right) };
-    let mut narrow = Narrow { side: &mut called, stack: 1 << 20, seconds: 0.0 };
-    let reply = oracle::compare::judge_side(&mut narrow, &example(), &[100; AREAS]).expect("alike");
+    let mut side = RIGHT;
+    let mut narrow = Narrow { side: &mut side, stack: 1 << 20, seconds: 0.0 };
+    let reply = judge_side(&mut narrow, &example(), &[100; AREAS]).expect("alike");
     assert_eq!((reply.row, reply.totals[0]), (0, 6));
 }

@@ -5,6 +5,7 @@ use oracle::compare::{compare, judge_side, lengths, shrink, Model, Plan, Side, T
 use oracle::generate::{case, Sizes};
 use oracle::model::compile;
 use oracle::random::Random;
+use oracle::views::Answered;
 use oracle::{areas, columns, listing, pieces, sample, stored};
 use std::collections::BTreeSet;
 use std::path::Path;
@@ -106,7 +107,8 @@ fn the_sample_replays() {
             let lengths: areas::Lengths = std::array::from_fn(|_| next() as usize);
             let reply: Vec<u64> = (0..16).map(|_| next()).collect();
             let mut memory = areas::Memory::new(&lengths, 1);
-            assert_eq!(Model.compile(&words, memory.lend()).words().to_vec(), reply);
+            let met: areas::Reply = Model.compile(&words, memory.lend()).reply.into();
+            assert_eq!(met.words().to_vec(), reply);
             for i in 0..AREAS {
                 let mut expected: Vec<u64> = (0..next()).map(|_| next()).collect();
                 expected.resize(lengths[i], 0);
@@ -127,12 +129,12 @@ impl Side for Wrong {
         "a wrong side"
     }
 
-    fn compile(&mut self, words: &[u64], mut lent: areas::Lent) -> areas::Reply {
-        let reply = Model.compile(words, lent.each_mut().map(|area| &mut **area));
+    fn compile<'a>(&mut self, words: &[u64], mut lent: areas::Lent<'a>) -> Answered<'a> {
+        let reply = Model.compile(words, lent.each_mut().map(|area| &mut **area)).reply;
         if let Some(last) = lent[0].last_mut() {
             *last ^= 1;
         }
-        reply
+        Answered { reply, areas: lent.map(|area| &*area) }
     }
 }
 

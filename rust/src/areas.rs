@@ -119,9 +119,9 @@ impl Areas {
         &self.words[area.index()]
     }
 
-    #[cfg_attr(not(feature = "link"), allow(dead_code))]
-    pub(crate) fn words_mut(&mut self) -> &mut [Vec<u64>; AREAS] {
-        &mut self.words
+    /// The areas as slices, in the order of their numbers.
+    pub fn lend(&mut self) -> [&mut [u64]; AREAS] {
+        self.words.each_mut().map(Vec::as_mut_slice)
     }
 }
 

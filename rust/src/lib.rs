@@ -2,8 +2,8 @@
 //! static library; this crate wraps its calls and gives types to what they write.
 //!
 //! A bundle of books goes in as records, four words each ([`records`] writes them); a program comes
-//! out in memory that the caller lends ([`Areas`]), read through [`Program`]. Texts are numbers
-//! throughout: what they say is the caller's own.
+//! out in memory that the caller lends ([`Areas`], or slices of its own through `lent`), read through
+//! [`Program`]. Texts are numbers throughout: what they say is the caller's own.
 //!
 //! ```
 //! # #[cfg(feature = "link")]
@@ -36,9 +36,12 @@ mod areas;
 #[cfg(feature = "link")]
 mod calls;
 mod instruction;
+#[cfg(feature = "link")]
+pub mod lent;
 mod program;
 pub mod records;
 mod refusal;
+mod reply;
 
 pub use areas::{Area, Areas, AREAS};
 #[cfg(feature = "link")]
@@ -46,3 +49,4 @@ pub use calls::{check, columns_to_records, compile, records_to_columns};
 pub use instruction::{Instruction, OpCode, Position};
 pub use program::{Constant, ContextLocal, Function, Method, Model, Program, PublicName, Totals};
 pub use refusal::{Error, Refusal, Row, Token};
+pub use reply::{Answer, Checked, Converted, Reply};

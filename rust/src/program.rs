@@ -1,6 +1,6 @@
 //! A delivered program, read in the areas where it lies.
 
-use crate::areas::{Area, Areas, AREAS};
+use crate::areas::{Area, AREAS};
 use crate::instruction::{Instruction, Position};
 use std::fmt;
 
@@ -55,9 +55,8 @@ pub struct Program<'a> {
 
 impl<'a> Program<'a> {
     /// The areas must hold a delivery with these totals.
-    #[cfg_attr(not(feature = "link"), allow(dead_code))]
-    pub(crate) fn new(areas: &'a Areas, totals: Totals) -> Program<'a> {
-        let used = |area: Area| &areas.words(area)[..totals.of(area) as usize * area.entry_words()];
+    pub(crate) fn new(areas: &[&'a [u64]; AREAS], totals: Totals) -> Program<'a> {
+        let used = |area: Area| &areas[area.index()][..totals.of(area) as usize * area.entry_words()];
         Program { areas: Area::ALL.map(used), totals }
     }
 
@@ -76,7 +75,9 @@ impl<'a> Program<'a> {
     }
 
     fn entry<const WORDS: usize>(&self, area: Area, index: u64) -> Option<&'a [u64; WORDS]> {
-        self.entries(area).nth(usize::try_from(index).ok()?)
+        debug_assert_eq!(WORDS, area.entry_words());
+        let at = usize::try_from(index).ok()?.checked_mul(WORDS)?;
+        self.words(area).get(at..)?.first_chunk()
     }
 
     pub fn functions(&self) -> impl ExactSizeIterator<Item = Function<'a>> + Clone {
@@ -114,7 +115,8 @@ impl<'a> Program<'a> {
     }
 
     pub fn model(&self, index: u64) -> Option<Model<'a>> {
-        self.models().nth(usize::try_from(index).ok()?)
+        let &[file, name] = self.entry(Area::Models, index)?;
+        Some(Model { program: *self, index, file, name })
     }
 
     pub fn context_locals(&self) -> impl ExactSizeIterator<Item = ContextLocal> + Clone + 'a {
@@ -311,16 +313,14 @@ mod tests {
         (opcode as u64) << 56 | operand
     }
 
-    fn areas(filled: &[(Area, &[u64])]) -> Areas {
-        let mut areas = Areas::with_entries([4; AREAS]);
-        for &(area, words) in filled {
-            let lent = &mut areas.words_mut()[area.index()];
-            lent.clear();
-            lent.extend(words);
-            // Entries behind the total are none of the program's.
-            lent.resize(words.len() + 2 * area.entry_words(), 0);
-        }
-        areas
+    /// Entries behind the total are none of the program's.
+    fn areas(filled: &[(Area, &[u64])]) -> [Vec<u64>; AREAS] {
+        let words = |area: Area| filled.iter().find(|(filled, _)| *filled == area).map_or(&[][..], |(_, words)| words);
+        Area::ALL.map(|area| [words(area), &vec![0; 2 * area.entry_words()]].concat())
+    }
+
+    fn program(areas: &[Vec<u64>; AREAS], totals: Totals) -> Program<'_> {
+        Program::new(&areas.each_ref().map(Vec::as_slice), totals)
     }
 
     /// 01's example: file 2 holds f, text 3, with a parameter: `if x return end`.
@@ -349,7 +349,7 @@ mod tests {
             (Area::Books, &[2]),
         ]);
         let totals = Totals { code: 6, constants: 4, functions: 1, context_locals: 1, books: 1, ..Totals::default() };
-        let program = Program::new(&areas, totals);
+        let program = program(&areas, totals);
         let f = program.entry_point().expect("one function");
         assert_eq!((f.parameters(), f.locals(), f.rescue_position()), (1, 1, 0));
         assert_eq!((f.is_instance(), f.file(), f.name()), (false, 0, 3));
@@ -374,7 +374,7 @@ mod tests {
         let functions = [0, 1, 2, 1, 0, 2, 0, 3, 4, 5, 0, 0, 2, 3, 1, 9];
         let areas = areas(&[(Area::Code, &code), (Area::Functions, &functions)]);
         let totals = Totals { code: 5, functions: 2, entry_point: 1, ..Totals::default() };
-        let program = Program::new(&areas, totals);
+        let program = program(&areas, totals);
         let second = program.entry_point().expect("the second function");
         assert_eq!(second.instructions().map(|(i, _)| i.operand()).collect::<Vec<_>>(), [2, 3, 4]);
         assert_eq!((second.parameters(), second.locals(), second.file(), second.name()), (4, 5, 1, 9));
@@ -389,7 +389,7 @@ mod tests {
         let half = 0.5f64.to_bits();
         let words = [2, smallest, 0, 3, half, 0, 4, 7, 1, 5, 2, 0, 4, 8, 0, 4, 9, 1];
         let areas = areas(&[(Area::Constants, &words)]);
-        let program = Program::new(&areas, Totals { constants: 6, ..Totals::default() });
+        let program = program(&areas, Totals { constants: 6, ..Totals::default() });
         assert_eq!(program.constant(0), Some(Constant::Integer(i64::MIN)));
         assert_eq!(program.constant(1), Some(Constant::Float(0.5)));
         assert_eq!(program.constant(2), Some(Constant::Text(7)));
@@ -409,7 +409,7 @@ mod tests {
         ]);
         let totals =
             Totals { models: 2, properties: 3, methods: 3, public_names: 1, context_locals: 2, ..Totals::default() };
-        let program = Program::new(&areas, totals);
+        let program = program(&areas, totals);
         let second = program.model(1).expect("two models");
         assert_eq!((second.file(), second.name()), (1, 21));
         assert_eq!(second.properties().collect::<Vec<_>>(), [30]);

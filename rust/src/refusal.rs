@@ -78,9 +78,11 @@ pub struct Refusal {
 
 impl Refusal {
     /// The refusal of a reply; none where its number is 0.
-    #[cfg_attr(not(feature = "link"), allow(dead_code))]
     pub(crate) fn of(number: u64, place: u64, errors: &[u64]) -> Option<Refusal> {
-        let row = Row::from_number(number)?;
+        if number == 0 {
+            return None;
+        }
+        let row = Row::from_number(number).unwrap_or_else(|| unreachable!("no reply has the number {number}"));
         let listed = errors.chunks_exact(Area::Errors.entry_words()).map(Error::of);
         Some(Refusal { row, place, errors: listed.take_while(|error| error.number != 0).collect() })
     }
@@ -194,7 +196,6 @@ pub struct Error {
 }
 
 impl Error {
-    #[cfg_attr(not(feature = "link"), allow(dead_code))]
     fn of(entry: &[u64]) -> Error {
         Error {
             number: entry[0],

@@ -1,0 +1,78 @@
+//! The calls over memory that the caller already has: its own slices go to the library as they are,
+//! and the replies come back as docs/FORMAT.md has them. Nothing is allocated. The calls beside this
+//! module are made of these.
+//!
+//! ```
+//! use clover_back_end::{lent, AREAS};
+//!
+//! // One piece of memory, a twelfth of it for each area; file 2 is empty.
+//! let mut memory = vec![0u64; 32 * AREAS];
+//! let mut parts = memory.chunks_exact_mut(32);
+//! let areas = std::array::from_fn(|_| parts.next().expect("twelve parts"));
+//! let answer = lent::compile(&[1, 1, 0, 2], areas);
+//! assert_eq!((answer.reply.number, answer.reply.totals.books), (0, 1));
+//! assert_eq!(answer.program().expect("no refusal").books(), [2]);
+//! ```
+
+use crate::areas::AREAS;
+use crate::reply::{Answer, Checked, Converted, Reply};
+
+extern "C" {
+    fn clover_check(tree: *const u64, words: usize) -> Checked;
+    fn clover_columns_to_records(file: *const u8, bytes: usize, out: *mut u64, words: usize) -> Converted;
+    fn clover_records_to_columns(tree: *const u64, words: usize, out: *mut u8, bytes: usize) -> Converted;
+}
+
+#[rustfmt::skip]
+extern "C" {
+    fn clover_compile(
+        tree: *const u64, tree_words: usize,
+        code: *mut u64, code_words: usize,
+        constants: *mut u64, constants_words: usize,
+        functions: *mut u64, functions_words: usize,
+        models: *mut u64, models_words: usize,
+        properties: *mut u64, properties_words: usize,
+        methods: *mut u64, methods_words: usize,
+        locals: *mut u64, locals_words: usize,
+        publics: *mut u64, publics_words: usize,
+        names: *mut u64, names_words: usize,
+        breaks: *mut u64, breaks_words: usize,
+        errors: *mut u64, errors_words: usize,
+        books: *mut u64, books_words: usize,
+    ) -> Reply;
+}
+
+/// Rows 2 to 4 on any words.
+pub fn check(tree: &[u64]) -> Checked {
+    // The words outlive the call, which only reads them.
+    unsafe { clover_check(tree.as_ptr(), tree.len()) }
+}
+
+/// A column file to records, or rows 1 to 4, or row 9 with place 0 where the output is too short.
+pub fn columns_to_records(file: &[u8], out: &mut [u64]) -> Converted {
+    // Both slices outlive the call, and the output is another than the file.
+    unsafe { clover_columns_to_records(file.as_ptr(), file.len(), out.as_mut_ptr(), out.len()) }
+}
+
+/// Records to a column file, or rows 2 to 4, or row 9 with place 0 where the output is too short.
+pub fn records_to_columns(tree: &[u64], out: &mut [u8]) -> Converted {
+    // Both slices outlive the call, and the output is another than the tree.
+    unsafe { clover_records_to_columns(tree.as_ptr(), tree.len(), out.as_mut_ptr(), out.len()) }
+}
+
+/// Compiles a bundle into areas in the order of their numbers. A tail shorter than an entry is zeroed.
+pub fn compile<'a>(tree: &[u64], areas: [&'a mut [u64]; AREAS]) -> Answer<'a> {
+    let mut areas = areas;
+    let lent = areas.each_mut().map(|words| (words.as_mut_ptr(), words.len()));
+    // The slices outlive the call, and no two of them overlap: each is borrowed for itself.
+    #[rustfmt::skip]
+    let reply = unsafe {
+        clover_compile(
+            tree.as_ptr(), tree.len(),
+            lent[0].0, lent[0].1, lent[1].0, lent[1].1, lent[2].0, lent[2].1, lent[3].0, lent[3].1,
+            lent[4].0, lent[4].1, lent[5].0, lent[5].1, lent[6].0, lent[6].1, lent[7].0, lent[7].1,
+            lent[8].0, lent[8].1, lent[9].0, lent[9].1, lent[10].0, lent[10].1, lent[11].0, lent[11].1,
+        )
+    };
+    Answer { reply, areas: areas.map(|words| &*words) }
+}

@@ -1,0 +1,68 @@
+//! The calls' replies as docs/FORMAT.md has them ('The static library'), and what they mean.
+
+use crate::areas::{Area, AREAS};
+use crate::program::{Program, Totals};
+use crate::refusal::Refusal;
+
+/// Of the shape check.
+#[repr(C)]
+#[derive(Clone, Copy, Debug, Default, PartialEq, Eq)]
+pub struct Checked {
+    /// The refusal's row, or 0.
+    pub number: u64,
+    pub place: usize,
+}
+
+impl Checked {
+    pub fn result(self) -> Result<(), Refusal> {
+        Refusal::of(self.number, self.place as u64, &[]).map_or(Ok(()), Err)
+    }
+}
+
+/// Of a converter.
+#[repr(C)]
+#[derive(Clone, Copy, Debug, Default, PartialEq, Eq)]
+pub struct Converted {
+    /// The refusal's row, or 0.
+    pub number: u64,
+    pub place: usize,
+    /// Records converted; 0 after a refusal.
+    pub total: usize,
+}
+
+impl Converted {
+    /// How many records stand in the output.
+    pub fn records(self) -> Result<usize, Refusal> {
+        Refusal::of(self.number, self.place as u64, &[]).map_or(Ok(self.total), Err)
+    }
+}
+
+/// Of the compile call.
+#[repr(C)]
+#[derive(Clone, Copy, Debug, Default, PartialEq, Eq)]
+pub struct Reply {
+    /// The refusal's row, or 0.
+    pub number: u64,
+    pub place: u64,
+    /// All 0 after a refusal.
+    pub totals: Totals,
+}
+
+/// A compile call's reply, and the areas whole as it left them: entries, then zeros.
+#[derive(Clone, Copy, Debug)]
+pub struct Answer<'a> {
+    pub reply: Reply,
+    pub areas: [&'a [u64]; AREAS],
+}
+
+impl<'a> Answer<'a> {
+    /// The program, or why there is none. The reply and the words must be those of one call: other
+    /// ones may panic here or in the views.
+    pub fn program(&self) -> Result<Program<'a>, Refusal> {
+        let Reply { number, place, totals } = self.reply;
+        match Refusal::of(number, place, self.areas[Area::Errors.index()]) {
+            Some(refusal) => Err(refusal),
+            None => Ok(Program::new(&self.areas, totals)),
+        }
+    }
+}
