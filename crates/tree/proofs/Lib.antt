@@ -3,6 +3,7 @@ pub mod Tables
 pub mod Spans
 pub mod Walks
 pub mod Ways
+pub mod Lacking
 pub mod Children
 pub mod This
 pub mod Spells

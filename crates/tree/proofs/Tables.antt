@@ -1,16 +1,16 @@
 -- The code's tables are those of `Rules`: each row stands at its place, and its number says what the row says, by one test of every slot and one of every
 -- rule, which antt computes. Also one law for each way through the functions that read a row. Assumes nothing.
 use mathlib.Core.Path.{_≡_, refl, sym, ap, subst, _∙_}
-use mathlib.Core.Bool.{Bool, true, false, cond}
+use mathlib.Core.Bool.{Bool, true, false, cond, _&&_}
 use mathlib.Core.List.{List, [], _∷_}
 use Prim.Native.Nat.{ℕ, zero, suc, _/_, _%_, _^_, _≤_, _<_}
 use native.Mathlib.Omega.{arith}
 use native.Mathlib.Decide.{decLt}
 use lib.ListN.{getD, List·getD-eq-default}
 use lib.Dec.{T, eqb, leb, ltb, ltb→lt, eqb→eq}
-use borrow.Author.Tests.{le-leb, lt-leb, ne-eqb}
+use borrow.Author.Tests.{lt-ltb, le-ltb, le-leb, lt-leb, ne-eqb}
 use Rattle.tree.specs.Rules.{Slot, Rule, slots, rules, slotOf, ruleOf, nothing, unused, has, mayStand, goesOn, slotAfter, isDue, firstSlot, inRange}
-use Rattle.tree.specs.Rows.{slotRow, ruleRow, positionIn, mostIn}
+use Rattle.tree.specs.Rows.{slotRow, ruleRow, holdsIn, rangeIn, positionIn, mostIn}
 
 -- a test of every entry of a list, and of every number below n
 
@@ -151,15 +151,24 @@ none-past k (x ∷ xs) t h =
 
 -- may_stand
 
-pub may-bit : (s k : ℕ) {r : ℕ} → r ≡ slotRow (slotOf s) → k < 50 → bit r k ≡ mayStand s k
-unfolding mayStand
-may-bit s k e h =
-    ap (λ (x : ℕ). bit x k) e
-    ∙ same-is _ _ (below-at (λ j. same (bit (slotRow (slotOf s)) j) (has j (slotOf s .kinds))) 50 (every-slot s .kinds) k h)
-
 pub may-past : (s k : ℕ) → 50 ≤ k → false ≡ mayStand s k
 unfolding mayStand
 may-past s k h = sym (none-past k (slotOf s .kinds) (every-slot s .past) h)
+
+may-bit : (s k : ℕ) → k < 50 → bit (slotRow (slotOf s)) k ≡ mayStand s k
+unfolding mayStand
+may-bit s k h = same-is _ _ (below-at (λ j. same (bit (slotRow (slotOf s)) j) (has j (slotOf s .kinds))) 50 (every-slot s .kinds) k h)
+
+hold-bit : (s k : ℕ) → holdsIn (slotRow (slotOf s)) k ≡ mayStand s k
+unfolding holdsIn
+hold-bit s k = go (decLt k 50)
+  where
+    go : Dec (k < 50) → (ltb k 50 && bit (slotRow (slotOf s)) k) ≡ mayStand s k
+    go (yes h) = simp (lt-ltb k 50 h) (may-bit s k h)
+    go (no h) = let l : 50 ≤ k = omega (arith, h) in simp (le-ltb k 50 l) (may-past s k l)
+
+pub hold-row : (s k : ℕ) {r : ℕ} → r ≡ slotRow (slotOf s) → holdsIn r k ≡ mayStand s k
+hold-row s k q = ap (λ (x : ℕ). holdsIn x k) q ∙ hold-bit s k
 
 -- slot_after, is_due
 
@@ -223,23 +232,19 @@ first-row k q = every-rule k q .first
 
 -- in_range
 
-module _ (k p v : ℕ) {row : ℕ} (q : row ≡ ruleRow (ruleOf k)) {h : ℕ} (H : h ≡ positionIn row) where
-  pub range-high : h < p → false ≡ inRange k p v
-  unfolding inRange
-  range-high l =
-      let a = every-rule k q .position in
-      simp (lt-leb p (ruleOf k .position) (omega arith))
+pub range-row : (k p v : ℕ) {row : ℕ} → row ≡ ruleRow (ruleOf k) → rangeIn row p v ≡ inRange k p v
+unfolding rangeIn inRange
+range-row k p v q = rw (every-rule k q .position, every-rule k q .least, every-rule k q .most)
 
-  pub range-low : p ≤ h → v < row / 64 % 2 → false ≡ inRange k p v
-  unfolding inRange
-  range-low l n =
-      let a = every-rule k q .position in
-      let b = every-rule k q .least in
-      simp (le-leb p (ruleOf k .position) (omega arith), lt-leb (ruleOf k .least) v (omega arith))
+module _ (row p v : ℕ) {h : ℕ} (H : h ≡ positionIn row) where
+  pub range-high : h < p → false ≡ rangeIn row p v
+  unfolding rangeIn
+  range-high l = simp (lt-leb p (positionIn row) (omega arith))
 
-  pub range-most : p ≤ h → row / 64 % 2 ≤ v → {m : ℕ} → m ≡ mostIn row → leb v m ≡ inRange k p v
-  unfolding inRange
-  range-most l n M =
-      let a = every-rule k q .position in
-      let b = every-rule k q .least in
-      simp (le-leb p (ruleOf k .position) (omega arith), le-leb (ruleOf k .least) v (omega arith)) (ap (λ (x : ℕ). leb v x) (M ∙ every-rule k q .most))
+  pub range-low : p ≤ h → v < row / 64 % 2 → false ≡ rangeIn row p v
+  unfolding rangeIn
+  range-low l n = simp (le-leb p (positionIn row) (omega arith), lt-leb (row / 64 % 2) v n)
+
+  pub range-most : p ≤ h → row / 64 % 2 ≤ v → {m : ℕ} → m ≡ mostIn row → leb v m ≡ rangeIn row p v
+  unfolding rangeIn
+  range-most l n M = simp (le-leb p (positionIn row) (omega arith), le-leb (row / 64 % 2) v n) (ap (λ (x : ℕ). leb v x) M)

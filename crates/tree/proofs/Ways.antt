@@ -1,4 +1,4 @@
--- One law for each way through the code of the check. Assumes nothing.
+-- One law for each way through the code of the check: `lacks` and `check`, and `sound` and `walk` as `column_files` has them. Assumes nothing.
 use mathlib.Core.Path.{_≡_, sym, ap, _∙_}
 use mathlib.Core.Bool.{Bool, true, false, not}
 use mathlib.Core.List.{List}

@@ -1,8 +1,8 @@
 -- The numbers in which the code holds the rows of the tables in `Rules`. That they say the same is proved, proofs/Tables.antt
 use Prim.Native.Nat.{ℕ, _+_, _*_, _/_, _%_, _^_}
-use mathlib.Core.Bool.{cond}
+use mathlib.Core.Bool.{Bool, cond, _&&_}
 use mathlib.Core.List.{List, [], _∷_}
-use lib.Dec.{eqb}
+use lib.Dec.{eqb, leb, ltb}
 use Rattle.tree.specs.Rules.{Slot, Rule, anywhere, text, anything}
 
 -- a slot: a bit for each of its kinds, which are below 50, then the slot after it, then whether a child is due
@@ -26,3 +26,10 @@ positionIn row = cond (eqb (row / 32 % 2) 1) anywhere 0
 
 unfoldable pub mostIn : ℕ → ℕ
 mostIn row = cond (eqb (row / 64 % 2) 1) text (cond (eqb (row / 128 % 2) 1) anything (row / 256))
+
+-- whether a slot's row has a kind, and whether a position and a value are in the range of a rule's row
+unfoldable pub holdsIn : ℕ → ℕ → Bool
+holdsIn row k = ltb k 50 && eqb (row / 2 ^ k % 2) 1
+
+unfoldable pub rangeIn : ℕ → ℕ → ℕ → Bool
+rangeIn row p v = leb p (positionIn row) && (leb (row / 64 % 2) v && leb v (mostIn row))

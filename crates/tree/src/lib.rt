@@ -1,10 +1,22 @@
 // Rows 2, 3 and 4 of 01 on any words: `check` goes once over the records, in their order. At each it looks at the record by itself
-// (`sound`: row 3), at its level (row 4), and then at its children, one level down.
+// (`stands`: row 3), at its level (row 4), and then at its children, one level down. That a child is lacking, which is row 3 at the parent, shows after the
+// last child; where one of them is at fault, `blame` goes on over the others to see it.
+use words::record::POSITION;
+use words::record::RECORD_WORDS;
+use words::record::SPAN;
+use words::record::VALUE;
 use words::record::field;
 ghost use mathlib.Core.Path.{_≡_};
+ghost use mathlib.Core.Bool.{cond, _&&_};
+ghost use Prim.Native.Nat.{_+_, _*_, _%_, _≤_, _<_};
+ghost use lib.ListN.{length};
+ghost use lib.Dec.{leb};
+ghost use Rattle.words.specs.Record.{mostLevels};
 ghost use Rattle.tree.specs.Rules.{slotOf, ruleOf, mayStand, goesOn, slotAfter, isDue, firstSlot, inRange};
-ghost use Rattle.tree.specs.Rows.{slotRow, ruleRow, positionIn, mostIn};
-ghost use Rattle.tree.specs.Check.{withinOf, lacksOf, walkOf, sameThis, thisAfter, soundAt, shapeOf};
+ghost use Rattle.tree.specs.Rows.{slotRow, ruleRow, holdsIn, rangeIn, positionIn, mostIn};
+ghost use Rattle.tree.specs.Check.{withinOf, lacksOf, walkOf, sameThis, thisAfter, shapeOf};
+ghost use Rattle.tree.specs.Children.{blamed, settled};
+ghost use Rattle.tree.specs.declared.Outcome.the-variants.{Fault};
 
 // Limits of 01: records of a bundle, levels, the number of a text, a position (65,535 lines and columns, packed).
 const MOST_RECORDS: usize = 1048576;
@@ -146,15 +158,22 @@ fn rule_row(kind: u64) -> u64
     }
 }
 
-pub fn may_stand(slot: usize, kind: u64) -> bool
-    ensures { λ r. ⌜ r ≡ mayStand slot kind ⌝ }
+// What a slot's row says: whether a kind may stand there.
+fn row_holds(row: u64, kind: u64) -> bool
+    ensures { λ r. ⌜ r ≡ holdsIn row kind ⌝ }
 {
-    let row = slot_row(slot);
     if kind < 50 {
         (row >> kind) % 2 == 1
     } else {
         false
     }
+}
+
+pub fn may_stand(slot: usize, kind: u64) -> bool
+    ensures { λ r. ⌜ r ≡ mayStand slot kind ⌝ }
+{
+    let row = slot_row(slot);
+    row_holds(row, kind)
 }
 
 // After a parameter parameters go on.
@@ -172,14 +191,22 @@ fn goes_on(slot: usize, kind: u64) -> bool
     }
 }
 
-pub fn slot_after(slot: usize, kind: u64) -> usize
+// The slot after a child, where the slot's row is known.
+fn row_after(slot: usize, row: u64, kind: u64) -> usize
+    requires { ⌜ row ≡ slotRow (slotOf slot) ⌝ }
     ensures { λ r. ⌜ r ≡ slotAfter slot kind ⌝ }
 {
     if goes_on(slot, kind) {
         return slot;
     }
-    let row = slot_row(slot);
     ((row / NEXT) % 32) as usize
+}
+
+pub fn slot_after(slot: usize, kind: u64) -> usize
+    ensures { λ r. ⌜ r ≡ slotAfter slot kind ⌝ }
+{
+    let row = slot_row(slot);
+    row_after(slot, row, kind)
 }
 
 pub fn is_due(slot: usize) -> bool
@@ -189,11 +216,18 @@ pub fn is_due(slot: usize) -> bool
     row / DUE == 1
 }
 
+// The slot of the first child that a rule's row says.
+fn row_first(row: u64) -> usize
+    ensures { λ r. ⌜ r ≡ row % 32 ⌝ }
+{
+    (row % PLACED) as usize
+}
+
 pub fn first_slot(kind: u64) -> usize
     ensures { λ r. ⌜ r ≡ firstSlot kind ⌝ }
 {
     let row = rule_row(kind);
-    (row % PLACED) as usize
+    row_first(row)
 }
 
 fn most_position(row: u64) -> u64
@@ -218,10 +252,10 @@ fn most_value(row: u64) -> u64
     row / MOST
 }
 
-pub fn in_range(kind: u64, position: u64, value: u64) -> bool
-    ensures { λ r. ⌜ r ≡ inRange kind position value ⌝ }
+// Whether a position and a value are in the range that a rule's row says.
+fn row_range(row: u64, position: u64, value: u64) -> bool
+    ensures { λ r. ⌜ r ≡ rangeIn row position value ⌝ }
 {
-    let row = rule_row(kind);
     let highest = most_position(row);
     if position > highest {
         return false;
@@ -231,6 +265,13 @@ pub fn in_range(kind: u64, position: u64, value: u64) -> bool
     }
     let most = most_value(row);
     value <= most
+}
+
+pub fn in_range(kind: u64, position: u64, value: u64) -> bool
+    ensures { λ r. ⌜ r ≡ inRange kind position value ⌝ }
+{
+    let row = rule_row(kind);
+    row_range(row, position, value)
 }
 
 // The span of the record at a place is not 0 and does not pass the end.
@@ -277,62 +318,121 @@ pub fn this_after(kind: u64, value: u64, this: u64) -> u64
     if kind == THIS_PARAMETER { value } else { this }
 }
 
-// Row 3 at a record: its kind at its place, its span, position and value, the number of 41, and that no child is lacking.
-fn sound(tree: &[u64], slot: usize, this: u64, at: usize, end: usize) -> bool
-    ensures { λ r. ⌜ r ≡ soundAt (now (tree .entry)) slot this at end ⌝ }
+// Row 3 at a record by itself, whatever its children are, from the rows of its slot and of its kind and its four words.
+fn stands(
+    row: u64,
+    rule: u64,
+    kind: u64,
+    span: usize,
+    position: u64,
+    value: u64,
+    this: u64,
+    at: usize,
+    end: usize,
+) -> bool
+    ensures { λ r. ⌜ r ≡ (holdsIn row kind && (withinOf at span end && (rangeIn rule position value && sameThis kind value this))) ⌝ }
 {
-    let kind = field(tree, at, 0);
-    if !may_stand(slot, kind) {
+    if !row_holds(row, kind) {
         return false;
     }
-    let span = field(tree, at, 1) as usize;
     if !within(at, span, end) {
         return false;
     }
-    let position = field(tree, at, 2);
-    let value = field(tree, at, 3);
-    if !in_range(kind, position, value) {
+    if !row_range(rule, position, value) {
         return false;
     }
-    if !same_this(kind, value, this) {
-        return false;
-    }
-    let first = first_slot(kind);
-    !lacks(tree, first, at + 1, at + span)
+    same_this(kind, value, this)
 }
 
-// The records from a place to the end, which are children of one record from a slot on.
-fn walk(tree: &[u64], slot: usize, level: usize, this: u64, at: usize, end: usize) -> Outcome
-    ensures { λ r. ⌜ r ≡ walkOf (now (tree .entry)) slot level this at end ⌝ }
+// A fault found at a child, or row 3 at its parent where a child is lacking: the parent comes first.
+fn blame(
+    tree: &[u64],
+    slot: usize,
+    parent: usize,
+    at: usize,
+    end: usize,
+    row: u64,
+    place: usize,
+) -> Outcome
+    ensures { λ r. ⌜ r ≡ blamed (now (tree .entry)) slot parent at end (Fault row place) ⌝ }
+{
+    if lacks(tree, slot, at, end) {
+        Outcome::Fault(3, parent)
+    } else {
+        Outcome::Fault(row, place)
+    }
+}
+
+// After the last child: row 3 at the parent where another is due, else the number of 41.
+fn settle(slot: usize, this: u64, parent: usize) -> Outcome
+    ensures { λ r. ⌜ r ≡ settled slot this parent ⌝ }
+{
+    if is_due(slot) {
+        Outcome::Fault(3, parent)
+    } else {
+        Outcome::Went(this)
+    }
+}
+
+// The record at a place, which stands, by its children: whether one is lacking, then its level, then each of them.
+fn inside(tree: &[u64], slot: usize, level: usize, this: u64, at: usize, end: usize) -> Outcome
+    requires { ⌜ at < end ⌝ }
+    requires { ⌜ end * 4 ≤ length (now tree) ⌝ }
+    ensures { λ r. ⌜ r ≡ blamed (now (tree .entry)) slot at (at + 1) end
+        (cond (leb level mostLevels) (walkOf (now (tree .entry)) slot (level + 1) this (at + 1) end) (Fault 4 at)) ⌝ }
+{
+    let from = at + 1;
+    if level > MOST_LEVELS {
+        return blame(tree, slot, at, from, end, 4, at);
+    }
+    if from == end {
+        return settle(slot, this, at);
+    }
+    walk(tree, slot, level + 1, this, at, from, end)
+}
+
+// The records from a place to the end, which are children of one record, the parent, from a slot on. That none is lacking is known after the last.
+fn walk(
+    tree: &[u64],
+    slot: usize,
+    level: usize,
+    this: u64,
+    parent: usize,
+    at: usize,
+    end: usize,
+) -> Outcome
+    requires { ⌜ end * 4 ≤ length (now tree) ⌝ }
+    ensures { λ r. ⌜ r ≡ blamed (now (tree .entry)) slot parent at end (walkOf (now (tree .entry)) slot level this at end) ⌝ }
 {
     let mut s = slot;
     let mut t = this;
     let mut i = at;
     while i < end {
-        if !sound(tree, s, t, i, end) {
-            return Outcome::Fault(3, i);
+        let word = i * RECORD_WORDS;
+        let kind = tree[word];
+        let span = tree[word + SPAN] as usize;
+        let position = tree[word + POSITION];
+        let value = tree[word + VALUE];
+        let row = slot_row(s);
+        let rule = rule_row(kind);
+        if !stands(row, rule, kind, span, position, value, t, i, end) {
+            return blame(tree, s, parent, i, end, 3, i);
         }
-        if level > MOST_LEVELS {
-            return Outcome::Fault(4, i);
-        }
-        let kind = field(tree, i, 0);
-        let span = field(tree, i, 1) as usize;
-        let value = field(tree, i, 3);
         let met = this_after(kind, value, t);
-        let first = first_slot(kind);
-        let inner = walk(tree, first, level + 1, met, i + 1, i + span);
+        let first = row_first(rule);
+        let inner = inside(tree, first, level, met, i, i + span);
         match inner {
             Outcome::Went(u) => {
                 t = u;
             }
-            Outcome::Fault(row, place) => {
-                return Outcome::Fault(row, place);
+            Outcome::Fault(number, place) => {
+                return blame(tree, s, parent, i, end, number, place);
             }
         }
-        s = slot_after(s, kind);
+        s = row_after(s, row, kind);
         i += span;
     }
-    Outcome::Went(t)
+    settle(s, t, parent)
 }
 
 // Rows 2 to 4 on any words: the first refusal and its place, or that there is none.
@@ -350,7 +450,7 @@ pub fn check(tree: &[u64]) -> Shape
     if records == 0 {
         return Shape::Refused(3, 0);
     }
-    let went = walk(tree, 1, 1, 0, 0, records);
+    let went = walk(tree, 1, 1, 0, 0, 0, records);
     match went {
         Outcome::Went(_) => Shape::Fine,
         Outcome::Fault(row, place) => Shape::Refused(row, place),

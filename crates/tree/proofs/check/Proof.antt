@@ -1,7 +1,8 @@
--- `check` meets its contract: rows 2 and 3 by their tests, then what the walk over the documents gives. Assumes nothing.
+-- `check` meets its contract: rows 2 and 3 by their tests, then what the walk over the documents gives, of which none can be lacking. Assumes nothing.
 -- Made from Proof.answers by `answers make`: edit that file, and not this one.
 use mathlib.Core.Path.{sym, ap, _∙_}
-use Rattle.tree.specs.Check.{shapeBy}
+use Rattle.tree.specs.Check.{shapeBy, recordsOf}
+use Rattle.tree.proofs.Lacking.{blame-documents}
 use Rattle.tree.proofs.Ways.{shape-length, shape-long, shape-none, shape-walked}
 use Rattle.tree.proofs.check.Statement.{statement}
 use Rattle.tree.proofs.check.Tie as tie
@@ -21,7 +22,8 @@ returns-4 c =
     let c5 = c .before .before .before .before .before in
     let c7 = c5 .before .before in
     ap shapeBy (sym (c .enum-told .given .1)) ∙ shape-walked (c7 .args .tree .now) (c5 .if1 .left) (c .before .before .before .before .if2 .left)
-    (c .before .before .before .if3 .left) (c .before .before .walk .ensures)
+    (c .before .before .before .if3 .left)
+    (c .before .before .walk .ensures ∙ blame-documents (c7 .args .tree .now) 0 0 (recordsOf (c7 .args .tree .now)) _)
 
 returns-5 : tie.Need-returns-5
 returns-5 c =
@@ -29,7 +31,8 @@ returns-5 c =
     let c6 = c5 .before in
     let c8 = c6 .before .before in
     ap shapeBy (sym (c .before .went .given .1)) ∙ shape-walked (c8 .args .tree .now) (c6 .if1 .left) (c5 .if2 .left)
-    (c .before .before .before .before .if3 .left) (c .before .before .before .walk .ensures)
+    (c .before .before .before .before .if3 .left)
+    (c .before .before .before .walk .ensures ∙ blame-documents (c8 .args .tree .now) 0 0 (recordsOf (c8 .args .tree .now)) _)
 
 pub check-spec : {M : Type 1} → statement M
 check-spec =
