@@ -1,4 +1,4 @@
-// The compile call: `backend/compiler.rs` and `backend/dependency_solver.rs` over lent areas.
+// The compile call: `backend/dependency_solver.rs` and the rows of 01 over lent areas.
 ghost use Rattle.books.specs.Promise.{areas, Compiles};
 
 pub mod driver;

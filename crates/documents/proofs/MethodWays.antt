@@ -27,7 +27,8 @@ use Rattle.documents.specs.Modelling.{InsertsMethod, noMethod}
 use Rattle.documents.proofs.Counts.{withMethodCount}
 use Rattle.documents.proofs.ModelCalm.{calm-methods}
 use Rattle.documents.proofs.Shelving.{full-deeds}
-use Rattle.documents.proofs.Pairs.{found-at, found-none, insertBy, Inserting, there, new, inserting, patch-there, rows-count, rows-more, row-word, row-set}
+use Rattle.documents.proofs.Pairs.{found-at, found-none, insertBy, Inserting, there, new, inserting}
+use Rattle.documents.proofs.Pairs.{patch-there, rows-count, rows-more, row-word, row-set}
 use Rattle.documents.proofs.Stocking.{keeping-fits, keeping-grown, stock-methods, fitted-methods}
 
 abbrev pub methodWords : Method → List ℕ

@@ -1,4 +1,5 @@
-// `backend/compiler.rs`: definitions and documents over lent areas. Private: their promise is relational.
+// `backend/compiler.rs`: the book under compilation, its errors, constants and context locals, local and include definitions over lent areas.
+// Private: their promise is relational.
 ghost use mathlib.Core.Path.{_≡_};
 ghost use Rattle.words.specs.Record.{tokenAt};
 ghost use Rattle.words.specs.Object.{constantOf};

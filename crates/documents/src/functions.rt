@@ -1,4 +1,4 @@
-// `backend/compiler.rs`: a function's parameters and its base over lent areas. Private: their promise is relational.
+// `backend/compiler.rs`: functions, their parameters and base, and implement definitions over lent areas. Private: their promise is relational.
 ghost use mathlib.Core.Path.{_≡_};
 ghost use Rattle.tree.specs.At.{isParameter};
 ghost use Rattle.building.specs.Held.{machine};

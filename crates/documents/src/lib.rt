@@ -1,4 +1,4 @@
-// `backend/compiler.rs`: definitions and documents over lent areas. `document` is `compile_document`.
+// `backend/compiler.rs`: definitions and documents over lent areas. `document` is `compile_document`; its promise is relational.
 ghost use Rattle.documents.specs.Documents.{MeetsDefinition, MeetsDefinitions, MeetsDocument};
 ghost use Rattle.documents.specs.Shelf.{shelf};
 

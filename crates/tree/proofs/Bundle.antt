@@ -1,5 +1,5 @@
 -- The law `fine-spells`: where `shapeOf` is fine, the documents that `documentsOf` reads stand in the words and fill them, no level is past the last,
--- positions and values are in range, and 41 has one number. The documents are a run of `Items` at slot 1. Assumes nothing.
+-- positions and values are in range, and 41 has one number. The documents are children from slot 1 on. Assumes nothing.
 use mathlib.Core.Path.{_≡_, refl, sym, subst, _∙_}
 use mathlib.Core.Bool.{Bool, true, false}
 use mathlib.Core.List.{List}

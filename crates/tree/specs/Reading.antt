@@ -10,8 +10,7 @@ use Rattle.words.specs.Ast.{Token, Expression, Expressions, Variables, Statemen
 use Rattle.words.specs.Ast.{Array, Prefix, Infix, If, IfElse, Call, InstanceGet, IndexGet, ∅ₑ, _∷ₑ_, ∅ᵥ, Bare, Valued, Local, Return, For, Break}
 use Rattle.words.specs.Ast.{Rescue, Expr, ∅ₛ, _∷ₛ_, Binding, Alias, FunctionDefinition, Definition, LocalDefinition, IncludeDefinition}
 use Rattle.words.specs.Ast.{ModelDefinition, PublicModelDefinition, PlainFunction, PublicFunction, ImplementDefinition, ApplyDefinition, Document}
-use mathlib.Core.Path.{_≡_, refl}
-use Rattle.words.specs.Record.{fieldOf, kindAt, spanAt, valueAt, tokenAt}
+use Rattle.words.specs.Record.{kindAt, spanAt, valueAt, tokenAt}
 use Rattle.tree.specs.Check.{recordsOf, onlyIf}
 
 -- the record after the subtree at a place, by its span
