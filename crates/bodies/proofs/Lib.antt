@@ -1,3 +1,4 @@
+pub mod StateWords
 pub mod Balanced
 pub mod Steps
 pub mod Leaves

@@ -24,11 +24,11 @@ use Rattle.bodies.proofs.Steps.{inside-after}
 use Rattle.bodies.proofs.Tokens.{skip-law}
 use Rattle.bodies.proofs.Loops.{steady-start, steady-head, steady-name, balanced-head, balanced-name}
 
-module _ {tree : List ℕ} {at end start count : ℕ} {locals : List ℕ} {body : ℕ} {s s₁ s₂ s₃ s₅ s₆ : FunctionState} {r : LoopEntry}
+module _ {tree : List ℕ} {at end start count : ℕ} {locals : List ℕ} {body : ℕ} {s s₁ s₂ s₃ s₄ s₅ s₆ : FunctionState} {r : LoopEntry}
     {c k n b e c₂ k₂ n₂ b₂ e₂ c₃ k₃ c₄ n₄ c₅ k₅ n₅ b₅ e₅ c₆ n₆ b₆ : List ℕ} (skipped : body ≡ skipC tree (at + 2) end) (begun : LoopStart s s₁)
     (M : MeetsE tree (at + 2) body start count locals (machine s₁ c k n b e) (machine s₂ c₂ k₂ n₂ b₂ e₂))
-    (head : LoopHead (s .«local_count») (positionAt tree at) s₂ c₂ k₂ s₃ c₃ k₃) (named : LoopName tree at (at + 1) (s .«local_count») s₃ c₃ n₂ r c₄ n₄)
-    (N : MeetsSs tree body end start count locals (machine (r .state) c₄ k₃ n₄ b₂ e₂) (machine s₅ c₅ k₅ n₅ b₅ e₅))
+    (head : LoopHead (s .«local_count») (positionAt tree at) s₂ c₂ k₂ s₃ c₃ k₃) (named : LoopName tree at (at + 1) (s .«local_count») s₃ c₃ n₂ r s₄ c₄ n₄)
+    (N : MeetsSs tree body end start count locals (machine s₄ c₄ k₃ n₄ b₂ e₂) (machine s₅ c₅ k₅ n₅ b₅ e₅))
     (ended : LoopEnd s (r .first) (r .exit) s₅ c₅ n₅ b₅ s₆ c₆ n₆ b₆) where
   -- with the tokens of the two records
   at-tokens : (x : Expression) (ss : Statements) → ExpressionAt x tree (at + 2) → at + 2 + sizeE x ≡ body → StatementsAt ss tree body

@@ -141,7 +141,7 @@ pub name-names : {tree : List ℕ} {at name local : ℕ} {s s₂ s₃ s₄ s₅ 
     → first ≡ nextC (d .state) → v ≡ word (toInstruction ForNext local) → coded s₂ c₂ ≡ emitC v position (coded (d .state) c) → exit ≡ nextC s₂
     → coded s₃ c₃ ≡ emitLastC (word (toInstruction JumpIf 0)) (coded s₂ c₂) → v′ ≡ word (toInstruction LocalSet index)
     → coded s₄ c₄ ≡ emitC v′ q (coded s₃ c₃) → coded s₅ c₅ ≡ emitLastC (word (toInstruction Pop 0)) (coded s₄ c₄)
-    → LoopName tree at name local s c n (record { first = first; exit = exit; state = s₅ }) c₅ n′
+    → LoopName tree at name local s c n (record { first = first; exit = exit }) s₅ c₅ n′
 name-names {tree} {at} {name} {s = s} {n = n} {n′ = n′} {d = d} {index = index}
     position-is text-is q-is D index-is first-is as-word d₂ exit-is d₃ as-word′ d₄ d₅ = record {
       names = λ x agree k b e κ E w op H.

@@ -1,3 +1,4 @@
+pub mod Cells
 pub mod Meets
 pub mod Members
 pub mod Looping

@@ -58,17 +58,18 @@ abbrev pub foundOrZero : Found → ℕ
 foundOrZero (At i) = i
 foundOrZero Nothing = 0
 
--- what `loop_name` does to one work: its state, and the two places that it remembers
-pub record LoopNamed (x : ℕ) (t m : Token) (κ : Limits) (E : Entries) (r : LoopEntry) (c k n b e : List ℕ) (w : Work) : Type 0 where
-  pub held : Held κ E (machine (r .state) c k n b e) (loopName x t m w)
-  pub first : r .state .full ≡ 0 → r .first ≡ next (loopDefined m w)
-  pub exit : r .state .full ≡ 0 → r .exit ≡ next (loopNext x t m w)
+-- what `loop_name` does to one work, s′ its state after, and the two places that it remembers
+pub record LoopNamed (x : ℕ) (t m : Token) (κ : Limits) (E : Entries) (r : LoopEntry) (s′ : FunctionState) (c k n b e : List ℕ) (w : Work) : Type 0 where
+  pub held : Held κ E (machine s′ c k n b e) (loopName x t m w)
+  pub first : s′ .full ≡ 0 → r .first ≡ next (loopDefined m w)
+  pub exit : s′ .full ≡ 0 → r .exit ≡ next (loopNext x t m w)
 
 -- `loop_name`: the for's record is at `at`, the name's at `name`
-pub record LoopName (tree : List ℕ) (at name local : ℕ) (s : FunctionState) (c n : List ℕ) (r : LoopEntry) (c′ n′ : List ℕ) : Type 0 where
+pub record LoopName (tree : List ℕ) (at name local : ℕ) (s : FunctionState) (c n : List ℕ) (r : LoopEntry) (s′ : FunctionState) (c′ n′ : List ℕ)
+    : Type 0 where
   pub names : (x : ℕ) → (s .full ≡ 0 → local ≡ x % 2 ^ 64) → (k b e : List ℕ) (κ : Limits) (E : Entries) (w : Work)
       → isOpen (w .function .scopes) ≡ true → Held κ E (machine s c k n b e) w
-      → LoopNamed x (tokenAt tree at) (tokenAt tree name) κ E r c′ k n′ b e w
+      → LoopNamed x (tokenAt tree at) (tokenAt tree name) κ E r s′ c′ k n′ b e w
 
 -- the next element, back to the first instruction, out of the loop
 abbrev pub loopEnd : ℕ → ℕ → ℕ → Step

@@ -11,14 +11,16 @@ ghost use Rattle.definition.specs.Compiler.{skip};
 ghost use Rattle.bodies.specs.Meets.{OnFaults, OnPool, OnNames, Leafs, standingOf, skipC};
 ghost use Rattle.bodies.specs.Meets.{Counted, operationOf, Operates};
 ghost use Rattle.bodies.specs.Looping.{LoopStart, LoopHead, LoopName, LoopEnd, foundOrZero};
+ghost use Rattle.bodies.specs.Cells.{stateOf};
 ghost use Rattle.building.specs.Held.{machine};
 ghost use Rattle.bodies.specs.Members.{MeetsE, MeetsTwo, MeetsEs, MeetsKind, MeetsTarget, MeetsFalse};
 ghost use Rattle.bodies.specs.Members.{MeetsBlock, MeetsSs, MeetsS, MeetsInner, MeetsVariables, MeetsVariable, MeetsFor};
+
+mod cells;
+
 use building::context;
-use building::function_state;
 use building::function_state::FunctionState;
 use building::pool;
-use building::scopes;
 use building::scopes::Found;
 use words::opcode::OpCode;
 use words::record;
@@ -49,48 +51,54 @@ pub fn fault(
     pool::push_error(errors, state, number, position, kind, value)
 }
 
+// The same, with the state in cells.
+fn fault_in(tree: &[u64], at: usize, errors: &mut [u64], cells: &mut [u64; 15], number: u64)
+    ensures { λ _. ⌜ erring (stateOf (now (cells .exit))) (now (errors .exit)) ≡ pushErrorC number (positionAt (now (tree .entry)) at)
+        (kindAt (now (tree .entry)) at) (valueAt (now (tree .entry)) at) (stateOf (now (cells .entry))) (now (errors .entry)) ⌝ }
+{
+    let s = cells::load(cells);
+    let t = fault(tree, at, errors, s, number);
+    cells::store(cells, t);
+}
+
 // An instruction over a new or an old constant.
 fn constant(
     code: &mut [u64],
     constants: &mut [u64],
-    state: FunctionState,
+    cells: &mut [u64; 15],
     kind: u64,
     value: u64,
     position: u64,
-) -> FunctionState
-    ensures { λ r. ⌜ OnPool state (now (code .entry)) (now (constants .entry)) r (now (code .exit)) (now (constants .exit))
+)
+    ensures { λ _. ⌜ OnPool (stateOf (now (cells .entry))) (now (code .entry)) (now (constants .entry)) (stateOf (now (cells .exit))) (now (code .exit)) (now (constants .exit))
         (emitConstant PushConstant (constantOf kind value) position) ⌝ }
 {
-    let a = pool::add_constant(constants, state, kind, value);
-    let index = a.index;
-    let s1 = a.state;
+    let index = cells::add_constant(constants, cells, kind, value);
     let instruction = OpCode::PushConstant.to_instruction(index);
-    function_state::emit(code, s1, instruction, position)
+    cells::emit(code, cells, instruction, position);
 }
 
 // A global's name is a text constant with a mark.
 fn global(
     code: &mut [u64],
     constants: &mut [u64],
-    state: FunctionState,
+    cells: &mut [u64; 15],
     opcode: OpCode,
     name: u64,
     position: u64,
-) -> FunctionState
-    ensures { λ r. ⌜ OnPool state (now (code .entry)) (now (constants .entry)) r (now (code .exit)) (now (constants .exit))
+)
+    ensures { λ _. ⌜ OnPool (stateOf (now (cells .entry))) (now (code .entry)) (now (constants .entry)) (stateOf (now (cells .exit))) (now (code .exit)) (now (constants .exit))
         (emitGlobal (numberOf opcode) name position) ⌝ }
 {
-    let a = pool::add_constant(constants, state, TEXT_KIND, name);
-    let index = a.index;
-    let s1 = a.state;
-    pool::mark_global(constants, s1, index);
+    let index = cells::add_constant(constants, cells, TEXT_KIND, name);
+    cells::mark_global(constants, cells, index);
     let instruction = opcode.to_instruction(index);
-    function_state::emit(code, s1, instruction, position)
+    cells::emit(code, cells, instruction, position);
 }
 
 // A name, read or set: by the opcode for a local, a context local or a global.
 fn name(
-    state: FunctionState,
+    cells: &mut [u64; 15],
     start: usize,
     count: usize,
     locals: &[u64],
@@ -102,24 +110,27 @@ fn name(
     other: OpCode,
     text: u64,
     position: u64,
-) -> FunctionState
-    ensures { λ r. ⌜ OnNames start count (now (locals .entry)) state (now (code .entry)) (now (constants .entry)) (now (names .entry)) r (now (code .exit))
+)
+    ensures { λ _. ⌜ OnNames start count (now (locals .entry)) (stateOf (now (cells .entry))) (now (code .entry)) (now (constants .entry)) (now (names .entry)) (stateOf (now (cells .exit))) (now (code .exit))
         (now (constants .exit)) (emitName (numberOf local) (numberOf outer) (numberOf other) text position) ⌝ }
 {
-    if state.full != 0 {
-        return state;
+    let full = cells::full(cells);
+    if full != 0 {
+        return;
     }
-    let found = scopes::find_local(names, state, text);
+    let found = cells::find_local(names, cells, text);
     if let Found::At(i) = found {
         let instruction = local.to_instruction(i);
-        return function_state::emit(code, state, instruction, position);
+        cells::emit(code, cells, instruction, position);
+        return;
     }
     let there = context::find_context_local(locals, start, count, text);
     if let Found::At(i) = there {
         let instruction = outer.to_instruction(i);
-        return function_state::emit(code, state, instruction, position);
+        cells::emit(code, cells, instruction, position);
+        return;
     }
-    global(code, constants, state, other, text, position)
+    global(code, constants, cells, other, text, position);
 }
 
 // The name of a target, set by the assignment whose record is `token`.
@@ -127,21 +138,21 @@ fn set_name(
     tree: &[u64],
     at: usize,
     token: usize,
-    state: FunctionState,
+    cells: &mut [u64; 15],
     start: usize,
     count: usize,
     locals: &[u64],
     code: &mut [u64],
     constants: &mut [u64],
     names: &[u64],
-) -> FunctionState
-    ensures { λ r. ⌜ OnNames start count (now (locals .entry)) state (now (code .entry)) (now (constants .entry)) (now (names .entry)) r (now (code .exit))
+)
+    ensures { λ _. ⌜ OnNames start count (now (locals .entry)) (stateOf (now (cells .entry))) (now (code .entry)) (now (constants .entry)) (now (names .entry)) (stateOf (now (cells .exit))) (now (code .exit))
         (now (constants .exit)) (compileAssignName (tokenAt (now (tree .entry)) at) (tokenAt (now (tree .entry)) token)) ⌝ }
 {
     let text = field(tree, at, record::VALUE);
     let position = field(tree, token, record::POSITION);
     name(
-        state,
+        cells,
         start,
         count,
         locals,
@@ -153,7 +164,7 @@ fn set_name(
         OpCode::GlobalSet,
         text,
         position,
-    )
+    );
 }
 
 // The constant that null and the booleans are.
@@ -173,23 +184,23 @@ pub fn standing(kind: u64, value: u64) -> u64
 fn leaf(
     tree: &[u64],
     at: usize,
-    state: FunctionState,
+    cells: &mut [u64; 15],
     start: usize,
     count: usize,
     locals: &[u64],
     code: &mut [u64],
     constants: &mut [u64],
     names: &[u64],
-) -> FunctionState
-    ensures { λ r. ⌜ Leafs (now (tree .entry)) at start count (now (locals .entry)) state (now (code .entry)) (now (constants .entry))
-        (now (names .entry)) r (now (code .exit)) (now (constants .exit)) ⌝ }
+)
+    ensures { λ _. ⌜ Leafs (now (tree .entry)) at start count (now (locals .entry)) (stateOf (now (cells .entry))) (now (code .entry)) (now (constants .entry))
+        (now (names .entry)) (stateOf (now (cells .exit))) (now (code .exit)) (now (constants .exit)) ⌝ }
 {
     let kind = field(tree, at, record::KIND);
     let position = field(tree, at, record::POSITION);
     let value = field(tree, at, record::VALUE);
     if kind == record::IDENTIFIER {
-        return name(
-            state,
+        name(
+            cells,
             start,
             count,
             locals,
@@ -202,67 +213,65 @@ fn leaf(
             value,
             position,
         );
+        return;
     }
     if kind == record::THIS {
         let read = OpCode::LocalGet.to_instruction(0);
-        return function_state::emit(code, state, read, position);
+        cells::emit(code, cells, read, position);
+        return;
     }
     if kind == record::INTEGER {
-        return constant(code, constants, state, INTEGER_KIND, value, position);
+        constant(code, constants, cells, INTEGER_KIND, value, position);
+        return;
     }
     if kind == record::FLOAT {
-        return constant(code, constants, state, FLOAT_KIND, value, position);
+        constant(code, constants, cells, FLOAT_KIND, value, position);
+        return;
     }
     if kind == record::STRING {
-        return constant(code, constants, state, TEXT_KIND, value, position);
+        constant(code, constants, cells, TEXT_KIND, value, position);
+        return;
     }
     let index = standing(kind, value);
     let instruction = OpCode::PushConstant.to_instruction(index);
-    function_state::emit(code, state, instruction, position)
+    cells::emit(code, cells, instruction, position);
 }
 
 // What a prefix does when its expression is there.
-fn prefix(
-    tree: &[u64],
-    at: usize,
-    code: &mut [u64],
-    errors: &mut [u64],
-    state: FunctionState,
-) -> FunctionState
-    ensures { λ r. ⌜ OnFaults state (now (code .entry)) (now (errors .entry)) r (now (code .exit)) (now (errors .exit))
+fn prefix(tree: &[u64], at: usize, code: &mut [u64], errors: &mut [u64], cells: &mut [u64; 15])
+    ensures { λ _. ⌜ OnFaults (stateOf (now (cells .entry))) (now (code .entry)) (now (errors .entry)) (stateOf (now (cells .exit))) (now (code .exit)) (now (errors .exit))
         (compilePrefixExpression (tokenAt (now (tree .entry)) at) skip) ⌝ }
 {
     let value = field(tree, at, record::VALUE);
     let position = field(tree, at, record::POSITION);
     if value == record::PREFIX_MINUS {
-        return function_state::emit_opcode(code, state, OpCode::Negative, position);
+        cells::emit_opcode(code, cells, OpCode::Negative, position);
+        return;
     }
     if value == record::PREFIX_NOT {
-        return function_state::emit_opcode(code, state, OpCode::Not, position);
+        cells::emit_opcode(code, cells, OpCode::Not, position);
+        return;
     }
-    fault(tree, at, errors, state, reply::ERROR_UNKNOWN_OPERATION)
+    fault_in(tree, at, errors, cells, reply::ERROR_UNKNOWN_OPERATION);
 }
 
 // A rescue part: only where a statement is not inside another.
-fn rescue(
-    tree: &[u64],
-    at: usize,
-    code: &mut [u64],
-    errors: &mut [u64],
-    state: FunctionState,
-) -> FunctionState
-    ensures { λ r. ⌜ OnFaults state (now (code .entry)) (now (errors .entry)) r (now (code .exit)) (now (errors .exit))
+fn rescue(tree: &[u64], at: usize, code: &mut [u64], errors: &mut [u64], cells: &mut [u64; 15])
+    ensures { λ _. ⌜ OnFaults (stateOf (now (cells .entry))) (now (code .entry)) (now (errors .entry)) (stateOf (now (cells .exit))) (now (code .exit)) (now (errors .exit))
         (compileRescue (tokenAt (now (tree .entry)) at)) ⌝ }
 {
-    if state.full != 0 {
-        return state;
+    let full = cells::full(cells);
+    if full != 0 {
+        return;
     }
-    if 1 < state.depth {
-        return fault(tree, at, errors, state, reply::ERROR_RESCUE_IN_LAYER);
+    let depth = cells::depth(cells);
+    if 1 < depth {
+        fault_in(tree, at, errors, cells, reply::ERROR_RESCUE_IN_LAYER);
+        return;
     }
     let position = field(tree, at, record::POSITION);
-    let s1 = function_state::emit_return(code, state, position);
-    function_state::set_rescue(s1)
+    cells::emit_return(code, cells, position);
+    cells::set_rescue(cells);
 }
 
 // The end of the subtree at a place, held to the end.
@@ -321,33 +330,32 @@ fn operation_of(value: u64) -> u64
 }
 
 // What an infix does when both sides are there.
-fn operation(code: &mut [u64], state: FunctionState, value: u64, position: u64) -> FunctionState
-    ensures { λ r. ⌜ Operates value position state (now (code .entry)) r (now (code .exit)) ⌝ }
+fn operation(code: &mut [u64], cells: &mut [u64; 15], value: u64, position: u64)
+    ensures { λ _. ⌜ Operates value position (stateOf (now (cells .entry))) (now (code .entry)) (stateOf (now (cells .exit))) (now (code .exit)) ⌝ }
 {
     let number = operation_of(value);
     let instruction = OpCode::Operation.to_instruction(number);
-    let s1 = function_state::emit(code, state, instruction, position);
+    cells::emit(code, cells, instruction, position);
     if value == record::INFIX_NOT_EQUAL {
-        return function_state::emit_opcode(code, s1, OpCode::Not, position);
+        cells::emit_opcode(code, cells, OpCode::Not, position);
+        return;
     }
-    s1
 }
 
-// Where a loop starts, where the jump out of it stands, and the state.
+// Where a loop starts, and where the jump out of it stands.
 struct LoopEntry {
     first: usize,
     exit: usize,
-    state: FunctionState,
 }
 
 // The locals of a loop's enumerable and iterator, its scope and its breaks.
-fn loop_start(state: FunctionState) -> FunctionState
-    ensures { λ r. ⌜ LoopStart state r ⌝ }
+fn loop_start(cells: &mut [u64; 15])
+    ensures { λ _. ⌜ LoopStart (stateOf (now (cells .entry))) (stateOf (now (cells .exit))) ⌝ }
 {
-    let s1 = scopes::define_anonymous_local(state);
-    let s2 = scopes::define_anonymous_local(s1);
-    let s3 = scopes::enter_scope(s2);
-    function_state::enter_break_scope(s3)
+    cells::define_anonymous_local(cells);
+    cells::define_anonymous_local(cells);
+    cells::enter_scope(cells);
+    cells::enter_break_scope(cells);
 }
 
 // The enumerable and the iterator into their locals.
@@ -356,21 +364,21 @@ fn loop_head(
     at: usize,
     code: &mut [u64],
     constants: &mut [u64],
-    state: FunctionState,
+    cells: &mut [u64; 15],
     enumerable: u64,
-) -> FunctionState
-    ensures { λ r. ⌜ LoopHead enumerable (positionAt (now (tree .entry)) at) state (now (code .entry)) (now (constants .entry)) r (now (code .exit))
-        (now (constants .exit)) ⌝ }
+)
+    ensures { λ _. ⌜ LoopHead enumerable (positionAt (now (tree .entry)) at) (stateOf (now (cells .entry))) (now (code .entry)) (now (constants .entry))
+        (stateOf (now (cells .exit))) (now (code .exit)) (now (constants .exit)) ⌝ }
 {
     let position = field(tree, at, record::POSITION);
     let set = OpCode::LocalSet.to_instruction(enumerable);
-    let s1 = function_state::emit(code, state, set, position);
-    let s2 = function_state::emit_opcode_without_position(code, s1, OpCode::Pop);
-    let s3 = constant(code, constants, s2, INTEGER_KIND, 0, position);
+    cells::emit(code, cells, set, position);
+    cells::emit_opcode_without_position(code, cells, OpCode::Pop);
+    constant(code, constants, cells, INTEGER_KIND, 0, position);
     let iterator = std::num::wrapping_add_u64(enumerable, 1);
     let start = OpCode::LocalSet.to_instruction(iterator);
-    let s4 = function_state::emit(code, s3, start, position);
-    function_state::emit_opcode_without_position(code, s4, OpCode::Pop)
+    cells::emit(code, cells, start, position);
+    cells::emit_opcode_without_position(code, cells, OpCode::Pop);
 }
 
 // A local's number. The Rust unwraps: a loop's name is in a scope just entered, so it is found.
@@ -390,32 +398,26 @@ fn loop_name(
     name: usize,
     code: &mut [u64],
     names: &mut [u64],
-    state: FunctionState,
+    cells: &mut [u64; 15],
     enumerable: u64,
 ) -> LoopEntry
-    ensures { λ r. ⌜ LoopName (now (tree .entry)) at name enumerable state (now (code .entry)) (now (names .entry)) r (now (code .exit))
-        (now (names .exit)) ⌝ }
+    ensures { λ r. ⌜ LoopName (now (tree .entry)) at name enumerable (stateOf (now (cells .entry))) (now (code .entry)) (now (names .entry)) r
+        (stateOf (now (cells .exit))) (now (code .exit)) (now (names .exit)) ⌝ }
 {
     let position = field(tree, at, record::POSITION);
     let text = field(tree, name, record::VALUE);
     let text_position = field(tree, name, record::POSITION);
-    let d = scopes::define_local(names, state, text);
-    let s1 = d.state;
-    let found = d.found;
+    let found = cells::define_local(names, cells, text);
     let index = found_or_zero(found);
-    let first = function_state::get_next_instruction_index(s1);
+    let first = cells::get_next_instruction_index(cells);
     let next = OpCode::ForNext.to_instruction(enumerable);
-    let s2 = function_state::emit(code, s1, next, position);
-    let exit = function_state::get_next_instruction_index(s2);
-    let s3 = function_state::emit_opcode_without_position(code, s2, OpCode::JumpIf);
+    cells::emit(code, cells, next, position);
+    let exit = cells::get_next_instruction_index(cells);
+    cells::emit_opcode_without_position(code, cells, OpCode::JumpIf);
     let set = OpCode::LocalSet.to_instruction(index);
-    let s4 = function_state::emit(code, s3, set, text_position);
-    let s5 = function_state::emit_opcode_without_position(code, s4, OpCode::Pop);
-    LoopEntry {
-        first,
-        exit,
-        state: s5,
-    }
+    cells::emit(code, cells, set, text_position);
+    cells::emit_opcode_without_position(code, cells, OpCode::Pop);
+    LoopEntry { first, exit }
 }
 
 // A turn's end: the next element, and back. Then out of the loop, to the scope and the breaks around it.
@@ -423,26 +425,26 @@ fn loop_end(
     code: &mut [u64],
     names: &mut [u64],
     breaks: &mut [u64],
-    state: FunctionState,
+    cells: &mut [u64; 15],
     around: FunctionState,
     first: usize,
     exit: usize,
-) -> FunctionState
-    ensures { λ r. ⌜ LoopEnd around first exit state (now (code .entry)) (now (names .entry)) (now (breaks .entry)) r (now (code .exit))
-        (now (names .exit)) (now (breaks .exit)) ⌝ }
+)
+    ensures { λ _. ⌜ LoopEnd around first exit (stateOf (now (cells .entry))) (now (code .entry)) (now (names .entry)) (now (breaks .entry))
+        (stateOf (now (cells .exit))) (now (code .exit)) (now (names .exit)) (now (breaks .exit)) ⌝ }
 {
-    let position = function_state::get_last_position(code, state);
+    let position = cells::get_last_position(code, cells);
     let iterator = std::num::wrapping_add_u64(around.local_count, 1);
     let iterate = OpCode::Iterate.to_instruction(iterator);
-    let s1 = function_state::emit(code, state, iterate, position);
-    let last = function_state::get_last_position(code, s1);
+    cells::emit(code, cells, iterate, position);
+    let last = cells::get_last_position(code, cells);
     let back = OpCode::Jump.to_instruction(first as u64);
-    let s2 = function_state::emit(code, s1, back, last);
-    let next = function_state::get_next_instruction_index(s2);
+    cells::emit(code, cells, back, last);
+    let next = cells::get_next_instruction_index(cells);
     let out = OpCode::JumpIf.to_instruction(next as u64);
-    function_state::replace_instruction(code, s2, exit, out);
-    let s3 = function_state::exit_break_scope(code, breaks, s2, around.break_base, around.in_loop);
-    scopes::exit_scope(names, s3, around.scope_base)
+    cells::replace_instruction(code, cells, exit, out);
+    cells::exit_break_scope(code, breaks, cells, around.break_base, around.in_loop);
+    cells::exit_scope(names, cells, around.scope_base);
 }
 
 // `compile_expression`. Each member of the cycle compiles what stands at `at` and ends exactly at `end`.
@@ -450,7 +452,7 @@ fn expression(
     tree: &[u64],
     at: usize,
     end: usize,
-    state: FunctionState,
+    cells: &mut [u64; 15],
     start: usize,
     count: usize,
     locals: &[u64],
@@ -459,23 +461,24 @@ fn expression(
     names: &mut [u64],
     breaks: &mut [u64],
     errors: &mut [u64],
-) -> FunctionState
-    ensures { λ r. ⌜ MeetsE (now (tree .entry)) at end start count (now (locals .entry))
-        (machine state (now (code .entry)) (now (constants .entry)) (now (names .entry)) (now (breaks .entry)) (now (errors .entry)))
-        (machine r (now (code .exit)) (now (constants .exit)) (now (names .exit)) (now (breaks .exit)) (now (errors .exit))) ⌝ }
+)
+    ensures { λ _. ⌜ MeetsE (now (tree .entry)) at end start count (now (locals .entry))
+        (machine (stateOf (now (cells .entry))) (now (code .entry)) (now (constants .entry)) (now (names .entry)) (now (breaks .entry)) (now (errors .entry)))
+        (machine (stateOf (now (cells .exit))) (now (code .exit)) (now (constants .exit)) (now (names .exit)) (now (breaks .exit)) (now (errors .exit))) ⌝ }
 {
-    if state.full != 0 {
-        return state;
+    let full = cells::full(cells);
+    if full != 0 {
+        return;
     }
     if at < end {
         let kind = field(tree, at, record::KIND);
         let position = field(tree, at, record::POSITION);
         if kind == record::INFIX {
-            return infix_part(
+            infix_part(
                 tree,
                 at,
                 end,
-                state,
+                cells,
                 start,
                 count,
                 locals,
@@ -485,13 +488,14 @@ fn expression(
                 breaks,
                 errors,
             );
+            return;
         }
         if kind == record::IF {
-            return if_part(
+            if_part(
                 tree,
                 at,
                 end,
-                state,
+                cells,
                 start,
                 count,
                 locals,
@@ -501,13 +505,14 @@ fn expression(
                 breaks,
                 errors,
             );
+            return;
         }
         if kind == record::PREFIX {
-            let s1 = expression(
+            expression(
                 tree,
                 at + 1,
                 end,
-                state,
+                cells,
                 start,
                 count,
                 locals,
@@ -517,15 +522,16 @@ fn expression(
                 breaks,
                 errors,
             );
-            return prefix(tree, at, code, errors, s1);
+            prefix(tree, at, code, errors, cells);
+            return;
         }
         if kind == record::ARRAY {
             let n = count_children(tree, at + 1, end);
-            let s1 = expressions(
+            expressions(
                 tree,
                 at + 1,
                 end,
-                state,
+                cells,
                 start,
                 count,
                 locals,
@@ -536,16 +542,17 @@ fn expression(
                 errors,
             );
             let instruction = OpCode::Array.to_instruction(n);
-            return function_state::emit(code, s1, instruction, position);
+            cells::emit(code, cells, instruction, position);
+            return;
         }
         if kind == record::CALL {
             let next = skip(tree, at + 1, end);
             let n = count_children(tree, next, end);
-            let s1 = expression(
+            expression(
                 tree,
                 at + 1,
                 next,
-                state,
+                cells,
                 start,
                 count,
                 locals,
@@ -555,11 +562,11 @@ fn expression(
                 breaks,
                 errors,
             );
-            let s2 = expressions(
+            expressions(
                 tree,
                 next,
                 end,
-                s1,
+                cells,
                 start,
                 count,
                 locals,
@@ -570,14 +577,15 @@ fn expression(
                 errors,
             );
             let instruction = OpCode::Call.to_instruction(n);
-            return function_state::emit(code, s2, instruction, position);
+            cells::emit(code, cells, instruction, position);
+            return;
         }
         if kind == record::INSTANCE_GET {
-            let s1 = two(
+            two(
                 tree,
                 at + 1,
                 end,
-                state,
+                cells,
                 start,
                 count,
                 locals,
@@ -587,14 +595,15 @@ fn expression(
                 breaks,
                 errors,
             );
-            return function_state::emit_opcode(code, s1, OpCode::InstanceGet, position);
+            cells::emit_opcode(code, cells, OpCode::InstanceGet, position);
+            return;
         }
         if kind == record::INDEX_GET {
-            let s1 = two(
+            two(
                 tree,
                 at + 1,
                 end,
-                state,
+                cells,
                 start,
                 count,
                 locals,
@@ -604,12 +613,13 @@ fn expression(
                 breaks,
                 errors,
             );
-            return function_state::emit_opcode(code, s1, OpCode::IndexGet, position);
+            cells::emit_opcode(code, cells, OpCode::IndexGet, position);
+            return;
         }
-        return leaf(
+        leaf(
             tree,
             at,
-            state,
+            cells,
             start,
             count,
             locals,
@@ -617,8 +627,8 @@ fn expression(
             constants,
             names,
         );
+        return;
     }
-    state
 }
 
 // One expression and then another.
@@ -626,7 +636,7 @@ fn two(
     tree: &[u64],
     at: usize,
     end: usize,
-    state: FunctionState,
+    cells: &mut [u64; 15],
     start: usize,
     count: usize,
     locals: &[u64],
@@ -635,17 +645,17 @@ fn two(
     names: &mut [u64],
     breaks: &mut [u64],
     errors: &mut [u64],
-) -> FunctionState
-    ensures { λ r. ⌜ MeetsTwo (now (tree .entry)) at end start count (now (locals .entry))
-        (machine state (now (code .entry)) (now (constants .entry)) (now (names .entry)) (now (breaks .entry)) (now (errors .entry)))
-        (machine r (now (code .exit)) (now (constants .exit)) (now (names .exit)) (now (breaks .exit)) (now (errors .exit))) ⌝ }
+)
+    ensures { λ _. ⌜ MeetsTwo (now (tree .entry)) at end start count (now (locals .entry))
+        (machine (stateOf (now (cells .entry))) (now (code .entry)) (now (constants .entry)) (now (names .entry)) (now (breaks .entry)) (now (errors .entry)))
+        (machine (stateOf (now (cells .exit))) (now (code .exit)) (now (constants .exit)) (now (names .exit)) (now (breaks .exit)) (now (errors .exit))) ⌝ }
 {
     let middle = skip(tree, at, end);
-    let s1 = expression(
+    expression(
         tree,
         at,
         middle,
-        state,
+        cells,
         start,
         count,
         locals,
@@ -659,7 +669,7 @@ fn two(
         tree,
         middle,
         end,
-        s1,
+        cells,
         start,
         count,
         locals,
@@ -668,7 +678,7 @@ fn two(
         names,
         breaks,
         errors,
-    )
+    );
 }
 
 // Expressions one after the other.
@@ -676,7 +686,7 @@ fn expressions(
     tree: &[u64],
     at: usize,
     end: usize,
-    state: FunctionState,
+    cells: &mut [u64; 15],
     start: usize,
     count: usize,
     locals: &[u64],
@@ -685,20 +695,19 @@ fn expressions(
     names: &mut [u64],
     breaks: &mut [u64],
     errors: &mut [u64],
-) -> FunctionState
-    ensures { λ r. ⌜ MeetsEs (now (tree .entry)) at end start count (now (locals .entry))
-        (machine state (now (code .entry)) (now (constants .entry)) (now (names .entry)) (now (breaks .entry)) (now (errors .entry)))
-        (machine r (now (code .exit)) (now (constants .exit)) (now (names .exit)) (now (breaks .exit)) (now (errors .exit))) ⌝ }
+)
+    ensures { λ _. ⌜ MeetsEs (now (tree .entry)) at end start count (now (locals .entry))
+        (machine (stateOf (now (cells .entry))) (now (code .entry)) (now (constants .entry)) (now (names .entry)) (now (breaks .entry)) (now (errors .entry)))
+        (machine (stateOf (now (cells .exit))) (now (code .exit)) (now (constants .exit)) (now (names .exit)) (now (breaks .exit)) (now (errors .exit))) ⌝ }
 {
     let mut i = at;
-    let mut s = state;
     while i < end {
         let next = skip(tree, i, end);
-        s = expression(
+        expression(
             tree,
             i,
             next,
-            s,
+            cells,
             start,
             count,
             locals,
@@ -710,7 +719,6 @@ fn expressions(
         );
         i = next;
     }
-    s
 }
 
 // `compile_infix_expression`.
@@ -718,7 +726,7 @@ fn infix_part(
     tree: &[u64],
     at: usize,
     end: usize,
-    state: FunctionState,
+    cells: &mut [u64; 15],
     start: usize,
     count: usize,
     locals: &[u64],
@@ -727,21 +735,21 @@ fn infix_part(
     names: &mut [u64],
     breaks: &mut [u64],
     errors: &mut [u64],
-) -> FunctionState
-    ensures { λ r. ⌜ MeetsKind 39 (now (tree .entry)) at end start count (now (locals .entry))
-        (machine state (now (code .entry)) (now (constants .entry)) (now (names .entry)) (now (breaks .entry)) (now (errors .entry)))
-        (machine r (now (code .exit)) (now (constants .exit)) (now (names .exit)) (now (breaks .exit)) (now (errors .exit))) ⌝ }
+)
+    ensures { λ _. ⌜ MeetsKind 39 (now (tree .entry)) at end start count (now (locals .entry))
+        (machine (stateOf (now (cells .entry))) (now (code .entry)) (now (constants .entry)) (now (names .entry)) (now (breaks .entry)) (now (errors .entry)))
+        (machine (stateOf (now (cells .exit))) (now (code .exit)) (now (constants .exit)) (now (names .exit)) (now (breaks .exit)) (now (errors .exit))) ⌝ }
 {
     if at < end {
         let value = field(tree, at, record::VALUE);
         let position = field(tree, at, record::POSITION);
         let middle = skip(tree, at + 1, end);
         if value == record::INFIX_ASSIGN {
-            let s1 = expression(
+            expression(
                 tree,
                 middle,
                 end,
-                state,
+                cells,
                 start,
                 count,
                 locals,
@@ -751,12 +759,12 @@ fn infix_part(
                 breaks,
                 errors,
             );
-            return target(
+            target(
                 tree,
                 at + 1,
                 middle,
                 at,
-                s1,
+                cells,
                 start,
                 count,
                 locals,
@@ -766,15 +774,17 @@ fn infix_part(
                 breaks,
                 errors,
             );
+            return;
         }
         if record::INFIX_OR < value {
-            return fault(tree, at, errors, state, reply::ERROR_UNKNOWN_OPERATION);
+            fault_in(tree, at, errors, cells, reply::ERROR_UNKNOWN_OPERATION);
+            return;
         }
-        let s1 = two(
+        two(
             tree,
             at + 1,
             end,
-            state,
+            cells,
             start,
             count,
             locals,
@@ -784,15 +794,15 @@ fn infix_part(
             breaks,
             errors,
         );
-        let s2 = operation(code, s1, value, position);
+        operation(code, cells, value, position);
         if record::INFIX_PERCENT < value {
             if value < record::INFIX_EQUAL {
-                return target(
+                target(
                     tree,
                     at + 1,
                     middle,
                     at,
-                    s2,
+                    cells,
                     start,
                     count,
                     locals,
@@ -802,11 +812,11 @@ fn infix_part(
                     breaks,
                     errors,
                 );
+                return;
             }
         }
-        return s2;
+        return;
     }
-    state
 }
 
 // `compile_assign_expression_left_part`: `token` is the record of the assignment.
@@ -815,7 +825,7 @@ fn target(
     at: usize,
     end: usize,
     token: usize,
-    state: FunctionState,
+    cells: &mut [u64; 15],
     start: usize,
     count: usize,
     locals: &[u64],
@@ -824,23 +834,24 @@ fn target(
     names: &mut [u64],
     breaks: &mut [u64],
     errors: &mut [u64],
-) -> FunctionState
-    ensures { λ r. ⌜ MeetsTarget (now (tree .entry)) at end token start count (now (locals .entry))
-        (machine state (now (code .entry)) (now (constants .entry)) (now (names .entry)) (now (breaks .entry)) (now (errors .entry)))
-        (machine r (now (code .exit)) (now (constants .exit)) (now (names .exit)) (now (breaks .exit)) (now (errors .exit))) ⌝ }
+)
+    ensures { λ _. ⌜ MeetsTarget (now (tree .entry)) at end token start count (now (locals .entry))
+        (machine (stateOf (now (cells .entry))) (now (code .entry)) (now (constants .entry)) (now (names .entry)) (now (breaks .entry)) (now (errors .entry)))
+        (machine (stateOf (now (cells .exit))) (now (code .exit)) (now (constants .exit)) (now (names .exit)) (now (breaks .exit)) (now (errors .exit))) ⌝ }
 {
-    if state.full != 0 {
-        return state;
+    let full = cells::full(cells);
+    if full != 0 {
+        return;
     }
     if at < end {
         let kind = field(tree, at, record::KIND);
         let position = field(tree, at, record::POSITION);
         if kind == record::IDENTIFIER {
-            return set_name(
+            set_name(
                 tree,
                 at,
                 token,
-                state,
+                cells,
                 start,
                 count,
                 locals,
@@ -848,13 +859,14 @@ fn target(
                 constants,
                 names,
             );
+            return;
         }
         if kind == record::INSTANCE_GET {
-            let s1 = two(
+            two(
                 tree,
                 at + 1,
                 end,
-                state,
+                cells,
                 start,
                 count,
                 locals,
@@ -864,14 +876,15 @@ fn target(
                 breaks,
                 errors,
             );
-            return function_state::emit_opcode(code, s1, OpCode::InstanceSet, position);
+            cells::emit_opcode(code, cells, OpCode::InstanceSet, position);
+            return;
         }
         if kind == record::INDEX_GET {
-            let s1 = two(
+            two(
                 tree,
                 at + 1,
                 end,
-                state,
+                cells,
                 start,
                 count,
                 locals,
@@ -881,11 +894,12 @@ fn target(
                 breaks,
                 errors,
             );
-            return function_state::emit_opcode(code, s1, OpCode::IndexSet, position);
+            cells::emit_opcode(code, cells, OpCode::IndexSet, position);
+            return;
         }
-        return fault(tree, token, errors, state, reply::ERROR_CAN_NOT_ASSIGN);
+        fault_in(tree, token, errors, cells, reply::ERROR_CAN_NOT_ASSIGN);
+        return;
     }
-    state
 }
 
 // `compile_if_expression`.
@@ -893,7 +907,7 @@ fn if_part(
     tree: &[u64],
     at: usize,
     end: usize,
-    state: FunctionState,
+    cells: &mut [u64; 15],
     start: usize,
     count: usize,
     locals: &[u64],
@@ -902,19 +916,19 @@ fn if_part(
     names: &mut [u64],
     breaks: &mut [u64],
     errors: &mut [u64],
-) -> FunctionState
-    ensures { λ r. ⌜ MeetsKind 42 (now (tree .entry)) at end start count (now (locals .entry))
-        (machine state (now (code .entry)) (now (constants .entry)) (now (names .entry)) (now (breaks .entry)) (now (errors .entry)))
-        (machine r (now (code .exit)) (now (constants .exit)) (now (names .exit)) (now (breaks .exit)) (now (errors .exit))) ⌝ }
+)
+    ensures { λ _. ⌜ MeetsKind 42 (now (tree .entry)) at end start count (now (locals .entry))
+        (machine (stateOf (now (cells .entry))) (now (code .entry)) (now (constants .entry)) (now (names .entry)) (now (breaks .entry)) (now (errors .entry)))
+        (machine (stateOf (now (cells .exit))) (now (code .exit)) (now (constants .exit)) (now (names .exit)) (now (breaks .exit)) (now (errors .exit))) ⌝ }
 {
     if at < end {
         let yes = skip(tree, at + 1, end);
         let no = skip(tree, yes, end);
-        let s1 = expression(
+        expression(
             tree,
             at + 1,
             yes,
-            state,
+            cells,
             start,
             count,
             locals,
@@ -924,13 +938,13 @@ fn if_part(
             breaks,
             errors,
         );
-        let true_part = function_state::get_next_instruction_index(s1);
-        let s2 = function_state::emit_opcode_without_position(code, s1, OpCode::JumpIf);
-        let s3 = false_part(
+        let true_part = cells::get_next_instruction_index(cells);
+        cells::emit_opcode_without_position(code, cells, OpCode::JumpIf);
+        false_part(
             tree,
             no,
             end,
-            s2,
+            cells,
             start,
             count,
             locals,
@@ -940,16 +954,16 @@ fn if_part(
             breaks,
             errors,
         );
-        let jump_to_end = function_state::get_next_instruction_index(s3);
-        let s4 = function_state::emit_opcode_without_position(code, s3, OpCode::Jump);
-        let next = function_state::get_next_instruction_index(s4);
+        let jump_to_end = cells::get_next_instruction_index(cells);
+        cells::emit_opcode_without_position(code, cells, OpCode::Jump);
+        let next = cells::get_next_instruction_index(cells);
         let taken = OpCode::JumpIf.to_instruction(next as u64);
-        function_state::replace_instruction(code, s4, true_part, taken);
-        let s5 = block(
+        cells::replace_instruction(code, cells, true_part, taken);
+        block(
             tree,
             yes,
             no,
-            s4,
+            cells,
             start,
             count,
             locals,
@@ -959,12 +973,11 @@ fn if_part(
             breaks,
             errors,
         );
-        let last = function_state::get_next_instruction_index(s5);
+        let last = cells::get_next_instruction_index(cells);
         let over = OpCode::Jump.to_instruction(last as u64);
-        function_state::replace_instruction(code, s5, jump_to_end, over);
-        return s5;
+        cells::replace_instruction(code, cells, jump_to_end, over);
+        return;
     }
-    state
 }
 
 // No block, or one.
@@ -972,7 +985,7 @@ fn false_part(
     tree: &[u64],
     at: usize,
     end: usize,
-    state: FunctionState,
+    cells: &mut [u64; 15],
     start: usize,
     count: usize,
     locals: &[u64],
@@ -981,17 +994,17 @@ fn false_part(
     names: &mut [u64],
     breaks: &mut [u64],
     errors: &mut [u64],
-) -> FunctionState
-    ensures { λ r. ⌜ MeetsFalse (now (tree .entry)) at end start count (now (locals .entry))
-        (machine state (now (code .entry)) (now (constants .entry)) (now (names .entry)) (now (breaks .entry)) (now (errors .entry)))
-        (machine r (now (code .exit)) (now (constants .exit)) (now (names .exit)) (now (breaks .exit)) (now (errors .exit))) ⌝ }
+)
+    ensures { λ _. ⌜ MeetsFalse (now (tree .entry)) at end start count (now (locals .entry))
+        (machine (stateOf (now (cells .entry))) (now (code .entry)) (now (constants .entry)) (now (names .entry)) (now (breaks .entry)) (now (errors .entry)))
+        (machine (stateOf (now (cells .exit))) (now (code .exit)) (now (constants .exit)) (now (names .exit)) (now (breaks .exit)) (now (errors .exit))) ⌝ }
 {
     if at < end {
-        return block(
+        block(
             tree,
             at,
             end,
-            state,
+            cells,
             start,
             count,
             locals,
@@ -1001,8 +1014,9 @@ fn false_part(
             breaks,
             errors,
         );
+        return;
     }
-    function_state::emit_null(code, state)
+    cells::emit_null(code, cells);
 }
 
 // A part of an if: its statements in a scope, then their value.
@@ -1010,7 +1024,7 @@ fn block(
     tree: &[u64],
     at: usize,
     end: usize,
-    state: FunctionState,
+    cells: &mut [u64; 15],
     start: usize,
     count: usize,
     locals: &[u64],
@@ -1019,19 +1033,19 @@ fn block(
     names: &mut [u64],
     breaks: &mut [u64],
     errors: &mut [u64],
-) -> FunctionState
-    ensures { λ r. ⌜ MeetsBlock (now (tree .entry)) at end start count (now (locals .entry))
-        (machine state (now (code .entry)) (now (constants .entry)) (now (names .entry)) (now (breaks .entry)) (now (errors .entry)))
-        (machine r (now (code .exit)) (now (constants .exit)) (now (names .exit)) (now (breaks .exit)) (now (errors .exit))) ⌝ }
+)
+    ensures { λ _. ⌜ MeetsBlock (now (tree .entry)) at end start count (now (locals .entry))
+        (machine (stateOf (now (cells .entry))) (now (code .entry)) (now (constants .entry)) (now (names .entry)) (now (breaks .entry)) (now (errors .entry)))
+        (machine (stateOf (now (cells .exit))) (now (code .exit)) (now (constants .exit)) (now (names .exit)) (now (breaks .exit)) (now (errors .exit))) ⌝ }
 {
     if at < end {
-        let around = state.scope_base;
-        let s1 = scopes::enter_scope(state);
-        let s2 = statements(
+        let around = cells::scope_base(cells);
+        cells::enter_scope(cells);
+        statements(
             tree,
             at + 1,
             end,
-            s1,
+            cells,
             start,
             count,
             locals,
@@ -1041,10 +1055,10 @@ fn block(
             breaks,
             errors,
         );
-        let s3 = scopes::exit_scope(names, s2, around);
-        return function_state::remove_pop_or_push_null(code, s3);
+        cells::exit_scope(names, cells, around);
+        cells::remove_pop_or_push_null(code, cells);
+        return;
     }
-    state
 }
 
 // Statements one after the other.
@@ -1052,7 +1066,7 @@ fn statements(
     tree: &[u64],
     at: usize,
     end: usize,
-    state: FunctionState,
+    cells: &mut [u64; 15],
     start: usize,
     count: usize,
     locals: &[u64],
@@ -1061,20 +1075,19 @@ fn statements(
     names: &mut [u64],
     breaks: &mut [u64],
     errors: &mut [u64],
-) -> FunctionState
-    ensures { λ r. ⌜ MeetsSs (now (tree .entry)) at end start count (now (locals .entry))
-        (machine state (now (code .entry)) (now (constants .entry)) (now (names .entry)) (now (breaks .entry)) (now (errors .entry)))
-        (machine r (now (code .exit)) (now (constants .exit)) (now (names .exit)) (now (breaks .exit)) (now (errors .exit))) ⌝ }
+)
+    ensures { λ _. ⌜ MeetsSs (now (tree .entry)) at end start count (now (locals .entry))
+        (machine (stateOf (now (cells .entry))) (now (code .entry)) (now (constants .entry)) (now (names .entry)) (now (breaks .entry)) (now (errors .entry)))
+        (machine (stateOf (now (cells .exit))) (now (code .exit)) (now (constants .exit)) (now (names .exit)) (now (breaks .exit)) (now (errors .exit))) ⌝ }
 {
     let mut i = at;
-    let mut s = state;
     while i < end {
         let next = skip(tree, i, end);
-        s = statement(
+        statement(
             tree,
             i,
             next,
-            s,
+            cells,
             start,
             count,
             locals,
@@ -1086,7 +1099,6 @@ fn statements(
         );
         i = next;
     }
-    s
 }
 
 // `compile_statement`: one deeper, and back.
@@ -1094,7 +1106,7 @@ fn statement(
     tree: &[u64],
     at: usize,
     end: usize,
-    state: FunctionState,
+    cells: &mut [u64; 15],
     start: usize,
     count: usize,
     locals: &[u64],
@@ -1103,22 +1115,23 @@ fn statement(
     names: &mut [u64],
     breaks: &mut [u64],
     errors: &mut [u64],
-) -> FunctionState
-    ensures { λ r. ⌜ MeetsS (now (tree .entry)) at end start count (now (locals .entry))
-        (machine state (now (code .entry)) (now (constants .entry)) (now (names .entry)) (now (breaks .entry)) (now (errors .entry)))
-        (machine r (now (code .exit)) (now (constants .exit)) (now (names .exit)) (now (breaks .exit)) (now (errors .exit))) ⌝ }
+)
+    ensures { λ _. ⌜ MeetsS (now (tree .entry)) at end start count (now (locals .entry))
+        (machine (stateOf (now (cells .entry))) (now (code .entry)) (now (constants .entry)) (now (names .entry)) (now (breaks .entry)) (now (errors .entry)))
+        (machine (stateOf (now (cells .exit))) (now (code .exit)) (now (constants .exit)) (now (names .exit)) (now (breaks .exit)) (now (errors .exit))) ⌝ }
 {
-    if state.full != 0 {
-        return state;
+    let full = cells::full(cells);
+    if full != 0 {
+        return;
     }
     if at < end {
-        let depth = state.depth;
-        let s1 = function_state::deeper(state);
-        let s2 = inner(
+        let depth = cells::depth(cells);
+        cells::deeper(cells);
+        inner(
             tree,
             at,
             end,
-            s1,
+            cells,
             start,
             count,
             locals,
@@ -1128,9 +1141,9 @@ fn statement(
             breaks,
             errors,
         );
-        return function_state::with_depth(s2, depth);
+        cells::with_depth(cells, depth);
+        return;
     }
-    state
 }
 
 // A statement, the depth apart.
@@ -1138,7 +1151,7 @@ fn inner(
     tree: &[u64],
     at: usize,
     end: usize,
-    state: FunctionState,
+    cells: &mut [u64; 15],
     start: usize,
     count: usize,
     locals: &[u64],
@@ -1147,20 +1160,20 @@ fn inner(
     names: &mut [u64],
     breaks: &mut [u64],
     errors: &mut [u64],
-) -> FunctionState
-    ensures { λ r. ⌜ MeetsInner (now (tree .entry)) at end start count (now (locals .entry))
-        (machine state (now (code .entry)) (now (constants .entry)) (now (names .entry)) (now (breaks .entry)) (now (errors .entry)))
-        (machine r (now (code .exit)) (now (constants .exit)) (now (names .exit)) (now (breaks .exit)) (now (errors .exit))) ⌝ }
+)
+    ensures { λ _. ⌜ MeetsInner (now (tree .entry)) at end start count (now (locals .entry))
+        (machine (stateOf (now (cells .entry))) (now (code .entry)) (now (constants .entry)) (now (names .entry)) (now (breaks .entry)) (now (errors .entry)))
+        (machine (stateOf (now (cells .exit))) (now (code .exit)) (now (constants .exit)) (now (names .exit)) (now (breaks .exit)) (now (errors .exit))) ⌝ }
 {
     if at < end {
         let kind = field(tree, at, record::KIND);
         let position = field(tree, at, record::POSITION);
         if kind == record::EXPRESSION_STATEMENT {
-            let s1 = expression(
+            expression(
                 tree,
                 at + 1,
                 end,
-                state,
+                cells,
                 start,
                 count,
                 locals,
@@ -1170,14 +1183,15 @@ fn inner(
                 breaks,
                 errors,
             );
-            return function_state::emit_opcode_without_position(code, s1, OpCode::Pop);
+            cells::emit_opcode_without_position(code, cells, OpCode::Pop);
+            return;
         }
         if kind == record::LOCAL_STATEMENT {
-            return variables(
+            variables(
                 tree,
                 at + 1,
                 end,
-                state,
+                cells,
                 start,
                 count,
                 locals,
@@ -1187,13 +1201,14 @@ fn inner(
                 breaks,
                 errors,
             );
+            return;
         }
         if kind == record::FOR_STATEMENT {
-            return for_part(
+            for_part(
                 tree,
                 at,
                 end,
-                state,
+                cells,
                 start,
                 count,
                 locals,
@@ -1203,16 +1218,19 @@ fn inner(
                 breaks,
                 errors,
             );
+            return;
         }
         if kind == record::BREAK_STATEMENT {
-            return function_state::emit_break(code, breaks, state, position);
+            cells::emit_break(code, breaks, cells, position);
+            return;
         }
         if kind == record::RESCUE_STATEMENT {
-            return rescue(tree, at, code, errors, state);
+            rescue(tree, at, code, errors, cells);
+            return;
         }
-        return function_state::emit_return(code, state, position);
+        cells::emit_return(code, cells, position);
+        return;
     }
-    state
 }
 
 // Variables one after the other.
@@ -1220,7 +1238,7 @@ fn variables(
     tree: &[u64],
     at: usize,
     end: usize,
-    state: FunctionState,
+    cells: &mut [u64; 15],
     start: usize,
     count: usize,
     locals: &[u64],
@@ -1229,20 +1247,19 @@ fn variables(
     names: &mut [u64],
     breaks: &mut [u64],
     errors: &mut [u64],
-) -> FunctionState
-    ensures { λ r. ⌜ MeetsVariables (now (tree .entry)) at end start count (now (locals .entry))
-        (machine state (now (code .entry)) (now (constants .entry)) (now (names .entry)) (now (breaks .entry)) (now (errors .entry)))
-        (machine r (now (code .exit)) (now (constants .exit)) (now (names .exit)) (now (breaks .exit)) (now (errors .exit))) ⌝ }
+)
+    ensures { λ _. ⌜ MeetsVariables (now (tree .entry)) at end start count (now (locals .entry))
+        (machine (stateOf (now (cells .entry))) (now (code .entry)) (now (constants .entry)) (now (names .entry)) (now (breaks .entry)) (now (errors .entry)))
+        (machine (stateOf (now (cells .exit))) (now (code .exit)) (now (constants .exit)) (now (names .exit)) (now (breaks .exit)) (now (errors .exit))) ⌝ }
 {
     let mut i = at;
-    let mut s = state;
     while i < end {
         let next = skip(tree, i + 1, end);
-        s = variable(
+        variable(
             tree,
             i,
             next,
-            s,
+            cells,
             start,
             count,
             locals,
@@ -1254,7 +1271,6 @@ fn variables(
         );
         i = next;
     }
-    s
 }
 
 // A name, and what stands for its value.
@@ -1262,7 +1278,7 @@ fn variable(
     tree: &[u64],
     at: usize,
     end: usize,
-    state: FunctionState,
+    cells: &mut [u64; 15],
     start: usize,
     count: usize,
     locals: &[u64],
@@ -1271,27 +1287,25 @@ fn variable(
     names: &mut [u64],
     breaks: &mut [u64],
     errors: &mut [u64],
-) -> FunctionState
-    ensures { λ r. ⌜ MeetsVariable (now (tree .entry)) at end start count (now (locals .entry))
-        (machine state (now (code .entry)) (now (constants .entry)) (now (names .entry)) (now (breaks .entry)) (now (errors .entry)))
-        (machine r (now (code .exit)) (now (constants .exit)) (now (names .exit)) (now (breaks .exit)) (now (errors .exit))) ⌝ }
+)
+    ensures { λ _. ⌜ MeetsVariable (now (tree .entry)) at end start count (now (locals .entry))
+        (machine (stateOf (now (cells .entry))) (now (code .entry)) (now (constants .entry)) (now (names .entry)) (now (breaks .entry)) (now (errors .entry)))
+        (machine (stateOf (now (cells .exit))) (now (code .exit)) (now (constants .exit)) (now (names .exit)) (now (breaks .exit)) (now (errors .exit))) ⌝ }
 {
     if at < end {
         let text = field(tree, at, record::VALUE);
         let position = field(tree, at, record::POSITION);
-        let d = scopes::define_local(names, state, text);
-        let s1 = d.state;
-        let found = d.found;
+        let found = cells::define_local(names, cells, text);
         if let Found::At(index) = found {
             let kind = field(tree, at + 1, record::KIND);
             if kind == record::ABSENT {
-                return s1;
+                return;
             }
-            let s2 = expression(
+            expression(
                 tree,
                 at + 1,
                 end,
-                s1,
+                cells,
                 start,
                 count,
                 locals,
@@ -1302,11 +1316,12 @@ fn variable(
                 errors,
             );
             let instruction = OpCode::LocalInit.to_instruction(index);
-            return function_state::emit(code, s2, instruction, position);
+            cells::emit(code, cells, instruction, position);
+            return;
         }
-        return fault(tree, at, errors, s1, reply::ERROR_VARIABLE_EXISTS);
+        fault_in(tree, at, errors, cells, reply::ERROR_VARIABLE_EXISTS);
+        return;
     }
-    state
 }
 
 // `compile_for_statement`.
@@ -1314,7 +1329,7 @@ fn for_part(
     tree: &[u64],
     at: usize,
     end: usize,
-    state: FunctionState,
+    cells: &mut [u64; 15],
     start: usize,
     count: usize,
     locals: &[u64],
@@ -1323,21 +1338,22 @@ fn for_part(
     names: &mut [u64],
     breaks: &mut [u64],
     errors: &mut [u64],
-) -> FunctionState
-    ensures { λ r. ⌜ MeetsFor (now (tree .entry)) at end start count (now (locals .entry))
-        (machine state (now (code .entry)) (now (constants .entry)) (now (names .entry)) (now (breaks .entry)) (now (errors .entry)))
-        (machine r (now (code .exit)) (now (constants .exit)) (now (names .exit)) (now (breaks .exit)) (now (errors .exit))) ⌝ }
+)
+    ensures { λ _. ⌜ MeetsFor (now (tree .entry)) at end start count (now (locals .entry))
+        (machine (stateOf (now (cells .entry))) (now (code .entry)) (now (constants .entry)) (now (names .entry)) (now (breaks .entry)) (now (errors .entry)))
+        (machine (stateOf (now (cells .exit))) (now (code .exit)) (now (constants .exit)) (now (names .exit)) (now (breaks .exit)) (now (errors .exit))) ⌝ }
 {
     if at < end {
         let name = at + 1;
         if name < end {
             let body = skip(tree, at + 2, end);
-            let s1 = loop_start(state);
-            let s2 = expression(
+            let around = cells::load(cells);
+            loop_start(cells);
+            expression(
                 tree,
                 at + 2,
                 body,
-                s1,
+                cells,
                 start,
                 count,
                 locals,
@@ -1347,16 +1363,15 @@ fn for_part(
                 breaks,
                 errors,
             );
-            let s3 = loop_head(tree, at, code, constants, s2, state.local_count);
-            let entry = loop_name(tree, at, name, code, names, s3, state.local_count);
-            let s4 = entry.state;
+            loop_head(tree, at, code, constants, cells, around.local_count);
+            let entry = loop_name(tree, at, name, code, names, cells, around.local_count);
             let first = entry.first;
             let exit = entry.exit;
-            let s5 = statements(
+            statements(
                 tree,
                 body,
                 end,
-                s4,
+                cells,
                 start,
                 count,
                 locals,
@@ -1366,11 +1381,11 @@ fn for_part(
                 breaks,
                 errors,
             );
-            return loop_end(code, names, breaks, s5, state, first, exit);
+            loop_end(code, names, breaks, cells, around, first, exit);
+            return;
         }
-        return state;
+        return;
     }
-    state
 }
 
 // The statements of a function: the entry of the cycle.
@@ -1392,11 +1407,13 @@ pub fn body(
         (machine state (now (code .entry)) (now (constants .entry)) (now (names .entry)) (now (breaks .entry)) (now (errors .entry)))
         (machine r (now (code .exit)) (now (constants .exit)) (now (names .exit)) (now (breaks .exit)) (now (errors .exit))) ⌝ }
 {
+    let mut cells: [u64; 15] = [0; 15];
+    cells::store(&mut cells, state);
     statements(
         tree,
         at,
         end,
-        state,
+        &mut cells,
         start,
         count,
         locals,
@@ -1405,5 +1422,6 @@ pub fn body(
         names,
         breaks,
         errors,
-    )
+    );
+    cells::load(&cells)
 }

@@ -6,6 +6,7 @@ use Prim.Native.Nat.{ℕ, _+_, _-_, _*_, _≤_, _<_}
 use mathlib.Core.Path.{_≡_, refl, _∙_}
 use lib.ListN.{length}
 use Rattle.building.specs.Held.{Machine, machine}
+use Rattle.bodies.specs.Cells.{stateOf}
 use Rattle.bodies.specs.Members.{MeetsEs, MeetsSs, MeetsVariables}
 use Rattle.bodies.proofs.ExpressionWays as e
 use Rattle.bodies.proofs.InfixWays as i
@@ -58,8 +59,26 @@ use Rattle.bodies.proofs.+block+expression+expressions+false_part+for_p
 use Rattle.bodies.proofs.variables.Reads as variables
 use Rattle.bodies.proofs.variables.Kinds as variables-kinds
 use Rattle.bodies.proofs.+block+expression+expressions+false_part+for_part+if_part+infix_part+inner+statement+statements+target+two+variable+variables.Lts-variables as variables-lts
+use Rattle.bodies.proofs.cells.deeper.Reads as deeper-reads
+use Rattle.bodies.proofs.cells.define_local.Reads as define-local-reads
+use Rattle.bodies.proofs.cells.depth.Reads as depth-reads
+use Rattle.bodies.proofs.cells.emit.Reads as emit-reads
+use Rattle.bodies.proofs.cells.emit_break.Reads as emit-break-reads
+use Rattle.bodies.proofs.cells.emit_null.Reads as emit-null-reads
+use Rattle.bodies.proofs.cells.emit_opcode.Reads as emit-opcode-reads
+use Rattle.bodies.proofs.cells.emit_opcode_without_position.Reads as emit-opcode-without-position-reads
+use Rattle.bodies.proofs.cells.emit_return.Reads as emit-return-reads
+use Rattle.bodies.proofs.cells.enter_scope.Reads as enter-scope-reads
+use Rattle.bodies.proofs.cells.exit_scope.Reads as exit-scope-reads
+use Rattle.bodies.proofs.cells.full.Reads as full-reads
+use Rattle.bodies.proofs.cells.get_next_instruction_index.Reads as get-next-instruction-index-reads
+use Rattle.bodies.proofs.cells.load.Reads as load-reads
+use Rattle.bodies.proofs.cells.remove_pop_or_push_null.Reads as remove-pop-or-push-null-reads
+use Rattle.bodies.proofs.cells.replace_instruction.Reads as replace-instruction-reads
+use Rattle.bodies.proofs.cells.scope_base.Reads as scope-base-reads
+use Rattle.bodies.proofs.cells.with_depth.Reads as with-depth-reads
 use Rattle.bodies.proofs.count_children.Reads as count-children-reads
-use Rattle.bodies.proofs.fault.Reads as fault-reads
+use Rattle.bodies.proofs.fault_in.Reads as fault-in-reads
 use Rattle.bodies.proofs.leaf.Reads as leaf-reads
 use Rattle.bodies.proofs.loop_end.Reads as loop-end-reads
 use Rattle.bodies.proofs.loop_head.Reads as loop-head-reads
@@ -70,20 +89,6 @@ use Rattle.bodies.proofs.prefix.Reads as prefix-reads
 use Rattle.bodies.proofs.rescue.Reads as rescue-reads
 use Rattle.bodies.proofs.set_name.Reads as set-name-reads
 use Rattle.bodies.proofs.skip.Reads as skip-reads
-use Rattle.building.proofs.function_state.deeper.Reads as deeper-reads
-use Rattle.building.proofs.function_state.emit.Reads as emit-reads
-use Rattle.building.proofs.function_state.emit_break.Reads as emit-break-reads
-use Rattle.building.proofs.function_state.emit_null.Reads as emit-null-reads
-use Rattle.building.proofs.function_state.emit_opcode.Reads as emit-opcode-reads
-use Rattle.building.proofs.function_state.emit_opcode_without_position.Reads as emit-opcode-without-position-reads
-use Rattle.building.proofs.function_state.emit_return.Reads as emit-return-reads
-use Rattle.building.proofs.function_state.get_next_instruction_index.Reads as get-next-instruction-index-reads
-use Rattle.building.proofs.function_state.remove_pop_or_push_null.Reads as remove-pop-or-push-null-reads
-use Rattle.building.proofs.function_state.replace_instruction.Reads as replace-instruction-reads
-use Rattle.building.proofs.function_state.with_depth.Reads as with-depth-reads
-use Rattle.building.proofs.scopes.define_local.Reads as define-local-reads
-use Rattle.building.proofs.scopes.enter_scope.Reads as enter-scope-reads
-use Rattle.building.proofs.scopes.exit_scope.Reads as exit-scope-reads
 use Rattle.words.proofs.opcode.OpCode.to_instruction.Reads as to-instruction-reads
 use Rattle.words.proofs.record.field.Reads as field-reads
 use Rattle.bodies.proofs.+block+expression+expressions+false_part+for_part+if_part+infix_part+inner+statement+statements+target+two+variable+variables.{statement}
@@ -91,161 +96,166 @@ use Rattle.bodies.proofs.+block+expression+expressions+false_part+for_p
 use borrow.Author.Needs.{needs}
 use native.Mathlib.Omega.{arith}
 
-abbrev μ-block : Measures 7 block-kinds.ps ℕ
+abbrev μ-block : Measures 8 block-kinds.ps ℕ
 μ-block κs a = (a .1 .1 .0 - a .1 .0) * 4
 
-abbrev μ-expression : Measures 7 expression-kinds.ps ℕ
+abbrev μ-expression : Measures 8 expression-kinds.ps ℕ
 μ-expression κs a = (a .1 .1 .0 - a .1 .0) * 4 + 1
 
-abbrev μ-expressions : Measures 7 expressions-kinds.ps ℕ
+abbrev μ-expressions : Measures 8 expressions-kinds.ps ℕ
 μ-expressions κs a = (a .1 .1 .0 - a .1 .0) * 4 + 2
 
-abbrev μ-false-part : Measures 7 false-part-kinds.ps ℕ
+abbrev μ-false-part : Measures 8 false-part-kinds.ps ℕ
 μ-false-part κs a = (a .1 .1 .0 - a .1 .0) * 4 + 1
 
-abbrev μ-for-part : Measures 7 for-part-kinds.ps ℕ
+abbrev μ-for-part : Measures 8 for-part-kinds.ps ℕ
 μ-for-part κs a = (a .1 .1 .0 - a .1 .0) * 4
 
-abbrev μ-if-part : Measures 7 if-part-kinds.ps ℕ
+abbrev μ-if-part : Measures 8 if-part-kinds.ps ℕ
 μ-if-part κs a = (a .1 .1 .0 - a .1 .0) * 4
 
-abbrev μ-infix-part : Measures 7 infix-part-kinds.ps ℕ
+abbrev μ-infix-part : Measures 8 infix-part-kinds.ps ℕ
 μ-infix-part κs a = (a .1 .1 .0 - a .1 .0) * 4
 
-abbrev μ-inner : Measures 7 inner-kinds.ps ℕ
+abbrev μ-inner : Measures 8 inner-kinds.ps ℕ
 μ-inner κs a = (a .1 .1 .0 - a .1 .0) * 4 + 1
 
-abbrev μ-statement : Measures 7 statement-kinds.ps ℕ
+abbrev μ-statement : Measures 8 statement-kinds.ps ℕ
 μ-statement κs a = (a .1 .1 .0 - a .1 .0) * 4 + 2
 
-abbrev μ-statements : Measures 7 statements-kinds.ps ℕ
+abbrev μ-statements : Measures 8 statements-kinds.ps ℕ
 μ-statements κs a = (a .1 .1 .0 - a .1 .0) * 4 + 3
 
-abbrev μ-target : Measures 7 target-kinds.ps ℕ
+abbrev μ-target : Measures 8 target-kinds.ps ℕ
 μ-target κs a = (a .1 .1 .0 - a .1 .0) * 4
 
-abbrev μ-two : Measures 7 two-kinds.ps ℕ
+abbrev μ-two : Measures 8 two-kinds.ps ℕ
 μ-two κs a = (a .1 .1 .0 - a .1 .0) * 4 + 2
 
-abbrev μ-variable : Measures 7 variable-kinds.ps ℕ
+abbrev μ-variable : Measures 8 variable-kinds.ps ℕ
 μ-variable κs a = (a .1 .1 .0 - a .1 .0) * 4
 
-abbrev μ-variables : Measures 7 variables-kinds.ps ℕ
+abbrev μ-variables : Measures 8 variables-kinds.ps ℕ
 μ-variables κs a = (a .1 .1 .0 - a .1 .0) * 4 + 1
 
-abbrev block-at : ℕ → In 7 block-kinds.ps
-block-at t = and 7 block-kinds.ps (is 7 block-kinds.ps μ-block t) block.Pre
+abbrev block-at : ℕ → In 8 block-kinds.ps
+block-at t = and 8 block-kinds.ps (is 8 block-kinds.ps μ-block t) block.Pre
 
-abbrev block-below : ℕ → In 7 block-kinds.ps
-block-below t = and 7 block-kinds.ps (falls 7 block-kinds.ps _<_ μ-block t) block.Pre
+abbrev block-below : ℕ → In 8 block-kinds.ps
+block-below t = and 8 block-kinds.ps (falls 8 block-kinds.ps _<_ μ-block t) block.Pre
 
-abbrev expression-at : ℕ → In 7 expression-kinds.ps
-expression-at t = and 7 expression-kinds.ps (is 7 expression-kinds.ps μ-expression t) expression.Pre
+abbrev expression-at : ℕ → In 8 expression-kinds.ps
+expression-at t = and 8 expression-kinds.ps (is 8 expression-kinds.ps μ-expression t) expression.Pre
 
-abbrev expression-below : ℕ → In 7 expression-kinds.ps
-expression-below t = and 7 expression-kinds.ps (falls 7 expression-kinds.ps _<_ μ-expression t) expression.Pre
+abbrev expression-below : ℕ → In 8 expression-kinds.ps
+expression-below t = and 8 expression-kinds.ps (falls 8 expression-kinds.ps _<_ μ-expression t) expression.Pre
 
-abbrev expressions-at : ℕ → In 7 expressions-kinds.ps
-expressions-at t = and 7 expressions-kinds.ps (is 7 expressions-kinds.ps μ-expressions t) expressions.Pre
+abbrev expressions-at : ℕ → In 8 expressions-kinds.ps
+expressions-at t = and 8 expressions-kinds.ps (is 8 expressions-kinds.ps μ-expressions t) expressions.Pre
 
-abbrev expressions-below : ℕ → In 7 expressions-kinds.ps
-expressions-below t = and 7 expressions-kinds.ps (falls 7 expressions-kinds.ps _<_ μ-expressions t) expressions.Pre
+abbrev expressions-below : ℕ → In 8 expressions-kinds.ps
+expressions-below t = and 8 expressions-kinds.ps (falls 8 expressions-kinds.ps _<_ μ-expressions t) expressions.Pre
 
-abbrev false-part-at : ℕ → In 7 false-part-kinds.ps
-false-part-at t = and 7 false-part-kinds.ps (is 7 false-part-kinds.ps μ-false-part t) false-part.Pre
+abbrev false-part-at : ℕ → In 8 false-part-kinds.ps
+false-part-at t = and 8 false-part-kinds.ps (is 8 false-part-kinds.ps μ-false-part t) false-part.Pre
 
-abbrev false-part-below : ℕ → In 7 false-part-kinds.ps
-false-part-below t = and 7 false-part-kinds.ps (falls 7 false-part-kinds.ps _<_ μ-false-part t) false-part.Pre
+abbrev false-part-below : ℕ → In 8 false-part-kinds.ps
+false-part-below t = and 8 false-part-kinds.ps (falls 8 false-part-kinds.ps _<_ μ-false-part t) false-part.Pre
 
-abbrev for-part-at : ℕ → In 7 for-part-kinds.ps
-for-part-at t = and 7 for-part-kinds.ps (is 7 for-part-kinds.ps μ-for-part t) for-part.Pre
+abbrev for-part-at : ℕ → In 8 for-part-kinds.ps
+for-part-at t = and 8 for-part-kinds.ps (is 8 for-part-kinds.ps μ-for-part t) for-part.Pre
 
-abbrev for-part-below : ℕ → In 7 for-part-kinds.ps
-for-part-below t = and 7 for-part-kinds.ps (falls 7 for-part-kinds.ps _<_ μ-for-part t) for-part.Pre
+abbrev for-part-below : ℕ → In 8 for-part-kinds.ps
+for-part-below t = and 8 for-part-kinds.ps (falls 8 for-part-kinds.ps _<_ μ-for-part t) for-part.Pre
 
-abbrev if-part-at : ℕ → In 7 if-part-kinds.ps
-if-part-at t = and 7 if-part-kinds.ps (is 7 if-part-kinds.ps μ-if-part t) if-part.Pre
+abbrev if-part-at : ℕ → In 8 if-part-kinds.ps
+if-part-at t = and 8 if-part-kinds.ps (is 8 if-part-kinds.ps μ-if-part t) if-part.Pre
 
-abbrev if-part-below : ℕ → In 7 if-part-kinds.ps
-if-part-below t = and 7 if-part-kinds.ps (falls 7 if-part-kinds.ps _<_ μ-if-part t) if-part.Pre
+abbrev if-part-below : ℕ → In 8 if-part-kinds.ps
+if-part-below t = and 8 if-part-kinds.ps (falls 8 if-part-kinds.ps _<_ μ-if-part t) if-part.Pre
 
-abbrev infix-part-at : ℕ → In 7 infix-part-kinds.ps
-infix-part-at t = and 7 infix-part-kinds.ps (is 7 infix-part-kinds.ps μ-infix-part t) infix-part.Pre
+abbrev infix-part-at : ℕ → In 8 infix-part-kinds.ps
+infix-part-at t = and 8 infix-part-kinds.ps (is 8 infix-part-kinds.ps μ-infix-part t) infix-part.Pre
 
-abbrev infix-part-below : ℕ → In 7 infix-part-kinds.ps
-infix-part-below t = and 7 infix-part-kinds.ps (falls 7 infix-part-kinds.ps _<_ μ-infix-part t) infix-part.Pre
+abbrev infix-part-below : ℕ → In 8 infix-part-kinds.ps
+infix-part-below t = and 8 infix-part-kinds.ps (falls 8 infix-part-kinds.ps _<_ μ-infix-part t) infix-part.Pre
 
-abbrev inner-at : ℕ → In 7 inner-kinds.ps
-inner-at t = and 7 inner-kinds.ps (is 7 inner-kinds.ps μ-inner t) inner.Pre
+abbrev inner-at : ℕ → In 8 inner-kinds.ps
+inner-at t = and 8 inner-kinds.ps (is 8 inner-kinds.ps μ-inner t) inner.Pre
 
-abbrev inner-below : ℕ → In 7 inner-kinds.ps
-inner-below t = and 7 inner-kinds.ps (falls 7 inner-kinds.ps _<_ μ-inner t) inner.Pre
+abbrev inner-below : ℕ → In 8 inner-kinds.ps
+inner-below t = and 8 inner-kinds.ps (falls 8 inner-kinds.ps _<_ μ-inner t) inner.Pre
 
-abbrev statement-at : ℕ → In 7 statement-kinds.ps
-statement-at t = and 7 statement-kinds.ps (is 7 statement-kinds.ps μ-statement t) statement′.Pre
+abbrev statement-at : ℕ → In 8 statement-kinds.ps
+statement-at t = and 8 statement-kinds.ps (is 8 statement-kinds.ps μ-statement t) statement′.Pre
 
-abbrev statement-below : ℕ → In 7 statement-kinds.ps
-statement-below t = and 7 statement-kinds.ps (falls 7 statement-kinds.ps _<_ μ-statement t) statement′.Pre
+abbrev statement-below : ℕ → In 8 statement-kinds.ps
+statement-below t = and 8 statement-kinds.ps (falls 8 statement-kinds.ps _<_ μ-statement t) statement′.Pre
 
-abbrev statements-at : ℕ → In 7 statements-kinds.ps
-statements-at t = and 7 statements-kinds.ps (is 7 statements-kinds.ps μ-statements t) statements.Pre
+abbrev statements-at : ℕ → In 8 statements-kinds.ps
+statements-at t = and 8 statements-kinds.ps (is 8 statements-kinds.ps μ-statements t) statements.Pre
 
-abbrev statements-below : ℕ → In 7 statements-kinds.ps
-statements-below t = and 7 statements-kinds.ps (falls 7 statements-kinds.ps _<_ μ-statements t) statements.Pre
+abbrev statements-below : ℕ → In 8 statements-kinds.ps
+statements-below t = and 8 statements-kinds.ps (falls 8 statements-kinds.ps _<_ μ-statements t) statements.Pre
 
-abbrev target-at : ℕ → In 7 target-kinds.ps
-target-at t = and 7 target-kinds.ps (is 7 target-kinds.ps μ-target t) target.Pre
+abbrev target-at : ℕ → In 8 target-kinds.ps
+target-at t = and 8 target-kinds.ps (is 8 target-kinds.ps μ-target t) target.Pre
 
-abbrev target-below : ℕ → In 7 target-kinds.ps
-target-below t = and 7 target-kinds.ps (falls 7 target-kinds.ps _<_ μ-target t) target.Pre
+abbrev target-below : ℕ → In 8 target-kinds.ps
+target-below t = and 8 target-kinds.ps (falls 8 target-kinds.ps _<_ μ-target t) target.Pre
 
-abbrev two-at : ℕ → In 7 two-kinds.ps
-two-at t = and 7 two-kinds.ps (is 7 two-kinds.ps μ-two t) two.Pre
+abbrev two-at : ℕ → In 8 two-kinds.ps
+two-at t = and 8 two-kinds.ps (is 8 two-kinds.ps μ-two t) two.Pre
 
-abbrev two-below : ℕ → In 7 two-kinds.ps
-two-below t = and 7 two-kinds.ps (falls 7 two-kinds.ps _<_ μ-two t) two.Pre
+abbrev two-below : ℕ → In 8 two-kinds.ps
+two-below t = and 8 two-kinds.ps (falls 8 two-kinds.ps _<_ μ-two t) two.Pre
 
-abbrev variable-at : ℕ → In 7 variable-kinds.ps
-variable-at t = and 7 variable-kinds.ps (is 7 variable-kinds.ps μ-variable t) variable.Pre
+abbrev variable-at : ℕ → In 8 variable-kinds.ps
+variable-at t = and 8 variable-kinds.ps (is 8 variable-kinds.ps μ-variable t) variable.Pre
 
-abbrev variable-below : ℕ → In 7 variable-kinds.ps
-variable-below t = and 7 variable-kinds.ps (falls 7 variable-kinds.ps _<_ μ-variable t) variable.Pre
+abbrev variable-below : ℕ → In 8 variable-kinds.ps
+variable-below t = and 8 variable-kinds.ps (falls 8 variable-kinds.ps _<_ μ-variable t) variable.Pre
 
-abbrev variables-at : ℕ → In 7 variables-kinds.ps
-variables-at t = and 7 variables-kinds.ps (is 7 variables-kinds.ps μ-variables t) variables.Pre
+abbrev variables-at : ℕ → In 8 variables-kinds.ps
+variables-at t = and 8 variables-kinds.ps (is 8 variables-kinds.ps μ-variables t) variables.Pre
 
-abbrev variables-below : ℕ → In 7 variables-kinds.ps
-variables-below t = and 7 variables-kinds.ps (falls 7 variables-kinds.ps _<_ μ-variables t) variables.Pre
+abbrev variables-below : ℕ → In 8 variables-kinds.ps
+variables-below t = and 8 variables-kinds.ps (falls 8 variables-kinds.ps _<_ μ-variables t) variables.Pre
 
 abbrev expressions-Inv-loop : expressions-lts.InvT-loop
-expressions-Inv-loop tree at end start count locals code₀ constants₀ names₀ breaks₀ errors₀ i₀ s₀ code constants names breaks errors i s = (at ≤ i) ×
+expressions-Inv-loop tree at end cells₀ start count locals code₀ constants₀ names₀ breaks₀ errors₀ i₀ cells code constants names breaks errors i = (at ≤ i) ×
     (length code ≡ length code₀) × (length constants ≡ length constants₀) × (length names ≡ length names₀)
     × (length breaks ≡ length breaks₀) × (length errors ≡ length errors₀) × ((m : Machine) → MeetsEs tree i end start count locals
-    (machine s code constants names breaks errors) m → MeetsEs tree at end start count locals (machine s₀ code₀ constants₀ names₀ breaks₀ errors₀) m)
+    (machine (stateOf cells) code constants names breaks errors) m → MeetsEs tree at end start count locals (machine
+    (stateOf cells₀) code₀ constants₀ names₀ breaks₀ errors₀) m)
 
 abbrev expressions-μ-loop : expressions-lts.MeasureT-loop
-expressions-μ-loop tree at end start count locals code₀ constants₀ names₀ breaks₀ errors₀ i₀ s₀ code constants names breaks errors i s = end - i
+expressions-μ-loop tree at end cells₀ start count locals code₀ constants₀ names₀ breaks₀ errors₀ i₀ cells code constants names breaks errors i = end - i
 
 abbrev statements-Inv-loop : statements-lts.InvT-loop
-statements-Inv-loop tree at end start count locals code₀ constants₀ names₀ breaks₀ errors₀ i₀ s₀ code constants names breaks errors i s = (at ≤ i) ×
+statements-Inv-loop tree at end cells₀ start count locals code₀ constants₀ names₀ breaks₀ errors₀ i₀ cells code constants names breaks errors i = (at ≤ i) ×
     (length code ≡ length code₀) × (length constants ≡ length constants₀) × (length names ≡ length names₀)
     × (length breaks ≡ length breaks₀) × (length errors ≡ length errors₀) × ((m : Machine) → MeetsSs tree i end start count locals
-    (machine s code constants names breaks errors) m → MeetsSs tree at end start count locals (machine s₀ code₀ constants₀ names₀ breaks₀ errors₀) m)
+    (machine (stateOf cells) code constants names breaks errors) m → MeetsSs tree at end start count locals (machine
+    (stateOf cells₀) code₀ constants₀ names₀ breaks₀ errors₀) m)
 
 abbrev statements-μ-loop : statements-lts.MeasureT-loop
-statements-μ-loop tree at end start count locals code₀ constants₀ names₀ breaks₀ errors₀ i₀ s₀ code constants names breaks errors i s = end - i
+statements-μ-loop tree at end cells₀ start count locals code₀ constants₀ names₀ breaks₀ errors₀ i₀ cells code constants names breaks errors i = end - i
 
 abbrev variables-Inv-loop : variables-lts.InvT-loop
-variables-Inv-loop tree at end start count locals code₀ constants₀ names₀ breaks₀ errors₀ i₀ s₀ code constants names breaks errors i s = (at ≤ i) ×
+variables-Inv-loop tree at end cells₀ start count locals code₀ constants₀ names₀ breaks₀ errors₀ i₀ cells code constants names breaks errors i = (at ≤ i) ×
     (length code ≡ length code₀) × (length constants ≡ length constants₀) × (length names ≡ length names₀)
     × (length breaks ≡ length breaks₀) × (length errors ≡ length errors₀) × ((m : Machine) → MeetsVariables tree i end start count locals
-    (machine s code constants names breaks errors) m → MeetsVariables tree at end start count locals (machine s₀ code₀ constants₀ names₀ breaks₀ errors₀) m)
+    (machine (stateOf cells) code constants names breaks errors) m → MeetsVariables tree at end start count locals (machine
+    (stateOf cells₀) code₀ constants₀ names₀ breaks₀ errors₀) m)
 
 abbrev variables-μ-loop : variables-lts.MeasureT-loop
-variables-μ-loop tree at end start count locals code₀ constants₀ names₀ breaks₀ errors₀ i₀ s₀ code constants names breaks errors i s = end - i
+variables-μ-loop tree at end cells₀ start count locals code₀ constants₀ names₀ breaks₀ errors₀ i₀ cells code constants names breaks errors i = end - i
 
 abbrev block-calls : ℕ → block-lts.Claims
 block-calls t = (
+  scope-base-reads.Asked,
+  scope-base-reads.Learnt,
   enter-scope-reads.Asked,
   enter-scope-reads.Learnt,
   statements-below t,
@@ -258,6 +268,8 @@ block-calls t = (
 
 abbrev expression-calls : ℕ → expression-lts.Claims
 expression-calls t = (
+  full-reads.Asked,
+  full-reads.Learnt,
   field-reads.Asked,
   field-reads.Learnt,
   infix-part-below t,
@@ -296,6 +308,8 @@ abbrev for-part-calls : ℕ → for-part-lts.Claims
 for-part-calls t = (
   skip-reads.Asked,
   skip-reads.Learnt,
+  load-reads.Asked,
+  load-reads.Learnt,
   loop-start-reads.Asked,
   loop-start-reads.Learnt,
   expression-below t,
@@ -340,8 +354,8 @@ infix-part-calls t = (
   expression.Post,
   target-below t,
   target.Post,
-  fault-reads.Asked,
-  fault-reads.Learnt,
+  fault-in-reads.Asked,
+  fault-in-reads.Learnt,
   two-below t,
   two.Post,
   operation-reads.Asked,
@@ -369,13 +383,26 @@ inner-calls t = (
 )
 
 abbrev statement-calls : ℕ → statement-lts.Claims
-statement-calls t = (deeper-reads.Asked, deeper-reads.Learnt, inner-below t, inner.Post, with-depth-reads.Asked, with-depth-reads.Learnt)
+statement-calls t = (
+  full-reads.Asked,
+  full-reads.Learnt,
+  depth-reads.Asked,
+  depth-reads.Learnt,
+  deeper-reads.Asked,
+  deeper-reads.Learnt,
+  inner-below t,
+  inner.Post,
+  with-depth-reads.Asked,
+  with-depth-reads.Learnt,
+)
 
 abbrev statements-calls : ℕ → statements-lts.Claims
 statements-calls t = (skip-reads.Asked, skip-reads.Learnt, statement-below t, statement′.Post)
 
 abbrev target-calls : ℕ → target-lts.Claims
 target-calls t = (
+  full-reads.Asked,
+  full-reads.Learnt,
   field-reads.Asked,
   field-reads.Learnt,
   set-name-reads.Asked,
@@ -384,8 +411,8 @@ target-calls t = (
   two.Post,
   emit-opcode-reads.Asked,
   emit-opcode-reads.Learnt,
-  fault-reads.Asked,
-  fault-reads.Learnt,
+  fault-in-reads.Asked,
+  fault-in-reads.Learnt,
 )
 
 abbrev two-calls : ℕ → two-lts.Claims
@@ -403,8 +430,8 @@ variable-calls t = (
   to-instruction-reads.Learnt,
   emit-reads.Asked,
   emit-reads.Learnt,
-  fault-reads.Asked,
-  fault-reads.Learnt,
+  fault-in-reads.Asked,
+  fault-in-reads.Learnt,
 )
 
 abbrev variables-calls : ℕ → variables-lts.Claims
@@ -412,56 +439,58 @@ variables-calls t = (skip-reads.Asked, skip-reads.Learnt, variable-below t, vari
 
 block-statements-requires : (t : ℕ) → block-lts.Need-statements-requires (block-calls t) (block-at t) block.Post
 block-statements-requires t c κs =
-    let c6 = c .before .before .before .before .before .before in
-    let c14 = c6 .before .before .before .before .before .before .before .before in
-    omega (arith, c6 .if1, c14 .pre)
+    let c10 = c .before .before .before .before .before .before .before .before .before .before in
+    let c18 = c10 .before .before .before .before .before .before .before .before in
+    omega (arith, c10 .if1, c18 .pre)
 
 block-same-length : (t : ℕ) → block-lts.Need-same-length (block-calls t) (block-at t) block.Post
 block-same-length t c =
-    let c18 = c .before .before .before .before .before .before .before .before .before .before .before .before .before .before .before .before .before .before in
-    (c .before .before .remove-pop-or-push-null .kept .0) ∙ (c18 .statements .kept .1 .1 .1 .1 .1 .1 .1 .0)
+    let c20 = c .before .before .before .before .before .before .before .before .before .before .before .before .before .before .before .before .before .before .before .before in
+    (c .before .before .remove-pop-or-push-null .kept .0) ∙ (c20 .statements .kept .1 .1 .1 .1 .1 .1 .1 .0)
 
 block-same-length-2 : (t : ℕ) → block-lts.Need-same-length-2 (block-calls t) (block-at t) block.Post
 block-same-length-2 t c =
-    let c18 = c .before .before .before .before .before .before .before .before .before .before .before .before .before .before .before .before .before .before in
-    (c18 .statements .kept .1 .1 .1 .1 .1 .1 .1 .1 .0)
+    let c20 = c .before .before .before .before .before .before .before .before .before .before .before .before .before .before .before .before .before .before .before .before in
+    (c20 .statements .kept .1 .1 .1 .1 .1 .1 .1 .1 .0)
 
 block-same-length-3 : (t : ℕ) → block-lts.Need-same-length-3 (block-calls t) (block-at t) block.Post
 block-same-length-3 t c =
-    let c6 = c .before .before .before .before .before .before in
-    let c18 = c6 .before .before .before .before .before .before .before .before .before .before .before .before in
-    (c6 .exit-scope .kept .0) ∙ (c18 .statements .kept .1 .1 .1 .1 .1 .1 .1 .1 .1 .0)
+    let c7 = c .before .before .before .before .before .before .before in
+    let c20 = c7 .before .before .before .before .before .before .before .before .before .before .before .before .before in
+    (c7 .exit-scope .kept .0) ∙ (c20 .statements .kept .1 .1 .1 .1 .1 .1 .1 .1 .1 .0)
 
 block-same-length-4 : (t : ℕ) → block-lts.Need-same-length-4 (block-calls t) (block-at t) block.Post
 block-same-length-4 t c =
-    let c18 = c .before .before .before .before .before .before .before .before .before .before .before .before .before .before .before .before .before .before in
-    (c18 .statements .kept .1 .1 .1 .1 .1 .1 .1 .1 .1 .1 .0)
+    let c20 = c .before .before .before .before .before .before .before .before .before .before .before .before .before .before .before .before .before .before .before .before in
+    (c20 .statements .kept .1 .1 .1 .1 .1 .1 .1 .1 .1 .1 .0)
 
 block-same-length-5 : (t : ℕ) → block-lts.Need-same-length-5 (block-calls t) (block-at t) block.Post
 block-same-length-5 t c =
-    let c18 = c .before .before .before .before .before .before .before .before .before .before .before .before .before .before .before .before .before .before in
-    (c18 .statements .kept .1 .1 .1 .1 .1 .1 .1 .1 .1 .1 .1 .0)
+    let c20 = c .before .before .before .before .before .before .before .before .before .before .before .before .before .before .before .before .before .before .before .before in
+    (c20 .statements .kept .1 .1 .1 .1 .1 .1 .1 .1 .1 .1 .1 .0)
 
 block-returns : (t : ℕ) → block-lts.Need-returns (block-calls t) (block-at t) block.Post
 block-returns t c =
-    let c6 = c .before .before .before .before .before .before in
-    let c18 = c6 .before .before .before .before .before .before .before .before .before .before .before .before in
-    let c24 = c18 .before .before .before .before .before .before in
-    s.block-meets (c24 .enter-scope .ensures) (c18 .statements .ensures) (c6 .exit-scope .ensures) (c .before .before .remove-pop-or-push-null .ensures)
+    let c7 = c .before .before .before .before .before .before .before in
+    let c20 = c7 .before .before .before .before .before .before .before .before .before .before .before .before .before in
+    let c27 = c20 .before .before .before .before .before .before .before in
+    let c29 = c27 .before .before in
+    s.block-meets (c27 .enter-scope .ensures) (c20 .statements .ensures) (rw (c29 .scope-base .ensures) at (c7 .exit-scope .ensures))
+    (c .before .before .remove-pop-or-push-null .ensures)
 
 block-returns-2 : (t : ℕ) → block-lts.Need-returns-2 (block-calls t) (block-at t) block.Post
 block-returns-2 t c = s.block-past (c .if1 .left)
 
 expression-returns : (t : ℕ) → expression-lts.Need-returns (expression-calls t) (expression-at t) expression.Post
-expression-returns t c = e.full-meets (c .if1 .taken)
+expression-returns t c = e.full-meets (rw (c .before .full .ensures) at (c .if1 .taken))
 
 expression-infix-part-requires : (t : ℕ) → expression-lts.Need-infix-part-requires (expression-calls t) (expression-at t) expression.Post
 expression-infix-part-requires t c κs =
-    let c5 = c .before .before .before .before .before in
-    let c8 = c5 .before .before .before in
-    let c9 = c8 .before in
-    let c18 = c9 .before .before .before .before .before .before .before .before .before in
-    omega (arith, c5 .if3, c8 .if2, c9 .if1, c18 .pre)
+    let c6 = c .before .before .before .before .before .before in
+    let c9 = c6 .before .before .before in
+    let c10 = c9 .before in
+    let c20 = c10 .before .before .before .before .before .before .before .before .before .before in
+    omega (arith, c6 .if3, c9 .if2, c10 .if1, c20 .pre)
 
 expression-same-length : (t : ℕ) → expression-lts.Need-same-length (expression-calls t) (expression-at t) expression.Post
 expression-same-length t c =
@@ -491,18 +520,18 @@ expression-same-length-5 t c =
 expression-returns-2 : (t : ℕ) → expression-lts.Need-returns-2 (expression-calls t) (expression-at t) expression.Post
 expression-returns-2 t c =
     let c10 = c .before .before .before .before .before .before .before .before .before .before in
-    let c16 = c10 .before .before .before .before .before .before in
-    let c18 = c16 .before .before in
-    e.infix-arm (c18 .field .ensures) (c16 .if3 .taken) (c10 .infix-part .ensures)
+    let c17 = c10 .before .before .before .before .before .before .before in
+    let c19 = c17 .before .before in
+    e.infix-arm (c19 .field .ensures) (c17 .if3 .taken) (c10 .infix-part .ensures)
 
 expression-if-part-requires : (t : ℕ) → expression-lts.Need-if-part-requires (expression-calls t) (expression-at t) expression.Post
 expression-if-part-requires t c κs =
-    let c5 = c .before .before .before .before .before in
-    let c6 = c5 .before in
-    let c9 = c6 .before .before .before in
-    let c10 = c9 .before in
-    let c19 = c10 .before .before .before .before .before .before .before .before .before in
-    omega (arith, c5 .if4, c6 .if3, c9 .if2, c10 .if1, c19 .pre)
+    let c6 = c .before .before .before .before .before .before in
+    let c7 = c6 .before in
+    let c10 = c7 .before .before .before in
+    let c11 = c10 .before in
+    let c21 = c11 .before .before .before .before .before .before .before .before .before .before in
+    omega (arith, c6 .if4, c7 .if3, c10 .if2, c11 .if1, c21 .pre)
 
 expression-same-length-6 : (t : ℕ) → expression-lts.Need-same-length-6 (expression-calls t) (expression-at t) expression.Post
 expression-same-length-6 t c =
@@ -532,207 +561,162 @@ expression-same-length-10 t c =
 expression-returns-3 : (t : ℕ) → expression-lts.Need-returns-3 (expression-calls t) (expression-at t) expression.Post
 expression-returns-3 t c =
     let c10 = c .before .before .before .before .before .before .before .before .before .before in
-    let c16 = c10 .before .before .before .before .before .before in
-    let c19 = c16 .before .before .before in
-    e.if-arm (c19 .field .ensures) (c16 .if4 .taken) (c10 .if-part .ensures)
+    let c17 = c10 .before .before .before .before .before .before .before in
+    let c20 = c17 .before .before .before in
+    e.if-arm (c20 .field .ensures) (c17 .if4 .taken) (c10 .if-part .ensures)
 
 expression-expression-requires : (t : ℕ) → expression-lts.Need-expression-requires (expression-calls t) (expression-at t) expression.Post
 expression-expression-requires t c κs =
-    let c5 = c .before .before .before .before .before in
-    let c6 = c5 .before in
-    let c7 = c6 .before in
-    let c10 = c7 .before .before .before in
-    let c11 = c10 .before in
-    let c20 = c11 .before .before .before .before .before .before .before .before .before in
-    omega (arith, c5 .if5, c6 .if4, c7 .if3, c10 .if2, c11 .if1, c20 .pre)
-
-expression-same-length-11 : (t : ℕ) → expression-lts.Need-same-length-11 (expression-calls t) (expression-at t) expression.Post
-expression-same-length-11 t c =
-    let c17 = c .before .before .before .before .before .before .before .before .before .before .before .before .before .before .before .before .before in
-    (c .before .before .before .before .prefix .kept .1 .1 .0) ∙ (c17 .expression .kept .1 .1 .1 .1 .1 .1 .1 .0)
-
-expression-same-length-12 : (t : ℕ) → expression-lts.Need-same-length-12 (expression-calls t) (expression-at t) expression.Post
-expression-same-length-12 t c =
-    let c17 = c .before .before .before .before .before .before .before .before .before .before .before .before .before .before .before .before .before in
-    (c17 .expression .kept .1 .1 .1 .1 .1 .1 .1 .1 .0)
-
-expression-same-length-13 : (t : ℕ) → expression-lts.Need-same-length-13 (expression-calls t) (expression-at t) expression.Post
-expression-same-length-13 t c =
-    let c17 = c .before .before .before .before .before .before .before .before .before .before .before .before .before .before .before .before .before in
-    (c17 .expression .kept .1 .1 .1 .1 .1 .1 .1 .1 .1 .0)
-
-expression-same-length-14 : (t : ℕ) → expression-lts.Need-same-length-14 (expression-calls t) (expression-at t) expression.Post
-expression-same-length-14 t c =
-    let c17 = c .before .before .before .before .before .before .before .before .before .before .before .before .before .before .before .before .before in
-    (c17 .expression .kept .1 .1 .1 .1 .1 .1 .1 .1 .1 .1 .0)
-
-expression-same-length-15 : (t : ℕ) → expression-lts.Need-same-length-15 (expression-calls t) (expression-at t) expression.Post
-expression-same-length-15 t c =
-    let c17 = c .before .before .before .before .before .before .before .before .before .before .before .before .before .before .before .before .before in
-    (c .before .before .before .before .prefix .kept .1 .1 .1 .0) ∙ (c17 .expression .kept .1 .1 .1 .1 .1 .1 .1 .1 .1 .1 .1 .0)
-
-expression-returns-4 : (t : ℕ) → expression-lts.Need-returns-4 (expression-calls t) (expression-at t) expression.Post
-expression-returns-4 t c =
-    let c17 = c .before .before .before .before .before .before .before .before .before .before .before .before .before .before .before .before .before in
-    let c23 = c17 .before .before .before .before .before .before in
-    let c27 = c23 .before .before .before .before in
-    e.prefix-meets (c27 .field .ensures) (c23 .if5 .taken) (c17 .expression .ensures) (c .before .before .before .before .prefix .ensures)
-
-expression-expressions-requires : (t : ℕ) → expression-lts.Need-expressions-requires (expression-calls t) (expression-at t) expression.Post
-expression-expressions-requires t c κs =
     let c6 = c .before .before .before .before .before .before in
     let c7 = c6 .before in
     let c8 = c7 .before in
-    let c9 = c8 .before in
-    let c12 = c9 .before .before .before in
-    let c13 = c12 .before in
-    let c22 = c13 .before .before .before .before .before .before .before .before .before in
-    omega (arith, c6 .if6, c7 .if5, c8 .if4, c9 .if3, c12 .if2, c13 .if1, c22 .pre)
+    let c11 = c8 .before .before .before in
+    let c12 = c11 .before in
+    let c22 = c12 .before .before .before .before .before .before .before .before .before .before in
+    omega (arith, c6 .if5, c7 .if4, c8 .if3, c11 .if2, c12 .if1, c22 .pre)
 
-expression-same-length-16 : (t : ℕ) → expression-lts.Need-same-length-16 (expression-calls t) (expression-at t) expression.Post
-expression-same-length-16 t c =
-    let c15 = c .before .before .before .before .before .before .before .before .before .before .before .before .before .before .before in
-    (c .before .before .emit .kept .0) ∙ (c15 .expressions .kept .1 .1 .1 .1 .1 .1 .1 .0)
+expression-same-length-11 : (t : ℕ) → expression-lts.Need-same-length-11 (expression-calls t) (expression-at t) expression.Post
+expression-same-length-11 t c =
+    let c18 = c .before .before .before .before .before .before .before .before .before .before .before .before .before .before .before .before .before .before in
+    (c .before .before .before .before .prefix .kept .1 .1 .0) ∙ (c18 .expression .kept .1 .1 .1 .1 .1 .1 .1 .0)
 
-expression-same-length-17 : (t : ℕ) → expression-lts.Need-same-length-17 (expression-calls t) (expression-at t) expression.Post
-expression-same-length-17 t c =
-    let c15 = c .before .before .before .before .before .before .before .before .before .before .before .before .before .before .before in
-    (c15 .expressions .kept .1 .1 .1 .1 .1 .1 .1 .1 .0)
+expression-same-length-12 : (t : ℕ) → expression-lts.Need-same-length-12 (expression-calls t) (expression-at t) expression.Post
+expression-same-length-12 t c =
+    let c18 = c .before .before .before .before .before .before .before .before .before .before .before .before .before .before .before .before .before .before in
+    (c18 .expression .kept .1 .1 .1 .1 .1 .1 .1 .1 .0)
 
-expression-same-length-18 : (t : ℕ) → expression-lts.Need-same-length-18 (expression-calls t) (expression-at t) expression.Post
-expression-same-length-18 t c =
-    let c15 = c .before .before .before .before .before .before .before .before .before .before .before .before .before .before .before in
-    (c15 .expressions .kept .1 .1 .1 .1 .1 .1 .1 .1 .1 .0)
+expression-same-length-13 : (t : ℕ) → expression-lts.Need-same-length-13 (expression-calls t) (expression-at t) expression.Post
+expression-same-length-13 t c =
+    let c18 = c .before .before .before .before .before .before .before .before .before .before .before .before .before .before .before .before .before .before in
+    (c18 .expression .kept .1 .1 .1 .1 .1 .1 .1 .1 .1 .0)
 
-expression-same-length-19 : (t : ℕ) → expression-lts.Need-same-length-19 (expression-calls t) (expression-at t) expression.Post
-expression-same-length-19 t c =
-    let c15 = c .before .before .before .before .before .before .before .before .before .before .before .before .before .before .before in
-    (c15 .expressions .kept .1 .1 .1 .1 .1 .1 .1 .1 .1 .1 .0)
+expression-same-length-14 : (t : ℕ) → expression-lts.Need-same-length-14 (expression-calls t) (expression-at t) expression.Post
+expression-same-length-14 t c =
+    let c18 = c .before .before .before .before .before .before .before .before .before .before .before .before .before .before .before .before .before .before in
+    (c18 .expression .kept .1 .1 .1 .1 .1 .1 .1 .1 .1 .1 .0)
 
-expression-same-length-20 : (t : ℕ) → expression-lts.Need-same-length-20 (expression-calls t) (expression-at t) expression.Post
-expression-same-length-20 t c =
-    let c15 = c .before .before .before .before .before .before .before .before .before .before .before .before .before .before .before in
-    (c15 .expressions .kept .1 .1 .1 .1 .1 .1 .1 .1 .1 .1 .1 .0)
+expression-same-length-15 : (t : ℕ) → expression-lts.Need-same-length-15 (expression-calls t) (expression-at t) expression.Post
+expression-same-length-15 t c =
+    let c18 = c .before .before .before .before .before .before .before .before .before .before .before .before .before .before .before .before .before .before in
+    (c .before .before .before .before .prefix .kept .1 .1 .1 .0) ∙ (c18 .expression .kept .1 .1 .1 .1 .1 .1 .1 .1 .1 .1 .1 .0)
 
-expression-returns-5 : (t : ℕ) → expression-lts.Need-returns-5 (expression-calls t) (expression-at t) expression.Post
-expression-returns-5 t c =
-    let c15 = c .before .before .before .before .before .before .before .before .before .before .before .before .before .before .before in
-    let c21 = c15 .before .before .before .before .before .before in
-    let c22 = c21 .before in
-    let c26 = c22 .before .before .before .before in
-    let c27 = c26 .before in
-    e.array-meets (c27 .field .ensures) (c26 .field2 .ensures) (c22 .if6 .taken) (c21 .count-children .ensures) (c15 .expressions .ensures)
-    (c .before .before .before .before .to-instruction .ensures) (c .before .before .emit .ensures)
+expression-returns-4 : (t : ℕ) → expression-lts.Need-returns-4 (expression-calls t) (expression-at t) expression.Post
+expression-returns-4 t c =
+    let c18 = c .before .before .before .before .before .before .before .before .before .before .before .before .before .before .before .before .before .before in
+    let c25 = c18 .before .before .before .before .before .before .before in
+    let c29 = c25 .before .before .before .before in
+    e.prefix-meets (c29 .field .ensures) (c25 .if5 .taken) (c18 .expression .ensures) (c .before .before .before .before .prefix .ensures)
 
-expression-expression-requires-2 : (t : ℕ) → expression-lts.Need-expression-requires-2 (expression-calls t) (expression-at t) expression.Post
-expression-expression-requires-2 t c κs =
-    let c6 = c .before .before .before .before .before .before in
-    let c14 = c6 .before .before .before .before .before .before .before .before in
-    let c24 = c14 .before .before .before .before .before .before .before .before .before .before in
-    let m = skip-inside (c24 .args .tree .now) (c24 .args .at + 1) (c24 .args .end) (omega (arith, c14 .if2 .taken)) (c6 .skip .ensures) in
-    omega (arith, m, c14 .if2, c24 .pre)
-
-expression-expressions-requires-2 : (t : ℕ) → expression-lts.Need-expressions-requires-2 (expression-calls t) (expression-at t) expression.Post
-expression-expressions-requires-2 t c κs =
-    let c22 = c .before .before .before .before .before .before .before .before .before .before .before .before .before .before .before .before .before .before .before .before .before .before in
-    let c30 = c22 .before .before .before .before .before .before .before .before in
-    let c40 = c30 .before .before .before .before .before .before .before .before .before .before in
-    let m = skip-inside (c40 .args .tree .now) (c40 .args .at + 1) (c40 .args .end) (omega (arith, c30 .if2 .taken)) (c22 .skip .ensures) in
-    omega (arith, m, c30 .if2, c40 .pre)
-
-expression-same-length-21 : (t : ℕ) → expression-lts.Need-same-length-21 (expression-calls t) (expression-at t) expression.Post
-expression-same-length-21 t c =
-    let c15 = c .before .before .before .before .before .before .before .before .before .before .before .before .before .before .before in
-    let c31 = c15 .before .before .before .before .before .before .before .before .before .before .before .before .before .before .before .before in
-    (c .before .before .emit2 .kept .0) ∙ (c15 .expressions2 .kept .1 .1 .1 .1 .1 .1 .1 .0) ∙ (c31 .expression2 .kept .1 .1 .1 .1 .1 .1 .1 .0)
-
-expression-same-length-22 : (t : ℕ) → expression-lts.Need-same-length-22 (expression-calls t) (expression-at t) expression.Post
-expression-same-length-22 t c =
-    let c15 = c .before .before .before .before .before .before .before .before .before .before .before .before .before .before .before in
-    let c31 = c15 .before .before .before .before .before .before .before .before .before .before .before .before .before .before .before .before in
-    (c15 .expressions2 .kept .1 .1 .1 .1 .1 .1 .1 .1 .0) ∙ (c31 .expression2 .kept .1 .1 .1 .1 .1 .1 .1 .1 .0)
-
-expression-same-length-23 : (t : ℕ) → expression-lts.Need-same-length-23 (expression-calls t) (expression-at t) expression.Post
-expression-same-length-23 t c =
-    let c15 = c .before .before .before .before .before .before .before .before .before .before .before .before .before .before .before in
-    let c31 = c15 .before .before .before .before .before .before .before .before .before .before .before .before .before .before .before .before in
-    (c15 .expressions2 .kept .1 .1 .1 .1 .1 .1 .1 .1 .1 .0) ∙ (c31 .expression2 .kept .1 .1 .1 .1 .1 .1 .1 .1 .1 .0)
-
-expression-same-length-24 : (t : ℕ) → expression-lts.Need-same-length-24 (expression-calls t) (expression-at t) expression.Post
-expression-same-length-24 t c =
-    let c15 = c .before .before .before .before .before .before .before .before .before .before .before .before .before .before .before in
-    let c31 = c15 .before .before .before .before .before .before .before .before .before .before .before .before .before .before .before .before in
-    (c15 .expressions2 .kept .1 .1 .1 .1 .1 .1 .1 .1 .1 .1 .0) ∙ (c31 .expression2 .kept .1 .1 .1 .1 .1 .1 .1 .1 .1 .1 .0)
-
-expression-same-length-25 : (t : ℕ) → expression-lts.Need-same-length-25 (expression-calls t) (expression-at t) expression.Post
-expression-same-length-25 t c =
-    let c15 = c .before .before .before .before .before .before .before .before .before .before .before .before .before .before .before in
-    let c31 = c15 .before .before .before .before .before .before .before .before .before .before .before .before .before .before .before .before in
-    (c15 .expressions2 .kept .1 .1 .1 .1 .1 .1 .1 .1 .1 .1 .1 .0) ∙ (c31 .expression2 .kept .1 .1 .1 .1 .1 .1 .1 .1 .1 .1 .1 .0)
-
-expression-returns-6 : (t : ℕ) → expression-lts.Need-returns-6 (expression-calls t) (expression-at t) expression.Post
-expression-returns-6 t c =
-    let c15 = c .before .before .before .before .before .before .before .before .before .before .before .before .before .before .before in
-    let c31 = c15 .before .before .before .before .before .before .before .before .before .before .before .before .before .before .before .before in
-    let c37 = c31 .before .before .before .before .before .before in
-    let c38 = c37 .before in
-    let c39 = c38 .before in
-    let c44 = c39 .before .before .before .before .before in
-    let c45 = c44 .before in
-    e.call-meets (c45 .field .ensures) (c44 .field2 .ensures) (c39 .if7 .taken) (c38 .skip .ensures) (c37 .count-children2 .ensures) (c31 .expression2 .ensures)
-    (c15 .expressions2 .ensures)
-    (c .before .before .before .before .to-instruction2 .ensures) (c .before .before .emit2 .ensures)
-
-expression-two-requires : (t : ℕ) → expression-lts.Need-two-requires (expression-calls t) (expression-at t) expression.Post
-expression-two-requires t c κs =
-    let c5 = c .before .before .before .before .before in
-    let c6 = c5 .before in
-    let c7 = c6 .before in
+expression-expressions-requires : (t : ℕ) → expression-lts.Need-expressions-requires (expression-calls t) (expression-at t) expression.Post
+expression-expressions-requires t c κs =
+    let c7 = c .before .before .before .before .before .before .before in
     let c8 = c7 .before in
     let c9 = c8 .before in
     let c10 = c9 .before in
     let c13 = c10 .before .before .before in
     let c14 = c13 .before in
-    let c23 = c14 .before .before .before .before .before .before .before .before .before in
-    omega (arith, c5 .if8, c6 .if7, c7 .if6, c8 .if5, c9 .if4, c10 .if3, c13 .if2, c14 .if1, c23 .pre)
+    let c24 = c14 .before .before .before .before .before .before .before .before .before .before in
+    omega (arith, c7 .if6, c8 .if5, c9 .if4, c10 .if3, c13 .if2, c14 .if1, c24 .pre)
 
-expression-same-length-26 : (t : ℕ) → expression-lts.Need-same-length-26 (expression-calls t) (expression-at t) expression.Post
-expression-same-length-26 t c =
-    let c14 = c .before .before .before .before .before .before .before .before .before .before .before .before .before .before in
-    (c .before .before .emit-opcode .kept .0) ∙ (c14 .two .kept .1 .1 .1 .1 .1 .1 .1 .0)
+expression-same-length-16 : (t : ℕ) → expression-lts.Need-same-length-16 (expression-calls t) (expression-at t) expression.Post
+expression-same-length-16 t c =
+    let c16 = c .before .before .before .before .before .before .before .before .before .before .before .before .before .before .before .before in
+    (c .before .before .emit .kept .0) ∙ (c16 .expressions .kept .1 .1 .1 .1 .1 .1 .1 .0)
 
-expression-same-length-27 : (t : ℕ) → expression-lts.Need-same-length-27 (expression-calls t) (expression-at t) expression.Post
-expression-same-length-27 t c =
-    let c14 = c .before .before .before .before .before .before .before .before .before .before .before .before .before .before in
-    (c14 .two .kept .1 .1 .1 .1 .1 .1 .1 .1 .0)
+expression-same-length-17 : (t : ℕ) → expression-lts.Need-same-length-17 (expression-calls t) (expression-at t) expression.Post
+expression-same-length-17 t c =
+    let c16 = c .before .before .before .before .before .before .before .before .before .before .before .before .before .before .before .before in
+    (c16 .expressions .kept .1 .1 .1 .1 .1 .1 .1 .1 .0)
 
-expression-same-length-28 : (t : ℕ) → expression-lts.Need-same-length-28 (expression-calls t) (expression-at t) expression.Post
-expression-same-length-28 t c =
-    let c14 = c .before .before .before .before .before .before .before .before .before .before .before .before .before .before in
-    (c14 .two .kept .1 .1 .1 .1 .1 .1 .1 .1 .1 .0)
+expression-same-length-18 : (t : ℕ) → expression-lts.Need-same-length-18 (expression-calls t) (expression-at t) expression.Post
+expression-same-length-18 t c =
+    let c16 = c .before .before .before .before .before .before .before .before .before .before .before .before .before .before .before .before in
+    (c16 .expressions .kept .1 .1 .1 .1 .1 .1 .1 .1 .1 .0)
 
-expression-same-length-29 : (t : ℕ) → expression-lts.Need-same-length-29 (expression-calls t) (expression-at t) expression.Post
-expression-same-length-29 t c =
-    let c14 = c .before .before .before .before .before .before .before .before .before .before .before .before .before .before in
-    (c14 .two .kept .1 .1 .1 .1 .1 .1 .1 .1 .1 .1 .0)
+expression-same-length-19 : (t : ℕ) → expression-lts.Need-same-length-19 (expression-calls t) (expression-at t) expression.Post
+expression-same-length-19 t c =
+    let c16 = c .before .before .before .before .before .before .before .before .before .before .before .before .before .before .before .before in
+    (c16 .expressions .kept .1 .1 .1 .1 .1 .1 .1 .1 .1 .1 .0)
 
-expression-same-length-30 : (t : ℕ) → expression-lts.Need-same-length-30 (expression-calls t) (expression-at t) expression.Post
-expression-same-length-30 t c =
-    let c14 = c .before .before .before .before .before .before .before .before .before .before .before .before .before .before in
-    (c14 .two .kept .1 .1 .1 .1 .1 .1 .1 .1 .1 .1 .1 .0)
+expression-same-length-20 : (t : ℕ) → expression-lts.Need-same-length-20 (expression-calls t) (expression-at t) expression.Post
+expression-same-length-20 t c =
+    let c16 = c .before .before .before .before .before .before .before .before .before .before .before .before .before .before .before .before in
+    (c16 .expressions .kept .1 .1 .1 .1 .1 .1 .1 .1 .1 .1 .1 .0)
 
-expression-returns-7 : (t : ℕ) → expression-lts.Need-returns-7 (expression-calls t) (expression-at t) expression.Post
-expression-returns-7 t c =
-    let c14 = c .before .before .before .before .before .before .before .before .before .before .before .before .before .before in
-    let c20 = c14 .before .before .before .before .before .before in
-    let c26 = c20 .before .before .before .before .before .before in
-    let c27 = c26 .before in
-    e.instance-meets (c27 .field .ensures) (c26 .field2 .ensures) (c20 .if8 .taken) (c14 .two .ensures) (c .before .before .emit-opcode .ensures)
-
-expression-two-requires-2 : (t : ℕ) → expression-lts.Need-two-requires-2 (expression-calls t) (expression-at t) expression.Post
-expression-two-requires-2 t c κs =
+expression-returns-5 : (t : ℕ) → expression-lts.Need-returns-5 (expression-calls t) (expression-at t) expression.Post
+expression-returns-5 t c =
     let c5 = c .before .before .before .before .before in
-    let c6 = c5 .before in
+    let c16 = c5 .before .before .before .before .before .before .before .before .before .before .before in
+    let c23 = c16 .before .before .before .before .before .before .before in
+    let c24 = c23 .before in
+    let c28 = c24 .before .before .before .before in
+    let c29 = c28 .before in
+    e.array-meets (c29 .field .ensures) (c28 .field2 .ensures) (c24 .if6 .taken) (c23 .count-children .ensures) (c16 .expressions .ensures)
+    (c5 .to-instruction .ensures) (c .before .before .emit .ensures)
+
+expression-expression-requires-2 : (t : ℕ) → expression-lts.Need-expression-requires-2 (expression-calls t) (expression-at t) expression.Post
+expression-expression-requires-2 t c κs =
+    let c7 = c .before .before .before .before .before .before .before in
+    let c15 = c7 .before .before .before .before .before .before .before .before in
+    let c26 = c15 .before .before .before .before .before .before .before .before .before .before .before in
+    let m = skip-inside (c26 .args .tree .now) (c26 .args .at + 1) (c26 .args .end) (omega (arith, c15 .if2 .taken)) (c7 .skip .ensures) in
+    omega (arith, m, c15 .if2, c26 .pre)
+
+expression-expressions-requires-2 : (t : ℕ) → expression-lts.Need-expressions-requires-2 (expression-calls t) (expression-at t) expression.Post
+expression-expressions-requires-2 t c κs =
+    let c24 = c .before .before .before .before .before .before .before .before .before .before .before .before .before .before .before .before .before .before .before .before .before .before .before .before in
+    let c32 = c24 .before .before .before .before .before .before .before .before in
+    let c43 = c32 .before .before .before .before .before .before .before .before .before .before .before in
+    let m = skip-inside (c43 .args .tree .now) (c43 .args .at + 1) (c43 .args .end) (omega (arith, c32 .if2 .taken)) (c24 .skip .ensures) in
+    omega (arith, m, c32 .if2, c43 .pre)
+
+expression-same-length-21 : (t : ℕ) → expression-lts.Need-same-length-21 (expression-calls t) (expression-at t) expression.Post
+expression-same-length-21 t c =
+    let c16 = c .before .before .before .before .before .before .before .before .before .before .before .before .before .before .before .before in
+    let c33 = c16 .before .before .before .before .before .before .before .before .before .before .before .before .before .before .before .before .before in
+    (c .before .before .emit2 .kept .0) ∙ (c16 .expressions2 .kept .1 .1 .1 .1 .1 .1 .1 .0) ∙ (c33 .expression2 .kept .1 .1 .1 .1 .1 .1 .1 .0)
+
+expression-same-length-22 : (t : ℕ) → expression-lts.Need-same-length-22 (expression-calls t) (expression-at t) expression.Post
+expression-same-length-22 t c =
+    let c16 = c .before .before .before .before .before .before .before .before .before .before .before .before .before .before .before .before in
+    let c33 = c16 .before .before .before .before .before .before .before .before .before .before .before .before .before .before .before .before .before in
+    (c16 .expressions2 .kept .1 .1 .1 .1 .1 .1 .1 .1 .0) ∙ (c33 .expression2 .kept .1 .1 .1 .1 .1 .1 .1 .1 .0)
+
+expression-same-length-23 : (t : ℕ) → expression-lts.Need-same-length-23 (expression-calls t) (expression-at t) expression.Post
+expression-same-length-23 t c =
+    let c16 = c .before .before .before .before .before .before .before .before .before .before .before .before .before .before .before .before in
+    let c33 = c16 .before .before .before .before .before .before .before .before .before .before .before .before .before .before .before .before .before in
+    (c16 .expressions2 .kept .1 .1 .1 .1 .1 .1 .1 .1 .1 .0) ∙ (c33 .expression2 .kept .1 .1 .1 .1 .1 .1 .1 .1 .1 .0)
+
+expression-same-length-24 : (t : ℕ) → expression-lts.Need-same-length-24 (expression-calls t) (expression-at t) expression.Post
+expression-same-length-24 t c =
+    let c16 = c .before .before .before .before .before .before .before .before .before .before .before .before .before .before .before .before in
+    let c33 = c16 .before .before .before .before .before .before .before .before .before .before .before .before .before .before .before .before .before in
+    (c16 .expressions2 .kept .1 .1 .1 .1 .1 .1 .1 .1 .1 .1 .0) ∙ (c33 .expression2 .kept .1 .1 .1 .1 .1 .1 .1 .1 .1 .1 .0)
+
+expression-same-length-25 : (t : ℕ) → expression-lts.Need-same-length-25 (expression-calls t) (expression-at t) expression.Post
+expression-same-length-25 t c =
+    let c16 = c .before .before .before .before .before .before .before .before .before .before .before .before .before .before .before .before in
+    let c33 = c16 .before .before .before .before .before .before .before .before .before .before .before .before .before .before .before .before .before in
+    (c16 .expressions2 .kept .1 .1 .1 .1 .1 .1 .1 .1 .1 .1 .1 .0) ∙ (c33 .expression2 .kept .1 .1 .1 .1 .1 .1 .1 .1 .1 .1 .1 .0)
+
+expression-returns-6 : (t : ℕ) → expression-lts.Need-returns-6 (expression-calls t) (expression-at t) expression.Post
+expression-returns-6 t c =
+    let c5 = c .before .before .before .before .before in
+    let c16 = c5 .before .before .before .before .before .before .before .before .before .before .before in
+    let c33 = c16 .before .before .before .before .before .before .before .before .before .before .before .before .before .before .before .before .before in
+    let c40 = c33 .before .before .before .before .before .before .before in
+    let c41 = c40 .before in
+    let c42 = c41 .before in
+    let c47 = c42 .before .before .before .before .before in
+    let c48 = c47 .before in
+    e.call-meets (c48 .field .ensures) (c47 .field2 .ensures) (c42 .if7 .taken) (c41 .skip .ensures) (c40 .count-children2 .ensures) (c33 .expression2 .ensures)
+    (c16 .expressions2 .ensures)
+    (c5 .to-instruction2 .ensures) (c .before .before .emit2 .ensures)
+
+expression-two-requires : (t : ℕ) → expression-lts.Need-two-requires (expression-calls t) (expression-at t) expression.Post
+expression-two-requires t c κs =
+    let c6 = c .before .before .before .before .before .before in
     let c7 = c6 .before in
     let c8 = c7 .before in
     let c9 = c8 .before in
@@ -740,41 +724,88 @@ expression-two-requires-2 t c κs =
     let c11 = c10 .before in
     let c14 = c11 .before .before .before in
     let c15 = c14 .before in
-    let c24 = c15 .before .before .before .before .before .before .before .before .before in
-    omega (arith, c5 .if9, c6 .if8, c7 .if7, c8 .if6, c9 .if5, c10 .if4, c11 .if3, c14 .if2, c15 .if1, c24 .pre)
+    let c25 = c15 .before .before .before .before .before .before .before .before .before .before in
+    omega (arith, c6 .if8, c7 .if7, c8 .if6, c9 .if5, c10 .if4, c11 .if3, c14 .if2, c15 .if1, c25 .pre)
+
+expression-same-length-26 : (t : ℕ) → expression-lts.Need-same-length-26 (expression-calls t) (expression-at t) expression.Post
+expression-same-length-26 t c =
+    let c15 = c .before .before .before .before .before .before .before .before .before .before .before .before .before .before .before in
+    (c .before .before .emit-opcode .kept .0) ∙ (c15 .two .kept .1 .1 .1 .1 .1 .1 .1 .0)
+
+expression-same-length-27 : (t : ℕ) → expression-lts.Need-same-length-27 (expression-calls t) (expression-at t) expression.Post
+expression-same-length-27 t c =
+    let c15 = c .before .before .before .before .before .before .before .before .before .before .before .before .before .before .before in
+    (c15 .two .kept .1 .1 .1 .1 .1 .1 .1 .1 .0)
+
+expression-same-length-28 : (t : ℕ) → expression-lts.Need-same-length-28 (expression-calls t) (expression-at t) expression.Post
+expression-same-length-28 t c =
+    let c15 = c .before .before .before .before .before .before .before .before .before .before .before .before .before .before .before in
+    (c15 .two .kept .1 .1 .1 .1 .1 .1 .1 .1 .1 .0)
+
+expression-same-length-29 : (t : ℕ) → expression-lts.Need-same-length-29 (expression-calls t) (expression-at t) expression.Post
+expression-same-length-29 t c =
+    let c15 = c .before .before .before .before .before .before .before .before .before .before .before .before .before .before .before in
+    (c15 .two .kept .1 .1 .1 .1 .1 .1 .1 .1 .1 .1 .0)
+
+expression-same-length-30 : (t : ℕ) → expression-lts.Need-same-length-30 (expression-calls t) (expression-at t) expression.Post
+expression-same-length-30 t c =
+    let c15 = c .before .before .before .before .before .before .before .before .before .before .before .before .before .before .before in
+    (c15 .two .kept .1 .1 .1 .1 .1 .1 .1 .1 .1 .1 .1 .0)
+
+expression-returns-7 : (t : ℕ) → expression-lts.Need-returns-7 (expression-calls t) (expression-at t) expression.Post
+expression-returns-7 t c =
+    let c15 = c .before .before .before .before .before .before .before .before .before .before .before .before .before .before .before in
+    let c22 = c15 .before .before .before .before .before .before .before in
+    let c28 = c22 .before .before .before .before .before .before in
+    let c29 = c28 .before in
+    e.instance-meets (c29 .field .ensures) (c28 .field2 .ensures) (c22 .if8 .taken) (c15 .two .ensures) (c .before .before .emit-opcode .ensures)
+
+expression-two-requires-2 : (t : ℕ) → expression-lts.Need-two-requires-2 (expression-calls t) (expression-at t) expression.Post
+expression-two-requires-2 t c κs =
+    let c6 = c .before .before .before .before .before .before in
+    let c7 = c6 .before in
+    let c8 = c7 .before in
+    let c9 = c8 .before in
+    let c10 = c9 .before in
+    let c11 = c10 .before in
+    let c12 = c11 .before in
+    let c15 = c12 .before .before .before in
+    let c16 = c15 .before in
+    let c26 = c16 .before .before .before .before .before .before .before .before .before .before in
+    omega (arith, c6 .if9, c7 .if8, c8 .if7, c9 .if6, c10 .if5, c11 .if4, c12 .if3, c15 .if2, c16 .if1, c26 .pre)
 
 expression-same-length-31 : (t : ℕ) → expression-lts.Need-same-length-31 (expression-calls t) (expression-at t) expression.Post
 expression-same-length-31 t c =
-    let c14 = c .before .before .before .before .before .before .before .before .before .before .before .before .before .before in
-    (c .before .before .emit-opcode2 .kept .0) ∙ (c14 .two2 .kept .1 .1 .1 .1 .1 .1 .1 .0)
+    let c15 = c .before .before .before .before .before .before .before .before .before .before .before .before .before .before .before in
+    (c .before .before .emit-opcode2 .kept .0) ∙ (c15 .two2 .kept .1 .1 .1 .1 .1 .1 .1 .0)
 
 expression-same-length-32 : (t : ℕ) → expression-lts.Need-same-length-32 (expression-calls t) (expression-at t) expression.Post
 expression-same-length-32 t c =
-    let c14 = c .before .before .before .before .before .before .before .before .before .before .before .before .before .before in
-    (c14 .two2 .kept .1 .1 .1 .1 .1 .1 .1 .1 .0)
+    let c15 = c .before .before .before .before .before .before .before .before .before .before .before .before .before .before .before in
+    (c15 .two2 .kept .1 .1 .1 .1 .1 .1 .1 .1 .0)
 
 expression-same-length-33 : (t : ℕ) → expression-lts.Need-same-length-33 (expression-calls t) (expression-at t) expression.Post
 expression-same-length-33 t c =
-    let c14 = c .before .before .before .before .before .before .before .before .before .before .before .before .before .before in
-    (c14 .two2 .kept .1 .1 .1 .1 .1 .1 .1 .1 .1 .0)
+    let c15 = c .before .before .before .before .before .before .before .before .before .before .before .before .before .before .before in
+    (c15 .two2 .kept .1 .1 .1 .1 .1 .1 .1 .1 .1 .0)
 
 expression-same-length-34 : (t : ℕ) → expression-lts.Need-same-length-34 (expression-calls t) (expression-at t) expression.Post
 expression-same-length-34 t c =
-    let c14 = c .before .before .before .before .before .before .before .before .before .before .before .before .before .before in
-    (c14 .two2 .kept .1 .1 .1 .1 .1 .1 .1 .1 .1 .1 .0)
+    let c15 = c .before .before .before .before .before .before .before .before .before .before .before .before .before .before .before in
+    (c15 .two2 .kept .1 .1 .1 .1 .1 .1 .1 .1 .1 .1 .0)
 
 expression-same-length-35 : (t : ℕ) → expression-lts.Need-same-length-35 (expression-calls t) (expression-at t) expression.Post
 expression-same-length-35 t c =
-    let c14 = c .before .before .before .before .before .before .before .before .before .before .before .before .before .before in
-    (c14 .two2 .kept .1 .1 .1 .1 .1 .1 .1 .1 .1 .1 .1 .0)
+    let c15 = c .before .before .before .before .before .before .before .before .before .before .before .before .before .before .before in
+    (c15 .two2 .kept .1 .1 .1 .1 .1 .1 .1 .1 .1 .1 .1 .0)
 
 expression-returns-8 : (t : ℕ) → expression-lts.Need-returns-8 (expression-calls t) (expression-at t) expression.Post
 expression-returns-8 t c =
-    let c14 = c .before .before .before .before .before .before .before .before .before .before .before .before .before .before in
-    let c20 = c14 .before .before .before .before .before .before in
-    let c27 = c20 .before .before .before .before .before .before .before in
-    let c28 = c27 .before in
-    e.index-meets (c28 .field .ensures) (c27 .field2 .ensures) (c20 .if9 .taken) (c14 .two2 .ensures) (c .before .before .emit-opcode2 .ensures)
+    let c15 = c .before .before .before .before .before .before .before .before .before .before .before .before .before .before .before in
+    let c22 = c15 .before .before .before .before .before .before .before in
+    let c29 = c22 .before .before .before .before .before .before .before in
+    let c30 = c29 .before in
+    e.index-meets (c30 .field .ensures) (c29 .field2 .ensures) (c22 .if9 .taken) (c15 .two2 .ensures) (c .before .before .emit-opcode2 .ensures)
 
 expression-same-length-36 : (t : ℕ) → expression-lts.Need-same-length-36 (expression-calls t) (expression-at t) expression.Post
 expression-same-length-36 t c = (c .before .before .before .before .leaf .kept .1 .1 .1 .1 .1 .1 .0)
@@ -787,15 +818,15 @@ expression-same-length-38 t c = refl
 
 expression-returns-9 : (t : ℕ) → expression-lts.Need-returns-9 (expression-calls t) (expression-at t) expression.Post
 expression-returns-9 t c =
-    let c8 = c .before .before .before .before .before .before .before .before in
-    let c9 = c8 .before in
+    let c9 = c .before .before .before .before .before .before .before .before .before in
     let c10 = c9 .before in
     let c11 = c10 .before in
     let c12 = c11 .before in
     let c13 = c12 .before in
     let c14 = c13 .before in
-    let c16 = c14 .before .before in
-    e.leaf-meets (c16 .field .ensures) (c11 .if6 .left) (c12 .if5 .left) (c14 .if3 .left) (c13 .if4 .left) (c10 .if7 .left) (c9 .if8 .left) (c8 .if9 .left)
+    let c15 = c14 .before in
+    let c17 = c15 .before .before in
+    e.leaf-meets (c17 .field .ensures) (c12 .if6 .left) (c13 .if5 .left) (c15 .if3 .left) (c14 .if4 .left) (c11 .if7 .left) (c10 .if8 .left) (c9 .if9 .left)
     (c .before .before .before .before .leaf .ensures)
 
 expression-returns-10 : (t : ℕ) → expression-lts.Need-returns-10 (expression-calls t) (expression-at t) expression.Post
@@ -806,44 +837,44 @@ expressions-loop-holds t c = (omega arith, refl, refl, refl, refl, refl, λ m h.
 
 expressions-expression-requires : (t : ℕ) → expressions-lts.Need-expression-requires (expressions-calls t) (expressions-at t) expressions.Post expressions-Inv-loop expressions-μ-loop
 expressions-expression-requires t c κs =
-    let c5 = c .before .before .before .before .before in
-    let c6 = c5 .before in
+    let c6 = c .before .before .before .before .before .before in
     let c7 = c6 .before in
-    let c15 = c7 .before .before .before .before .before .before .before .before in
-    let m = skip-more (c15 .args .tree .now) (c7 .loop .i) (c15 .args .end) (c6 .loop-test .taken) (c5 .skip .ensures) in
-    omega (arith, m, c7 .loop .inv .0, c6 .loop-test .taken, c15 .pre)
+    let c8 = c7 .before in
+    let c16 = c8 .before .before .before .before .before .before .before .before in
+    let m = skip-more (c16 .args .tree .now) (c8 .loop .i) (c16 .args .end) (c7 .loop-test .taken) (c6 .skip .ensures) in
+    omega (arith, m, c8 .loop .inv .0, c7 .loop-test .taken, c16 .pre)
 
 expressions-loop-less : (t : ℕ) → expressions-lts.Need-loop-less (expressions-calls t) (expressions-at t) expressions.Post expressions-Inv-loop expressions-μ-loop
 expressions-loop-less t c =
-    let c16 = c .before .before .before .before .before .before .before .before .before .before .before .before .before .before .before .before in
-    let c17 = c16 .before in
+    let c17 = c .before .before .before .before .before .before .before .before .before .before .before .before .before .before .before .before .before in
     let c18 = c17 .before in
-    let c26 = c18 .before .before .before .before .before .before .before .before in
-    let m = skip-more (c26 .args .tree .now) (c18 .loop .i) (c26 .args .end) (c17 .loop-test .taken) (c16 .skip .ensures) in omega (
+    let c19 = c18 .before in
+    let c27 = c19 .before .before .before .before .before .before .before .before in
+    let m = skip-more (c27 .args .tree .now) (c19 .loop .i) (c27 .args .end) (c18 .loop-test .taken) (c17 .skip .ensures) in omega (
       arith,
       m,
-      c17 .loop-test .taken,
+      c18 .loop-test .taken,
     )
 
 expressions-loop-again : (t : ℕ) → expressions-lts.Need-loop-again (expressions-calls t) (expressions-at t) expressions.Post expressions-Inv-loop expressions-μ-loop
 expressions-loop-again t c =
     let c10 = c .before .before .before .before .before .before .before .before .before .before in
-    let c16 = c10 .before .before .before .before .before .before in
-    let c17 = c16 .before in
+    let c17 = c10 .before .before .before .before .before .before .before in
     let c18 = c17 .before in
-    let c26 = c18 .before .before .before .before .before .before .before .before in
-    let m = skip-more (c26 .args .tree .now) (c18 .loop .i) (c26 .args .end) (c17 .loop-test .taken) (c16 .skip .ensures) in (
-      omega (arith, m, c18 .loop .inv .0),
-      omega (arith, c18 .loop .inv .1, c10 .expression .kept),
-      omega (arith, c18 .loop .inv .2, c10 .expression .kept),
-      omega (arith, c18 .loop .inv .3, c10 .expression .kept),
-      omega (arith, c18 .loop .inv .4, c10 .expression .kept),
+    let c19 = c18 .before in
+    let c27 = c19 .before .before .before .before .before .before .before .before in
+    let m = skip-more (c27 .args .tree .now) (c19 .loop .i) (c27 .args .end) (c18 .loop-test .taken) (c17 .skip .ensures) in (
+      omega (arith, m, c19 .loop .inv .0),
+      omega (arith, c19 .loop .inv .1, c10 .expression .kept),
+      omega (arith, c19 .loop .inv .2, c10 .expression .kept),
+      omega (arith, c19 .loop .inv .3, c10 .expression .kept),
+      omega (arith, c19 .loop .inv .4, c10 .expression .kept),
       omega (
         arith,
-        c18 .loop .inv .5,
+        c19 .loop .inv .5,
         c10 .expression .kept,
       ),
-      λ m h. c18 .loop .inv .6 m (e.list-more (c17 .loop-test .taken) (c16 .skip .ensures) (c10 .expression .ensures) h),
+      λ m h. c19 .loop .inv .6 m (e.list-more (c18 .loop-test .taken) (c17 .skip .ensures) (c10 .expression .ensures) h),
     )
 
 expressions-same-length : (t : ℕ) → expressions-lts.Need-same-length (expressions-calls t) (expressions-at t) expressions.Post expressions-Inv-loop expressions-μ-loop
@@ -866,9 +897,9 @@ expressions-returns t c = c .before .loop .inv .6 _ (e.list-end (c .loop-test .l
 
 false-part-block-requires : (t : ℕ) → false-part-lts.Need-block-requires (false-part-calls t) (false-part-at t) false-part.Post
 false-part-block-requires t c κs =
-    let c5 = c .before .before .before .before .before in
-    let c13 = c5 .before .before .before .before .before .before .before .before in
-    omega (arith, c5 .if1, c13 .pre)
+    let c6 = c .before .before .before .before .before .before in
+    let c14 = c6 .before .before .before .before .before .before .before .before in
+    omega (arith, c6 .if1, c14 .pre)
 
 false-part-same-length : (t : ℕ) → false-part-lts.Need-same-length (false-part-calls t) (false-part-at t) false-part.Post
 false-part-same-length t c =
@@ -898,81 +929,85 @@ false-part-same-length-5 t c =
 false-part-returns : (t : ℕ) → false-part-lts.Need-returns (false-part-calls t) (false-part-at t) false-part.Post
 false-part-returns t c =
     let c10 = c .before .before .before .before .before .before .before .before .before .before in
-    let c16 = c10 .before .before .before .before .before .before in
-    f.false-block (c16 .if1 .taken) (c10 .block .ensures)
+    let c17 = c10 .before .before .before .before .before .before .before in
+    f.false-block (c17 .if1 .taken) (c10 .block .ensures)
 
 false-part-same-length-6 : (t : ℕ) → false-part-lts.Need-same-length-6 (false-part-calls t) (false-part-at t) false-part.Post
 false-part-same-length-6 t c = omega (arith, c .before .before .emit-null .kept)
 
 false-part-returns-2 : (t : ℕ) → false-part-lts.Need-returns-2 (false-part-calls t) (false-part-at t) false-part.Post
-false-part-returns-2 t c = f.false-none (c .before .before .before .before .if1 .left) (c .before .before .emit-null .ensures)
+false-part-returns-2 t c =
+    let c5 = c .before .before .before .before .before in
+    f.false-none (c5 .if1 .left) (c .before .before .emit-null .ensures)
 
 for-part-expression-requires : (t : ℕ) → for-part-lts.Need-expression-requires (for-part-calls t) (for-part-at t) for-part.Post
 for-part-expression-requires t c κs =
-    let c6 = c .before .before .before .before .before .before in
-    let c7 = c6 .before in
-    let c16 = c7 .before .before .before .before .before .before .before .before .before in
-    let b = skip-inside (c16 .args .tree .now) (c16 .args .at + 2) (c16 .args .end) (omega (arith, c7 .if2 .taken)) (c6 .skip .ensures) in
-    omega (arith, b, c7 .if2, c16 .pre)
+    let c10 = c .before .before .before .before .before .before .before .before .before .before in
+    let c11 = c10 .before in
+    let c20 = c11 .before .before .before .before .before .before .before .before .before in
+    let b = skip-inside (c20 .args .tree .now) (c20 .args .at + 2) (c20 .args .end) (omega (arith, c11 .if2 .taken)) (c10 .skip .ensures) in
+    omega (arith, b, c11 .if2, c20 .pre)
 
 for-part-statements-requires : (t : ℕ) → for-part-lts.Need-statements-requires (for-part-calls t) (for-part-at t) for-part.Post
 for-part-statements-requires t c κs =
-    let c37 = c .before .before .before .before .before .before .before .before .before .before .before .before .before .before .before .before .before .before .before .before .before .before .before .before .before .before .before .before .before .before .before .before .before .before .before .before .before in
-    let c38 = c37 .before in
-    let c47 = c38 .before .before .before .before .before .before .before .before .before in
-    let b = skip-inside (c47 .args .tree .now) (c47 .args .at + 2) (c47 .args .end) (omega (arith, c38 .if2 .taken)) (c37 .skip .ensures) in
-    omega (arith, b, c38 .if2, c47 .pre)
+    let c43 = c .before .before .before .before .before .before .before .before .before .before .before .before .before .before .before .before .before .before .before .before .before .before .before .before .before .before .before .before .before .before .before .before .before .before .before .before .before .before .before .before .before .before .before in
+    let c44 = c43 .before in
+    let c53 = c44 .before .before .before .before .before .before .before .before .before in
+    let b = skip-inside (c53 .args .tree .now) (c53 .args .at + 2) (c53 .args .end) (omega (arith, c44 .if2 .taken)) (c43 .skip .ensures) in
+    omega (arith, b, c44 .if2, c53 .pre)
 
 for-part-same-length : (t : ℕ) → for-part-lts.Need-same-length (for-part-calls t) (for-part-at t) for-part.Post
 for-part-same-length t c =
     let c6 = c .before .before .before .before .before .before in
-    let c20 = c6 .before .before .before .before .before .before .before .before .before .before .before .before .before .before in
-    let c31 = c20 .before .before .before .before .before .before .before .before .before .before .before in
-    let c38 = c31 .before .before .before .before .before .before .before in
-    let c51 = c38 .before .before .before .before .before .before .before .before .before .before .before .before .before in
-    (c6 .loop-end .kept .0) ∙ (c20 .statements .kept .1 .1 .1 .1 .1 .1 .1 .0) ∙ (c31 .loop-name .kept .1 .1 .1 .0) ∙ (c38 .loop-head .kept .1 .1 .0) ∙
-    (c51 .expression .kept .1 .1 .1 .1 .1 .1 .1 .0)
+    let c21 = c6 .before .before .before .before .before .before .before .before .before .before .before .before .before .before .before in
+    let c32 = c21 .before .before .before .before .before .before .before .before .before .before .before in
+    let c40 = c32 .before .before .before .before .before .before .before .before in
+    let c54 = c40 .before .before .before .before .before .before .before .before .before .before .before .before .before .before in
+    (c6 .loop-end .kept .0) ∙ (c21 .statements .kept .1 .1 .1 .1 .1 .1 .1 .0) ∙ (c32 .loop-name .kept .1 .1 .1 .0) ∙ (c40 .loop-head .kept .1 .1 .0) ∙
+    (c54 .expression .kept .1 .1 .1 .1 .1 .1 .1 .0)
 
 for-part-same-length-2 : (t : ℕ) → for-part-lts.Need-same-length-2 (for-part-calls t) (for-part-at t) for-part.Post
 for-part-same-length-2 t c =
-    let c20 = c .before .before .before .before .before .before .before .before .before .before .before .before .before .before .before .before .before .before .before .before in
-    let c38 = c20 .before .before .before .before .before .before .before .before .before .before .before .before .before .before .before .before .before .before in
-    let c51 = c38 .before .before .before .before .before .before .before .before .before .before .before .before .before in
-    (c20 .statements .kept .1 .1 .1 .1 .1 .1 .1 .1 .0) ∙ (c38 .loop-head .kept .1 .1 .1 .0) ∙ (c51 .expression .kept .1 .1 .1 .1 .1 .1 .1 .1 .0)
+    let c21 = c .before .before .before .before .before .before .before .before .before .before .before .before .before .before .before .before .before .before .before .before .before in
+    let c40 = c21 .before .before .before .before .before .before .before .before .before .before .before .before .before .before .before .before .before .before .before in
+    let c54 = c40 .before .before .before .before .before .before .before .before .before .before .before .before .before .before in
+    (c21 .statements .kept .1 .1 .1 .1 .1 .1 .1 .1 .0) ∙ (c40 .loop-head .kept .1 .1 .1 .0) ∙ (c54 .expression .kept .1 .1 .1 .1 .1 .1 .1 .1 .0)
 
 for-part-same-length-3 : (t : ℕ) → for-part-lts.Need-same-length-3 (for-part-calls t) (for-part-at t) for-part.Post
 for-part-same-length-3 t c =
     let c6 = c .before .before .before .before .before .before in
-    let c20 = c6 .before .before .before .before .before .before .before .before .before .before .before .before .before .before in
-    let c31 = c20 .before .before .before .before .before .before .before .before .before .before .before in
-    let c51 = c31 .before .before .before .before .before .before .before .before .before .before .before .before .before .before .before .before .before .before .before .before in
-    (c6 .loop-end .kept .1 .0) ∙ (c20 .statements .kept .1 .1 .1 .1 .1 .1 .1 .1 .1 .0) ∙ (c31 .loop-name .kept .1 .1 .1 .1 .0) ∙
-    (c51 .expression .kept .1 .1 .1 .1 .1 .1 .1 .1 .1 .0)
+    let c21 = c6 .before .before .before .before .before .before .before .before .before .before .before .before .before .before .before in
+    let c32 = c21 .before .before .before .before .before .before .before .before .before .before .before in
+    let c54 = c32 .before .before .before .before .before .before .before .before .before .before .before .before .before .before .before .before .before .before .before .before .before .before in
+    (c6 .loop-end .kept .1 .0) ∙ (c21 .statements .kept .1 .1 .1 .1 .1 .1 .1 .1 .1 .0) ∙ (c32 .loop-name .kept .1 .1 .1 .1 .0) ∙
+    (c54 .expression .kept .1 .1 .1 .1 .1 .1 .1 .1 .1 .0)
 
 for-part-same-length-4 : (t : ℕ) → for-part-lts.Need-same-length-4 (for-part-calls t) (for-part-at t) for-part.Post
 for-part-same-length-4 t c =
     let c6 = c .before .before .before .before .before .before in
-    let c20 = c6 .before .before .before .before .before .before .before .before .before .before .before .before .before .before in
-    let c51 = c20 .before .before .before .before .before .before .before .before .before .before .before .before .before .before .before .before .before .before .before .before .before .before .before .before .before .before .before .before .before .before .before in
-    (c6 .loop-end .kept .1 .1 .0) ∙ (c20 .statements .kept .1 .1 .1 .1 .1 .1 .1 .1 .1 .1 .0) ∙ (c51 .expression .kept .1 .1 .1 .1 .1 .1 .1 .1 .1 .1 .0)
+    let c21 = c6 .before .before .before .before .before .before .before .before .before .before .before .before .before .before .before in
+    let c54 = c21 .before .before .before .before .before .before .before .before .before .before .before .before .before .before .before .before .before .before .before .before .before .before .before .before .before .before .before .before .before .before .before .before .before in
+    (c6 .loop-end .kept .1 .1 .0) ∙ (c21 .statements .kept .1 .1 .1 .1 .1 .1 .1 .1 .1 .1 .0) ∙ (c54 .expression .kept .1 .1 .1 .1 .1 .1 .1 .1 .1 .1 .0)
 
 for-part-same-length-5 : (t : ℕ) → for-part-lts.Need-same-length-5 (for-part-calls t) (for-part-at t) for-part.Post
 for-part-same-length-5 t c =
-    let c20 = c .before .before .before .before .before .before .before .before .before .before .before .before .before .before .before .before .before .before .before .before in
-    let c51 = c20 .before .before .before .before .before .before .before .before .before .before .before .before .before .before .before .before .before .before .before .before .before .before .before .before .before .before .before .before .before .before .before in
-    (c20 .statements .kept .1 .1 .1 .1 .1 .1 .1 .1 .1 .1 .1 .0) ∙ (c51 .expression .kept .1 .1 .1 .1 .1 .1 .1 .1 .1 .1 .1 .0)
+    let c21 = c .before .before .before .before .before .before .before .before .before .before .before .before .before .before .before .before .before .before .before .before .before in
+    let c54 = c21 .before .before .before .before .before .before .before .before .before .before .before .before .before .before .before .before .before .before .before .before .before .before .before .before .before .before .before .before .before .before .before .before .before in
+    (c21 .statements .kept .1 .1 .1 .1 .1 .1 .1 .1 .1 .1 .1 .0) ∙ (c54 .expression .kept .1 .1 .1 .1 .1 .1 .1 .1 .1 .1 .1 .0)
 
 for-part-returns : (t : ℕ) → for-part-lts.Need-returns (for-part-calls t) (for-part-at t) for-part.Post
 for-part-returns t c =
     let c6 = c .before .before .before .before .before .before in
-    let c20 = c6 .before .before .before .before .before .before .before .before .before .before .before .before .before .before in
-    let c31 = c20 .before .before .before .before .before .before .before .before .before .before .before in
-    let c38 = c31 .before .before .before .before .before .before .before in
-    let c51 = c38 .before .before .before .before .before .before .before .before .before .before .before .before .before in
-    let c57 = c51 .before .before .before .before .before .before in
-    let c58 = c57 .before in
-    for-meets (c58 .skip .ensures) (c57 .loop-start .ensures) (c51 .expression .ensures) (c38 .loop-head .ensures) (c31 .loop-name .ensures)
-    (c20 .statements .ensures) (c6 .loop-end .ensures)
+    let c21 = c6 .before .before .before .before .before .before .before .before .before .before .before .before .before .before .before in
+    let c32 = c21 .before .before .before .before .before .before .before .before .before .before .before in
+    let c40 = c32 .before .before .before .before .before .before .before .before in
+    let c54 = c40 .before .before .before .before .before .before .before .before .before .before .before .before .before .before in
+    let c61 = c54 .before .before .before .before .before .before .before in
+    let c63 = c61 .before .before in
+    let c65 = c63 .before .before in
+    rw (← (c63 .load .ensures)) (for-meets (c65 .skip .ensures) (rw (← (c63 .load .ensures)) at (c61 .loop-start .ensures)) (c54 .expression .ensures)
+    (c40 .loop-head .ensures)
+    (c32 .loop-name .ensures) (c21 .statements .ensures) (c6 .loop-end .ensures))
 
 for-part-returns-2 : (t : ℕ) → for-part-lts.Need-returns-2 (for-part-calls t) (for-part-at t) for-part.Post
 for-part-returns-2 t c = for-past (c .if2 .left)
@@ -982,93 +1017,94 @@ for-part-returns-3 t c = for-past (omega (arith, c .if1 .left))
 
 if-part-expression-requires : (t : ℕ) → if-part-lts.Need-expression-requires (if-part-calls t) (if-part-at t) if-part.Post
 if-part-expression-requires t c κs =
-    let c6 = c .before .before .before .before .before .before in
-    let c7 = c6 .before in
-    let c15 = c7 .before .before .before .before .before .before .before .before in
-    let y = skip-inside (c15 .args .tree .now) (c15 .args .at + 1) (c15 .args .end) (omega (arith, c7 .if1 .taken)) (c6 .skip .ensures) in
-    omega (arith, y, c7 .if1, c15 .pre)
+    let c7 = c .before .before .before .before .before .before .before in
+    let c8 = c7 .before in
+    let c16 = c8 .before .before .before .before .before .before .before .before in
+    let y = skip-inside (c16 .args .tree .now) (c16 .args .at + 1) (c16 .args .end) (omega (arith, c8 .if1 .taken)) (c7 .skip .ensures) in
+    omega (arith, y, c8 .if1, c16 .pre)
 
 if-part-false-part-requires : (t : ℕ) → if-part-lts.Need-false-part-requires (if-part-calls t) (if-part-at t) if-part.Post
 if-part-false-part-requires t c κs =
-    let c26 = c .before .before .before .before .before .before .before .before .before .before .before .before .before .before .before .before .before .before .before .before .before .before .before .before .before .before in
-    let c27 = c26 .before in
-    let c28 = c27 .before in
-    let c36 = c28 .before .before .before .before .before .before .before .before in
-    let y = skip-inside (c36 .args .tree .now) (c36 .args .at + 1) (c36 .args .end) (omega (arith, c28 .if1 .taken)) (c27 .skip .ensures) in
-    let n = skip-inside (c36 .args .tree .now) (c27 .skip .result) (c36 .args .end) (y .1) (c26 .skip2 .ensures) in omega (arith, y, n, c28 .if1, c36 .pre)
+    let c30 = c .before .before .before .before .before .before .before .before .before .before .before .before .before .before .before .before .before .before .before .before .before .before .before .before .before .before .before .before .before .before in
+    let c31 = c30 .before in
+    let c32 = c31 .before in
+    let c40 = c32 .before .before .before .before .before .before .before .before in
+    let y = skip-inside (c40 .args .tree .now) (c40 .args .at + 1) (c40 .args .end) (omega (arith, c32 .if1 .taken)) (c31 .skip .ensures) in
+    let n = skip-inside (c40 .args .tree .now) (c31 .skip .result) (c40 .args .end) (y .1) (c30 .skip2 .ensures) in omega (arith, y, n, c32 .if1, c40 .pre)
 
 if-part-block-requires : (t : ℕ) → if-part-lts.Need-block-requires (if-part-calls t) (if-part-at t) if-part.Post
 if-part-block-requires t c κs =
-    let c53 = c .before .before .before .before .before .before .before .before .before .before .before .before .before .before .before .before .before .before .before .before .before .before .before .before .before .before .before .before .before .before .before .before .before .before .before .before .before .before .before .before .before .before .before .before .before .before .before .before .before .before .before .before .before in
-    let c54 = c53 .before in
-    let c55 = c54 .before in
-    let c63 = c55 .before .before .before .before .before .before .before .before in
-    let y = skip-inside (c63 .args .tree .now) (c63 .args .at + 1) (c63 .args .end) (omega (arith, c55 .if1 .taken)) (c54 .skip .ensures) in
-    let n = skip-inside (c63 .args .tree .now) (c54 .skip .result) (c63 .args .end) (y .1) (c53 .skip2 .ensures) in omega (arith, y, n, c55 .if1, c63 .pre)
+    let c62 = c .before .before .before .before .before .before .before .before .before .before .before .before .before .before .before .before .before .before .before .before .before .before .before .before .before .before .before .before .before .before .before .before .before .before .before .before .before .before .before .before .before .before .before .before .before .before .before .before .before .before .before .before .before .before .before .before .before .before .before .before .before .before in
+    let c63 = c62 .before in
+    let c64 = c63 .before in
+    let c72 = c64 .before .before .before .before .before .before .before .before in
+    let y = skip-inside (c72 .args .tree .now) (c72 .args .at + 1) (c72 .args .end) (omega (arith, c64 .if1 .taken)) (c63 .skip .ensures) in
+    let n = skip-inside (c72 .args .tree .now) (c63 .skip .result) (c72 .args .end) (y .1) (c62 .skip2 .ensures) in omega (arith, y, n, c64 .if1, c72 .pre)
 
 if-part-same-length : (t : ℕ) → if-part-lts.Need-same-length (if-part-calls t) (if-part-at t) if-part.Post
 if-part-same-length t c =
-    let c16 = c .before .before .before .before .before .before .before .before .before .before .before .before .before .before .before .before in
-    let c24 = c16 .before .before .before .before .before .before .before .before in
-    let c30 = c24 .before .before .before .before .before .before in
-    let c43 = c30 .before .before .before .before .before .before .before .before .before .before .before .before .before in
-    let c51 = c43 .before .before .before .before .before .before .before .before in
-    let c64 = c51 .before .before .before .before .before .before .before .before .before .before .before .before .before in
-    (c .before .before .replace-instruction2 .kept .0) ∙ (c16 .block .kept .1 .1 .1 .1 .1 .1 .1 .0) ∙ (c24 .replace-instruction .kept .0) ∙
-    (c30 .emit-opcode-without-position2 .kept .0) ∙ (c43 .false-part .kept .1 .1 .1 .1 .1 .1 .1 .0) ∙ (c51 .emit-opcode-without-position .kept .0) ∙
-    (c64 .expression .kept .1 .1 .1 .1 .1 .1 .1 .0)
+    let c18 = c .before .before .before .before .before .before .before .before .before .before .before .before .before .before .before .before .before .before in
+    let c27 = c18 .before .before .before .before .before .before .before .before .before in
+    let c35 = c27 .before .before .before .before .before .before .before .before in
+    let c50 = c35 .before .before .before .before .before .before .before .before .before .before .before .before .before .before .before in
+    let c59 = c50 .before .before .before .before .before .before .before .before .before in
+    let c74 = c59 .before .before .before .before .before .before .before .before .before .before .before .before .before .before .before in
+    (c .before .before .replace-instruction2 .kept .0) ∙ (c18 .block .kept .1 .1 .1 .1 .1 .1 .1 .0) ∙ (c27 .replace-instruction .kept .0) ∙
+    (c35 .emit-opcode-without-position2 .kept .0) ∙ (c50 .false-part .kept .1 .1 .1 .1 .1 .1 .1 .0) ∙ (c59 .emit-opcode-without-position .kept .0) ∙
+    (c74 .expression .kept .1 .1 .1 .1 .1 .1 .1 .0)
 
 if-part-same-length-2 : (t : ℕ) → if-part-lts.Need-same-length-2 (if-part-calls t) (if-part-at t) if-part.Post
 if-part-same-length-2 t c =
-    let c16 = c .before .before .before .before .before .before .before .before .before .before .before .before .before .before .before .before in
-    let c43 = c16 .before .before .before .before .before .before .before .before .before .before .before .before .before .before .before .before .before .before .before .before .before .before .before .before .before .before .before in
-    let c64 = c43 .before .before .before .before .before .before .before .before .before .before .before .before .before .before .before .before .before .before .before .before .before in
-    (c16 .block .kept .1 .1 .1 .1 .1 .1 .1 .1 .0) ∙ (c43 .false-part .kept .1 .1 .1 .1 .1 .1 .1 .1 .0) ∙ (c64 .expression .kept .1 .1 .1 .1 .1 .1 .1 .1 .0)
+    let c18 = c .before .before .before .before .before .before .before .before .before .before .before .before .before .before .before .before .before .before in
+    let c50 = c18 .before .before .before .before .before .before .before .before .before .before .before .before .before .before .before .before .before .before .before .before .before .before .before .before .before .before .before .before .before .before .before .before in
+    let c74 = c50 .before .before .before .before .before .before .before .before .before .before .before .before .before .before .before .before .before .before .before .before .before .before .before .before in
+    (c18 .block .kept .1 .1 .1 .1 .1 .1 .1 .1 .0) ∙ (c50 .false-part .kept .1 .1 .1 .1 .1 .1 .1 .1 .0) ∙ (c74 .expression .kept .1 .1 .1 .1 .1 .1 .1 .1 .0)
 
 if-part-same-length-3 : (t : ℕ) → if-part-lts.Need-same-length-3 (if-part-calls t) (if-part-at t) if-part.Post
 if-part-same-length-3 t c =
-    let c16 = c .before .before .before .before .before .before .before .before .before .before .before .before .before .before .before .before in
-    let c43 = c16 .before .before .before .before .before .before .before .before .before .before .before .before .before .before .before .before .before .before .before .before .before .before .before .before .before .before .before in
-    let c64 = c43 .before .before .before .before .before .before .before .before .before .before .before .before .before .before .before .before .before .before .before .before .before in
-    (c16 .block .kept .1 .1 .1 .1 .1 .1 .1 .1 .1 .0) ∙ (c43 .false-part .kept .1 .1 .1 .1 .1 .1 .1 .1 .1 .0) ∙
-    (c64 .expression .kept .1 .1 .1 .1 .1 .1 .1 .1 .1 .0)
+    let c18 = c .before .before .before .before .before .before .before .before .before .before .before .before .before .before .before .before .before .before in
+    let c50 = c18 .before .before .before .before .before .before .before .before .before .before .before .before .before .before .before .before .before .before .before .before .before .before .before .before .before .before .before .before .before .before .before .before in
+    let c74 = c50 .before .before .before .before .before .before .before .before .before .before .before .before .before .before .before .before .before .before .before .before .before .before .before .before in
+    (c18 .block .kept .1 .1 .1 .1 .1 .1 .1 .1 .1 .0) ∙ (c50 .false-part .kept .1 .1 .1 .1 .1 .1 .1 .1 .1 .0) ∙
+    (c74 .expression .kept .1 .1 .1 .1 .1 .1 .1 .1 .1 .0)
 
 if-part-same-length-4 : (t : ℕ) → if-part-lts.Need-same-length-4 (if-part-calls t) (if-part-at t) if-part.Post
 if-part-same-length-4 t c =
-    let c16 = c .before .before .before .before .before .before .before .before .before .before .before .before .before .before .before .before in
-    let c43 = c16 .before .before .before .before .before .before .before .before .before .before .before .before .before .before .before .before .before .before .before .before .before .before .before .before .before .before .before in
-    let c64 = c43 .before .before .before .before .before .before .before .before .before .before .before .before .before .before .before .before .before .before .before .before .before in
-    (c16 .block .kept .1 .1 .1 .1 .1 .1 .1 .1 .1 .1 .0) ∙ (c43 .false-part .kept .1 .1 .1 .1 .1 .1 .1 .1 .1 .1 .0) ∙
-    (c64 .expression .kept .1 .1 .1 .1 .1 .1 .1 .1 .1 .1 .0)
+    let c18 = c .before .before .before .before .before .before .before .before .before .before .before .before .before .before .before .before .before .before in
+    let c50 = c18 .before .before .before .before .before .before .before .before .before .before .before .before .before .before .before .before .before .before .before .before .before .before .before .before .before .before .before .before .before .before .before .before in
+    let c74 = c50 .before .before .before .before .before .before .before .before .before .before .before .before .before .before .before .before .before .before .before .before .before .before .before .before in
+    (c18 .block .kept .1 .1 .1 .1 .1 .1 .1 .1 .1 .1 .0) ∙ (c50 .false-part .kept .1 .1 .1 .1 .1 .1 .1 .1 .1 .1 .0) ∙
+    (c74 .expression .kept .1 .1 .1 .1 .1 .1 .1 .1 .1 .1 .0)
 
 if-part-same-length-5 : (t : ℕ) → if-part-lts.Need-same-length-5 (if-part-calls t) (if-part-at t) if-part.Post
 if-part-same-length-5 t c =
-    let c16 = c .before .before .before .before .before .before .before .before .before .before .before .before .before .before .before .before in
-    let c43 = c16 .before .before .before .before .before .before .before .before .before .before .before .before .before .before .before .before .before .before .before .before .before .before .before .before .before .before .before in
-    let c64 = c43 .before .before .before .before .before .before .before .before .before .before .before .before .before .before .before .before .before .before .before .before .before in
-    (c16 .block .kept .1 .1 .1 .1 .1 .1 .1 .1 .1 .1 .1 .0) ∙ (c43 .false-part .kept .1 .1 .1 .1 .1 .1 .1 .1 .1 .1 .1 .0) ∙
-    (c64 .expression .kept .1 .1 .1 .1 .1 .1 .1 .1 .1 .1 .1 .0)
+    let c18 = c .before .before .before .before .before .before .before .before .before .before .before .before .before .before .before .before .before .before in
+    let c50 = c18 .before .before .before .before .before .before .before .before .before .before .before .before .before .before .before .before .before .before .before .before .before .before .before .before .before .before .before .before .before .before .before .before in
+    let c74 = c50 .before .before .before .before .before .before .before .before .before .before .before .before .before .before .before .before .before .before .before .before .before .before .before .before in
+    (c18 .block .kept .1 .1 .1 .1 .1 .1 .1 .1 .1 .1 .1 .0) ∙ (c50 .false-part .kept .1 .1 .1 .1 .1 .1 .1 .1 .1 .1 .1 .0) ∙
+    (c74 .expression .kept .1 .1 .1 .1 .1 .1 .1 .1 .1 .1 .1 .0)
 
 if-part-returns : (t : ℕ) → if-part-lts.Need-returns (if-part-calls t) (if-part-at t) if-part.Post
 if-part-returns t c =
     let c5 = c .before .before .before .before .before in
-    let c16 = c5 .before .before .before .before .before .before .before .before .before .before .before in
-    let c24 = c16 .before .before .before .before .before .before .before .before in
-    let c26 = c24 .before .before in
-    let c27 = c26 .before in
+    let c6 = c5 .before in
+    let c18 = c6 .before .before .before .before .before .before .before .before .before .before .before .before in
+    let c27 = c18 .before .before .before .before .before .before .before .before .before in
     let c30 = c27 .before .before .before in
-    let c32 = c30 .before .before in
-    let c43 = c32 .before .before .before .before .before .before .before .before .before .before .before in
-    let c51 = c43 .before .before .before .before .before .before .before .before in
-    let c53 = c51 .before .before in
-    let c64 = c53 .before .before .before .before .before .before .before .before .before .before .before in
-    let c70 = c64 .before .before .before .before .before .before in
-    let c71 = c70 .before in
-    f.if-meets (c71 .skip .ensures) (c70 .skip2 .ensures) (c64 .expression .ensures) (c53 .get-next-instruction-index .ensures)
-    (c51 .emit-opcode-without-position .ensures) (c43 .false-part .ensures)
-    (c32 .get-next-instruction-index2 .ensures) (c30 .emit-opcode-without-position2 .ensures) (c27 .get-next-instruction-index3 .ensures)
-    (c26 .to-instruction .ensures) (c24 .replace-instruction .ensures) (c16 .block .ensures)
-    (c5 .get-next-instruction-index4 .ensures) (c .before .before .before .before .to-instruction2 .ensures) (c .before .before .replace-instruction2 .ensures)
+    let c31 = c30 .before in
+    let c35 = c31 .before .before .before .before in
+    let c38 = c35 .before .before .before in
+    let c50 = c38 .before .before .before .before .before .before .before .before .before .before .before .before in
+    let c59 = c50 .before .before .before .before .before .before .before .before .before in
+    let c62 = c59 .before .before .before in
+    let c74 = c62 .before .before .before .before .before .before .before .before .before .before .before .before in
+    let c81 = c74 .before .before .before .before .before .before .before in
+    let c82 = c81 .before in
+    f.if-meets (c82 .skip .ensures) (c81 .skip2 .ensures) (c74 .expression .ensures) (c62 .get-next-instruction-index .ensures)
+    (c59 .emit-opcode-without-position .ensures) (c50 .false-part .ensures)
+    (c38 .get-next-instruction-index2 .ensures) (c35 .emit-opcode-without-position2 .ensures) (c31 .get-next-instruction-index3 .ensures)
+    (c30 .to-instruction .ensures) (c27 .replace-instruction .ensures) (c18 .block .ensures)
+    (c6 .get-next-instruction-index4 .ensures) (c5 .to-instruction2 .ensures) (c .before .before .replace-instruction2 .ensures)
 
 if-part-returns-2 : (t : ℕ) → if-part-lts.Need-returns-2 (if-part-calls t) (if-part-at t) if-part.Post
 if-part-returns-2 t c = e.kind-past (c .if1 .left)
@@ -1080,74 +1116,74 @@ infix-part-add-skip t c =
 
 infix-part-expression-requires : (t : ℕ) → infix-part-lts.Need-expression-requires (infix-part-calls t) (infix-part-at t) infix-part.Post
 infix-part-expression-requires t c κs =
-    let c6 = c .before .before .before .before .before .before in
-    let c9 = c6 .before .before .before in
-    let c17 = c9 .before .before .before .before .before .before .before .before in
-    let m = skip-inside (c17 .args .tree .now) (c17 .args .at + 1) (c17 .args .end) (omega (arith, c9 .if1 .taken)) (c6 .skip .ensures) in
-    omega (arith, m, c9 .if1, c17 .pre)
+    let c7 = c .before .before .before .before .before .before .before in
+    let c10 = c7 .before .before .before in
+    let c18 = c10 .before .before .before .before .before .before .before .before in
+    let m = skip-inside (c18 .args .tree .now) (c18 .args .at + 1) (c18 .args .end) (omega (arith, c10 .if1 .taken)) (c7 .skip .ensures) in
+    omega (arith, m, c10 .if1, c18 .pre)
 
 infix-part-add-target : (t : ℕ) → infix-part-lts.Need-add-target (infix-part-calls t) (infix-part-at t) infix-part.Post
 infix-part-add-target t c =
-    let c20 = c .before .before .before .before .before .before .before .before .before .before .before .before .before .before .before .before .before .before .before .before in
-    let c28 = c20 .before .before .before .before .before .before .before .before in
-    omega (arith, c20 .if1 .taken, c28 .fits)
+    let c21 = c .before .before .before .before .before .before .before .before .before .before .before .before .before .before .before .before .before .before .before .before .before in
+    let c29 = c21 .before .before .before .before .before .before .before .before in
+    omega (arith, c21 .if1 .taken, c29 .fits)
 
 infix-part-target-requires : (t : ℕ) → infix-part-lts.Need-target-requires (infix-part-calls t) (infix-part-at t) infix-part.Post
 infix-part-target-requires t c κs =
-    let c22 = c .before .before .before .before .before .before .before .before .before .before .before .before .before .before .before .before .before .before .before .before .before .before in
-    let c25 = c22 .before .before .before in
-    let c33 = c25 .before .before .before .before .before .before .before .before in
-    let m = skip-inside (c33 .args .tree .now) (c33 .args .at + 1) (c33 .args .end) (omega (arith, c25 .if1 .taken)) (c22 .skip .ensures) in
-    omega (arith, m, c25 .if1, c33 .pre)
+    let c24 = c .before .before .before .before .before .before .before .before .before .before .before .before .before .before .before .before .before .before .before .before .before .before .before .before in
+    let c27 = c24 .before .before .before in
+    let c35 = c27 .before .before .before .before .before .before .before .before in
+    let m = skip-inside (c35 .args .tree .now) (c35 .args .at + 1) (c35 .args .end) (omega (arith, c27 .if1 .taken)) (c24 .skip .ensures) in
+    omega (arith, m, c27 .if1, c35 .pre)
 
 infix-part-same-length : (t : ℕ) → infix-part-lts.Need-same-length (infix-part-calls t) (infix-part-at t) infix-part.Post
 infix-part-same-length t c =
     let c10 = c .before .before .before .before .before .before .before .before .before .before in
-    let c26 = c10 .before .before .before .before .before .before .before .before .before .before .before .before .before .before .before .before in
-    (c10 .target .kept .1 .1 .1 .1 .1 .1 .1 .1 .0) ∙ (c26 .expression .kept .1 .1 .1 .1 .1 .1 .1 .0)
+    let c27 = c10 .before .before .before .before .before .before .before .before .before .before .before .before .before .before .before .before .before in
+    (c10 .target .kept .1 .1 .1 .1 .1 .1 .1 .1 .0) ∙ (c27 .expression .kept .1 .1 .1 .1 .1 .1 .1 .0)
 
 infix-part-same-length-2 : (t : ℕ) → infix-part-lts.Need-same-length-2 (infix-part-calls t) (infix-part-at t) infix-part.Post
 infix-part-same-length-2 t c =
     let c10 = c .before .before .before .before .before .before .before .before .before .before in
-    let c26 = c10 .before .before .before .before .before .before .before .before .before .before .before .before .before .before .before .before in
-    (c10 .target .kept .1 .1 .1 .1 .1 .1 .1 .1 .1 .0) ∙ (c26 .expression .kept .1 .1 .1 .1 .1 .1 .1 .1 .0)
+    let c27 = c10 .before .before .before .before .before .before .before .before .before .before .before .before .before .before .before .before .before in
+    (c10 .target .kept .1 .1 .1 .1 .1 .1 .1 .1 .1 .0) ∙ (c27 .expression .kept .1 .1 .1 .1 .1 .1 .1 .1 .0)
 
 infix-part-same-length-3 : (t : ℕ) → infix-part-lts.Need-same-length-3 (infix-part-calls t) (infix-part-at t) infix-part.Post
 infix-part-same-length-3 t c =
     let c10 = c .before .before .before .before .before .before .before .before .before .before in
-    let c26 = c10 .before .before .before .before .before .before .before .before .before .before .before .before .before .before .before .before in
-    (c10 .target .kept .1 .1 .1 .1 .1 .1 .1 .1 .1 .1 .0) ∙ (c26 .expression .kept .1 .1 .1 .1 .1 .1 .1 .1 .1 .0)
+    let c27 = c10 .before .before .before .before .before .before .before .before .before .before .before .before .before .before .before .before .before in
+    (c10 .target .kept .1 .1 .1 .1 .1 .1 .1 .1 .1 .1 .0) ∙ (c27 .expression .kept .1 .1 .1 .1 .1 .1 .1 .1 .1 .0)
 
 infix-part-same-length-4 : (t : ℕ) → infix-part-lts.Need-same-length-4 (infix-part-calls t) (infix-part-at t) infix-part.Post
 infix-part-same-length-4 t c =
     let c10 = c .before .before .before .before .before .before .before .before .before .before in
-    let c26 = c10 .before .before .before .before .before .before .before .before .before .before .before .before .before .before .before .before in
-    (c10 .target .kept .1 .1 .1 .1 .1 .1 .1 .1 .1 .1 .1 .0) ∙ (c26 .expression .kept .1 .1 .1 .1 .1 .1 .1 .1 .1 .1 .0)
+    let c27 = c10 .before .before .before .before .before .before .before .before .before .before .before .before .before .before .before .before .before in
+    (c10 .target .kept .1 .1 .1 .1 .1 .1 .1 .1 .1 .1 .1 .0) ∙ (c27 .expression .kept .1 .1 .1 .1 .1 .1 .1 .1 .1 .1 .0)
 
 infix-part-same-length-5 : (t : ℕ) → infix-part-lts.Need-same-length-5 (infix-part-calls t) (infix-part-at t) infix-part.Post
 infix-part-same-length-5 t c =
     let c10 = c .before .before .before .before .before .before .before .before .before .before in
-    let c26 = c10 .before .before .before .before .before .before .before .before .before .before .before .before .before .before .before .before in
-    (c10 .target .kept .1 .1 .1 .1 .1 .1 .1 .1 .1 .1 .1 .1 .0) ∙ (c26 .expression .kept .1 .1 .1 .1 .1 .1 .1 .1 .1 .1 .1 .0)
+    let c27 = c10 .before .before .before .before .before .before .before .before .before .before .before .before .before .before .before .before .before in
+    (c10 .target .kept .1 .1 .1 .1 .1 .1 .1 .1 .1 .1 .1 .1 .0) ∙ (c27 .expression .kept .1 .1 .1 .1 .1 .1 .1 .1 .1 .1 .1 .0)
 
 infix-part-returns : (t : ℕ) → infix-part-lts.Need-returns (infix-part-calls t) (infix-part-at t) infix-part.Post
 infix-part-returns t c =
     let c10 = c .before .before .before .before .before .before .before .before .before .before in
-    let c26 = c10 .before .before .before .before .before .before .before .before .before .before .before .before .before .before .before .before in
-    let c32 = c26 .before .before .before .before .before .before in
-    let c33 = c32 .before in
-    let c35 = c33 .before .before in
-    i.infix-assign (c35 .field .ensures) (c33 .skip .ensures) (c32 .if2 .taken) (c26 .expression .ensures) (c10 .target .ensures)
+    let c27 = c10 .before .before .before .before .before .before .before .before .before .before .before .before .before .before .before .before .before in
+    let c34 = c27 .before .before .before .before .before .before .before in
+    let c35 = c34 .before in
+    let c37 = c35 .before .before in
+    i.infix-assign (c37 .field .ensures) (c35 .skip .ensures) (c34 .if2 .taken) (c27 .expression .ensures) (c10 .target .ensures)
 
 infix-part-same-length-6 : (t : ℕ) → infix-part-lts.Need-same-length-6 (infix-part-calls t) (infix-part-at t) infix-part.Post
-infix-part-same-length-6 t c = (c .before .before .fault .kept .1 .1 .0)
+infix-part-same-length-6 t c = (c .before .before .fault-in .kept .1 .1 .0)
 
 infix-part-returns-2 : (t : ℕ) → infix-part-lts.Need-returns-2 (infix-part-calls t) (infix-part-at t) infix-part.Post
 infix-part-returns-2 t c =
-    let c8 = c .before .before .before .before .before .before .before .before in
-    let c17 = c8 .before .before .before .before .before .before .before .before .before in
-    i.infix-unknown (c8 .field .ensures) (c .before .before .before .before .if3 .taken) (faults (c17 .args .tree .now) (c17 .args .at) 3
-    (c .before .before .fault .ensures))
+    let c5 = c .before .before .before .before .before in
+    let c9 = c5 .before .before .before .before in
+    let c18 = c9 .before .before .before .before .before .before .before .before .before in
+    i.infix-unknown (c9 .field .ensures) (c5 .if3 .taken) (faults (c18 .args .tree .now) (c18 .args .at) 3 (c .before .before .fault-in .ensures))
 
 infix-part-add-two : (t : ℕ) → infix-part-lts.Need-add-two (infix-part-calls t) (infix-part-at t) infix-part.Post
 infix-part-add-two t c =
@@ -1157,142 +1193,142 @@ infix-part-add-two t c =
 
 infix-part-two-requires : (t : ℕ) → infix-part-lts.Need-two-requires (infix-part-calls t) (infix-part-at t) infix-part.Post
 infix-part-two-requires t c κs =
-    let c5 = c .before .before .before .before .before in
-    let c6 = c5 .before in
-    let c10 = c6 .before .before .before .before in
-    let c18 = c10 .before .before .before .before .before .before .before .before in
-    omega (arith, c5 .if3, c6 .if2, c10 .if1, c18 .pre)
+    let c6 = c .before .before .before .before .before .before in
+    let c7 = c6 .before in
+    let c11 = c7 .before .before .before .before in
+    let c19 = c11 .before .before .before .before .before .before .before .before in
+    omega (arith, c6 .if3, c7 .if2, c11 .if1, c19 .pre)
 
 infix-part-add-target-2 : (t : ℕ) → infix-part-lts.Need-add-target-2 (infix-part-calls t) (infix-part-at t) infix-part.Post
 infix-part-add-target-2 t c =
-    let c27 = c .before .before .before .before .before .before .before .before .before .before .before .before .before .before .before .before .before .before .before .before .before .before .before .before .before .before .before in
-    let c35 = c27 .before .before .before .before .before .before .before .before in
-    omega (arith, c27 .if1 .taken, c35 .fits)
+    let c29 = c .before .before .before .before .before .before .before .before .before .before .before .before .before .before .before .before .before .before .before .before .before .before .before .before .before .before .before .before .before in
+    let c37 = c29 .before .before .before .before .before .before .before .before in
+    omega (arith, c29 .if1 .taken, c37 .fits)
 
 infix-part-target-requires-2 : (t : ℕ) → infix-part-lts.Need-target-requires-2 (infix-part-calls t) (infix-part-at t) infix-part.Post
 infix-part-target-requires-2 t c κs =
-    let c29 = c .before .before .before .before .before .before .before .before .before .before .before .before .before .before .before .before .before .before .before .before .before .before .before .before .before .before .before .before .before in
-    let c32 = c29 .before .before .before in
-    let c40 = c32 .before .before .before .before .before .before .before .before in
-    let m = skip-inside (c40 .args .tree .now) (c40 .args .at + 1) (c40 .args .end) (omega (arith, c32 .if1 .taken)) (c29 .skip .ensures) in
-    omega (arith, m, c32 .if1, c40 .pre)
+    let c32 = c .before .before .before .before .before .before .before .before .before .before .before .before .before .before .before .before .before .before .before .before .before .before .before .before .before .before .before .before .before .before .before .before in
+    let c35 = c32 .before .before .before in
+    let c43 = c35 .before .before .before .before .before .before .before .before in
+    let m = skip-inside (c43 .args .tree .now) (c43 .args .at + 1) (c43 .args .end) (omega (arith, c35 .if1 .taken)) (c32 .skip .ensures) in
+    omega (arith, m, c35 .if1, c43 .pre)
 
 infix-part-same-length-7 : (t : ℕ) → infix-part-lts.Need-same-length-7 (infix-part-calls t) (infix-part-at t) infix-part.Post
 infix-part-same-length-7 t c =
     let c10 = c .before .before .before .before .before .before .before .before .before .before in
-    let c20 = c10 .before .before .before .before .before .before .before .before .before .before in
-    let c32 = c20 .before .before .before .before .before .before .before .before .before .before .before .before in
-    (c10 .target2 .kept .1 .1 .1 .1 .1 .1 .1 .1 .0) ∙ (c20 .operation .kept .0) ∙ (c32 .two .kept .1 .1 .1 .1 .1 .1 .1 .0)
+    let c21 = c10 .before .before .before .before .before .before .before .before .before .before .before in
+    let c34 = c21 .before .before .before .before .before .before .before .before .before .before .before .before .before in
+    (c10 .target2 .kept .1 .1 .1 .1 .1 .1 .1 .1 .0) ∙ (c21 .operation .kept .0) ∙ (c34 .two .kept .1 .1 .1 .1 .1 .1 .1 .0)
 
 infix-part-same-length-8 : (t : ℕ) → infix-part-lts.Need-same-length-8 (infix-part-calls t) (infix-part-at t) infix-part.Post
 infix-part-same-length-8 t c =
     let c10 = c .before .before .before .before .before .before .before .before .before .before in
-    let c32 = c10 .before .before .before .before .before .before .before .before .before .before .before .before .before .before .before .before .before .before .before .before .before .before in
-    (c10 .target2 .kept .1 .1 .1 .1 .1 .1 .1 .1 .1 .0) ∙ (c32 .two .kept .1 .1 .1 .1 .1 .1 .1 .1 .0)
+    let c34 = c10 .before .before .before .before .before .before .before .before .before .before .before .before .before .before .before .before .before .before .before .before .before .before .before .before in
+    (c10 .target2 .kept .1 .1 .1 .1 .1 .1 .1 .1 .1 .0) ∙ (c34 .two .kept .1 .1 .1 .1 .1 .1 .1 .1 .0)
 
 infix-part-same-length-9 : (t : ℕ) → infix-part-lts.Need-same-length-9 (infix-part-calls t) (infix-part-at t) infix-part.Post
 infix-part-same-length-9 t c =
     let c10 = c .before .before .before .before .before .before .before .before .before .before in
-    let c32 = c10 .before .before .before .before .before .before .before .before .before .before .before .before .before .before .before .before .before .before .before .before .before .before in
-    (c10 .target2 .kept .1 .1 .1 .1 .1 .1 .1 .1 .1 .1 .0) ∙ (c32 .two .kept .1 .1 .1 .1 .1 .1 .1 .1 .1 .0)
+    let c34 = c10 .before .before .before .before .before .before .before .before .before .before .before .before .before .before .before .before .before .before .before .before .before .before .before .before in
+    (c10 .target2 .kept .1 .1 .1 .1 .1 .1 .1 .1 .1 .1 .0) ∙ (c34 .two .kept .1 .1 .1 .1 .1 .1 .1 .1 .1 .0)
 
 infix-part-same-length-10 : (t : ℕ) → infix-part-lts.Need-same-length-10 (infix-part-calls t) (infix-part-at t) infix-part.Post
 infix-part-same-length-10 t c =
     let c10 = c .before .before .before .before .before .before .before .before .before .before in
-    let c32 = c10 .before .before .before .before .before .before .before .before .before .before .before .before .before .before .before .before .before .before .before .before .before .before in
-    (c10 .target2 .kept .1 .1 .1 .1 .1 .1 .1 .1 .1 .1 .1 .0) ∙ (c32 .two .kept .1 .1 .1 .1 .1 .1 .1 .1 .1 .1 .0)
+    let c34 = c10 .before .before .before .before .before .before .before .before .before .before .before .before .before .before .before .before .before .before .before .before .before .before .before .before in
+    (c10 .target2 .kept .1 .1 .1 .1 .1 .1 .1 .1 .1 .1 .1 .0) ∙ (c34 .two .kept .1 .1 .1 .1 .1 .1 .1 .1 .1 .1 .0)
 
 infix-part-same-length-11 : (t : ℕ) → infix-part-lts.Need-same-length-11 (infix-part-calls t) (infix-part-at t) infix-part.Post
 infix-part-same-length-11 t c =
     let c10 = c .before .before .before .before .before .before .before .before .before .before in
-    let c32 = c10 .before .before .before .before .before .before .before .before .before .before .before .before .before .before .before .before .before .before .before .before .before .before in
-    (c10 .target2 .kept .1 .1 .1 .1 .1 .1 .1 .1 .1 .1 .1 .1 .0) ∙ (c32 .two .kept .1 .1 .1 .1 .1 .1 .1 .1 .1 .1 .1 .0)
+    let c34 = c10 .before .before .before .before .before .before .before .before .before .before .before .before .before .before .before .before .before .before .before .before .before .before .before .before in
+    (c10 .target2 .kept .1 .1 .1 .1 .1 .1 .1 .1 .1 .1 .1 .1 .0) ∙ (c34 .two .kept .1 .1 .1 .1 .1 .1 .1 .1 .1 .1 .1 .0)
 
 infix-part-returns-3 : (t : ℕ) → infix-part-lts.Need-returns-3 (infix-part-calls t) (infix-part-at t) infix-part.Post
 infix-part-returns-3 t c =
     let c10 = c .before .before .before .before .before .before .before .before .before .before in
-    let c16 = c10 .before .before .before .before .before .before in
-    let c17 = c16 .before in
-    let c20 = c17 .before .before .before in
-    let c32 = c20 .before .before .before .before .before .before .before .before .before .before .before .before in
-    let c38 = c32 .before .before .before .before .before .before in
-    let c39 = c38 .before in
-    let c40 = c39 .before in
-    let c41 = c40 .before in
+    let c17 = c10 .before .before .before .before .before .before .before in
+    let c18 = c17 .before in
+    let c21 = c18 .before .before .before in
+    let c34 = c21 .before .before .before .before .before .before .before .before .before .before .before .before .before in
+    let c41 = c34 .before .before .before .before .before .before .before in
     let c42 = c41 .before in
-    i.infix-compound (c42 .field .ensures) (c41 .field2 .ensures) (c40 .skip .ensures) (c39 .if2 .left) (c38 .if3 .left) (c32 .two .ensures)
-    (c20 .operation .ensures) (c17 .if4 .taken)
-    (c16 .if5 .taken)
+    let c43 = c42 .before in
+    let c44 = c43 .before in
+    let c45 = c44 .before in
+    i.infix-compound (c45 .field .ensures) (c44 .field2 .ensures) (c43 .skip .ensures) (c42 .if2 .left) (c41 .if3 .left) (c34 .two .ensures)
+    (c21 .operation .ensures) (c18 .if4 .taken)
+    (c17 .if5 .taken)
     (c10 .target2 .ensures)
 
 infix-part-same-length-12 : (t : ℕ) → infix-part-lts.Need-same-length-12 (infix-part-calls t) (infix-part-at t) infix-part.Post
 infix-part-same-length-12 t c =
-    let c16 = c .before .before .before .before .before .before .before .before .before .before .before .before .before .before .before .before in
-    (c .before .before .before .before .operation .kept .0) ∙ (c16 .two .kept .1 .1 .1 .1 .1 .1 .1 .0)
+    let c17 = c .before .before .before .before .before .before .before .before .before .before .before .before .before .before .before .before .before in
+    (c .before .before .before .before .operation .kept .0) ∙ (c17 .two .kept .1 .1 .1 .1 .1 .1 .1 .0)
 
 infix-part-same-length-13 : (t : ℕ) → infix-part-lts.Need-same-length-13 (infix-part-calls t) (infix-part-at t) infix-part.Post
 infix-part-same-length-13 t c =
-    let c16 = c .before .before .before .before .before .before .before .before .before .before .before .before .before .before .before .before in
-    (c16 .two .kept .1 .1 .1 .1 .1 .1 .1 .1 .0)
+    let c17 = c .before .before .before .before .before .before .before .before .before .before .before .before .before .before .before .before .before in
+    (c17 .two .kept .1 .1 .1 .1 .1 .1 .1 .1 .0)
 
 infix-part-same-length-14 : (t : ℕ) → infix-part-lts.Need-same-length-14 (infix-part-calls t) (infix-part-at t) infix-part.Post
 infix-part-same-length-14 t c =
-    let c16 = c .before .before .before .before .before .before .before .before .before .before .before .before .before .before .before .before in
-    (c16 .two .kept .1 .1 .1 .1 .1 .1 .1 .1 .1 .0)
+    let c17 = c .before .before .before .before .before .before .before .before .before .before .before .before .before .before .before .before .before in
+    (c17 .two .kept .1 .1 .1 .1 .1 .1 .1 .1 .1 .0)
 
 infix-part-same-length-15 : (t : ℕ) → infix-part-lts.Need-same-length-15 (infix-part-calls t) (infix-part-at t) infix-part.Post
 infix-part-same-length-15 t c =
-    let c16 = c .before .before .before .before .before .before .before .before .before .before .before .before .before .before .before .before in
-    (c16 .two .kept .1 .1 .1 .1 .1 .1 .1 .1 .1 .1 .0)
+    let c17 = c .before .before .before .before .before .before .before .before .before .before .before .before .before .before .before .before .before in
+    (c17 .two .kept .1 .1 .1 .1 .1 .1 .1 .1 .1 .1 .0)
 
 infix-part-same-length-16 : (t : ℕ) → infix-part-lts.Need-same-length-16 (infix-part-calls t) (infix-part-at t) infix-part.Post
 infix-part-same-length-16 t c =
-    let c16 = c .before .before .before .before .before .before .before .before .before .before .before .before .before .before .before .before in
-    (c16 .two .kept .1 .1 .1 .1 .1 .1 .1 .1 .1 .1 .1 .0)
+    let c17 = c .before .before .before .before .before .before .before .before .before .before .before .before .before .before .before .before .before in
+    (c17 .two .kept .1 .1 .1 .1 .1 .1 .1 .1 .1 .1 .1 .0)
 
 infix-part-returns-4 : (t : ℕ) → infix-part-lts.Need-returns-4 (infix-part-calls t) (infix-part-at t) infix-part.Post
 infix-part-returns-4 t c =
-    let c16 = c .before .before .before .before .before .before .before .before .before .before .before .before .before .before .before .before in
-    let c22 = c16 .before .before .before .before .before .before in
-    let c23 = c22 .before in
-    let c25 = c23 .before .before in
-    let c26 = c25 .before in
-    i.infix-plain (c26 .field .ensures) (c25 .field2 .ensures) (c23 .if2 .left) (c22 .if3 .left) (c16 .two .ensures)
+    let c17 = c .before .before .before .before .before .before .before .before .before .before .before .before .before .before .before .before .before in
+    let c24 = c17 .before .before .before .before .before .before .before in
+    let c25 = c24 .before in
+    let c27 = c25 .before .before in
+    let c28 = c27 .before in
+    i.infix-plain (c28 .field .ensures) (c27 .field2 .ensures) (c25 .if2 .left) (c24 .if3 .left) (c17 .two .ensures)
     (c .before .before .before .before .operation .ensures) (λ a l. omega (arith, c .if5 .left, l))
 
 infix-part-same-length-17 : (t : ℕ) → infix-part-lts.Need-same-length-17 (infix-part-calls t) (infix-part-at t) infix-part.Post
 infix-part-same-length-17 t c =
-    let c15 = c .before .before .before .before .before .before .before .before .before .before .before .before .before .before .before in
-    (c .before .before .before .operation .kept .0) ∙ (c15 .two .kept .1 .1 .1 .1 .1 .1 .1 .0)
+    let c16 = c .before .before .before .before .before .before .before .before .before .before .before .before .before .before .before .before in
+    (c .before .before .before .operation .kept .0) ∙ (c16 .two .kept .1 .1 .1 .1 .1 .1 .1 .0)
 
 infix-part-same-length-18 : (t : ℕ) → infix-part-lts.Need-same-length-18 (infix-part-calls t) (infix-part-at t) infix-part.Post
 infix-part-same-length-18 t c =
-    let c15 = c .before .before .before .before .before .before .before .before .before .before .before .before .before .before .before in
-    (c15 .two .kept .1 .1 .1 .1 .1 .1 .1 .1 .0)
+    let c16 = c .before .before .before .before .before .before .before .before .before .before .before .before .before .before .before .before in
+    (c16 .two .kept .1 .1 .1 .1 .1 .1 .1 .1 .0)
 
 infix-part-same-length-19 : (t : ℕ) → infix-part-lts.Need-same-length-19 (infix-part-calls t) (infix-part-at t) infix-part.Post
 infix-part-same-length-19 t c =
-    let c15 = c .before .before .before .before .before .before .before .before .before .before .before .before .before .before .before in
-    (c15 .two .kept .1 .1 .1 .1 .1 .1 .1 .1 .1 .0)
+    let c16 = c .before .before .before .before .before .before .before .before .before .before .before .before .before .before .before .before in
+    (c16 .two .kept .1 .1 .1 .1 .1 .1 .1 .1 .1 .0)
 
 infix-part-same-length-20 : (t : ℕ) → infix-part-lts.Need-same-length-20 (infix-part-calls t) (infix-part-at t) infix-part.Post
 infix-part-same-length-20 t c =
-    let c15 = c .before .before .before .before .before .before .before .before .before .before .before .before .before .before .before in
-    (c15 .two .kept .1 .1 .1 .1 .1 .1 .1 .1 .1 .1 .0)
+    let c16 = c .before .before .before .before .before .before .before .before .before .before .before .before .before .before .before .before in
+    (c16 .two .kept .1 .1 .1 .1 .1 .1 .1 .1 .1 .1 .0)
 
 infix-part-same-length-21 : (t : ℕ) → infix-part-lts.Need-same-length-21 (infix-part-calls t) (infix-part-at t) infix-part.Post
 infix-part-same-length-21 t c =
-    let c15 = c .before .before .before .before .before .before .before .before .before .before .before .before .before .before .before in
-    (c15 .two .kept .1 .1 .1 .1 .1 .1 .1 .1 .1 .1 .1 .0)
+    let c16 = c .before .before .before .before .before .before .before .before .before .before .before .before .before .before .before .before in
+    (c16 .two .kept .1 .1 .1 .1 .1 .1 .1 .1 .1 .1 .1 .0)
 
 infix-part-returns-5 : (t : ℕ) → infix-part-lts.Need-returns-5 (infix-part-calls t) (infix-part-at t) infix-part.Post
 infix-part-returns-5 t c =
-    let c15 = c .before .before .before .before .before .before .before .before .before .before .before .before .before .before .before in
-    let c21 = c15 .before .before .before .before .before .before in
-    let c22 = c21 .before in
-    let c24 = c22 .before .before in
-    let c25 = c24 .before in
-    i.infix-plain (c25 .field .ensures) (c24 .field2 .ensures) (c22 .if2 .left) (c21 .if3 .left) (c15 .two .ensures)
+    let c16 = c .before .before .before .before .before .before .before .before .before .before .before .before .before .before .before .before in
+    let c23 = c16 .before .before .before .before .before .before .before in
+    let c24 = c23 .before in
+    let c26 = c24 .before .before in
+    let c27 = c26 .before in
+    i.infix-plain (c27 .field .ensures) (c26 .field2 .ensures) (c24 .if2 .left) (c23 .if3 .left) (c16 .two .ensures)
     (c .before .before .before .operation .ensures) (λ a l. omega (arith, c .if4 .left, a))
 
 infix-part-returns-6 : (t : ℕ) → infix-part-lts.Need-returns-6 (infix-part-calls t) (infix-part-at t) infix-part.Post
@@ -1300,50 +1336,50 @@ infix-part-returns-6 t c = e.kind-past (c .if1 .left)
 
 inner-expression-requires : (t : ℕ) → inner-lts.Need-expression-requires (inner-calls t) (inner-at t) inner.Post
 inner-expression-requires t c κs =
-    let c5 = c .before .before .before .before .before in
-    let c8 = c5 .before .before .before in
-    let c16 = c8 .before .before .before .before .before .before .before .before in
-    omega (arith, c5 .if2, c8 .if1, c16 .pre)
+    let c6 = c .before .before .before .before .before .before in
+    let c9 = c6 .before .before .before in
+    let c17 = c9 .before .before .before .before .before .before .before .before in
+    omega (arith, c6 .if2, c9 .if1, c17 .pre)
 
 inner-same-length : (t : ℕ) → inner-lts.Need-same-length (inner-calls t) (inner-at t) inner.Post
 inner-same-length t c =
-    let c14 = c .before .before .before .before .before .before .before .before .before .before .before .before .before .before in
-    (c .before .before .emit-opcode-without-position .kept .0) ∙ (c14 .expression .kept .1 .1 .1 .1 .1 .1 .1 .0)
+    let c15 = c .before .before .before .before .before .before .before .before .before .before .before .before .before .before .before in
+    (c .before .before .emit-opcode-without-position .kept .0) ∙ (c15 .expression .kept .1 .1 .1 .1 .1 .1 .1 .0)
 
 inner-same-length-2 : (t : ℕ) → inner-lts.Need-same-length-2 (inner-calls t) (inner-at t) inner.Post
 inner-same-length-2 t c =
-    let c14 = c .before .before .before .before .before .before .before .before .before .before .before .before .before .before in
-    (c14 .expression .kept .1 .1 .1 .1 .1 .1 .1 .1 .0)
+    let c15 = c .before .before .before .before .before .before .before .before .before .before .before .before .before .before .before in
+    (c15 .expression .kept .1 .1 .1 .1 .1 .1 .1 .1 .0)
 
 inner-same-length-3 : (t : ℕ) → inner-lts.Need-same-length-3 (inner-calls t) (inner-at t) inner.Post
 inner-same-length-3 t c =
-    let c14 = c .before .before .before .before .before .before .before .before .before .before .before .before .before .before in
-    (c14 .expression .kept .1 .1 .1 .1 .1 .1 .1 .1 .1 .0)
+    let c15 = c .before .before .before .before .before .before .before .before .before .before .before .before .before .before .before in
+    (c15 .expression .kept .1 .1 .1 .1 .1 .1 .1 .1 .1 .0)
 
 inner-same-length-4 : (t : ℕ) → inner-lts.Need-same-length-4 (inner-calls t) (inner-at t) inner.Post
 inner-same-length-4 t c =
-    let c14 = c .before .before .before .before .before .before .before .before .before .before .before .before .before .before in
-    (c14 .expression .kept .1 .1 .1 .1 .1 .1 .1 .1 .1 .1 .0)
+    let c15 = c .before .before .before .before .before .before .before .before .before .before .before .before .before .before .before in
+    (c15 .expression .kept .1 .1 .1 .1 .1 .1 .1 .1 .1 .1 .0)
 
 inner-same-length-5 : (t : ℕ) → inner-lts.Need-same-length-5 (inner-calls t) (inner-at t) inner.Post
 inner-same-length-5 t c =
-    let c14 = c .before .before .before .before .before .before .before .before .before .before .before .before .before .before in
-    (c14 .expression .kept .1 .1 .1 .1 .1 .1 .1 .1 .1 .1 .1 .0)
+    let c15 = c .before .before .before .before .before .before .before .before .before .before .before .before .before .before .before in
+    (c15 .expression .kept .1 .1 .1 .1 .1 .1 .1 .1 .1 .1 .1 .0)
 
 inner-returns : (t : ℕ) → inner-lts.Need-returns (inner-calls t) (inner-at t) inner.Post
 inner-returns t c =
-    let c14 = c .before .before .before .before .before .before .before .before .before .before .before .before .before .before in
-    let c20 = c14 .before .before .before .before .before .before in
-    let c22 = c20 .before .before in
-    s.inner-expression (c22 .field .ensures) (c20 .if2 .taken) (c14 .expression .ensures) (c .before .before .emit-opcode-without-position .ensures)
+    let c15 = c .before .before .before .before .before .before .before .before .before .before .before .before .before .before .before in
+    let c22 = c15 .before .before .before .before .before .before .before in
+    let c24 = c22 .before .before in
+    s.inner-expression (c24 .field .ensures) (c22 .if2 .taken) (c15 .expression .ensures) (c .before .before .emit-opcode-without-position .ensures)
 
 inner-variables-requires : (t : ℕ) → inner-lts.Need-variables-requires (inner-calls t) (inner-at t) inner.Post
 inner-variables-requires t c κs =
-    let c5 = c .before .before .before .before .before in
-    let c6 = c5 .before in
-    let c9 = c6 .before .before .before in
-    let c17 = c9 .before .before .before .before .before .before .before .before in
-    omega (arith, c5 .if3, c6 .if2, c9 .if1, c17 .pre)
+    let c6 = c .before .before .before .before .before .before in
+    let c7 = c6 .before in
+    let c10 = c7 .before .before .before in
+    let c18 = c10 .before .before .before .before .before .before .before .before in
+    omega (arith, c6 .if3, c7 .if2, c10 .if1, c18 .pre)
 
 inner-same-length-6 : (t : ℕ) → inner-lts.Need-same-length-6 (inner-calls t) (inner-at t) inner.Post
 inner-same-length-6 t c =
@@ -1373,18 +1409,18 @@ inner-same-length-10 t c =
 inner-returns-2 : (t : ℕ) → inner-lts.Need-returns-2 (inner-calls t) (inner-at t) inner.Post
 inner-returns-2 t c =
     let c10 = c .before .before .before .before .before .before .before .before .before .before in
-    let c16 = c10 .before .before .before .before .before .before in
-    let c19 = c16 .before .before .before in
-    s.inner-local (c19 .field .ensures) (c16 .if3 .taken) (c10 .variables .ensures)
+    let c17 = c10 .before .before .before .before .before .before .before in
+    let c20 = c17 .before .before .before in
+    s.inner-local (c20 .field .ensures) (c17 .if3 .taken) (c10 .variables .ensures)
 
 inner-for-part-requires : (t : ℕ) → inner-lts.Need-for-part-requires (inner-calls t) (inner-at t) inner.Post
 inner-for-part-requires t c κs =
-    let c5 = c .before .before .before .before .before in
-    let c6 = c5 .before in
+    let c6 = c .before .before .before .before .before .before in
     let c7 = c6 .before in
-    let c10 = c7 .before .before .before in
-    let c18 = c10 .before .before .before .before .before .before .before .before in
-    omega (arith, c5 .if4, c6 .if3, c7 .if2, c10 .if1, c18 .pre)
+    let c8 = c7 .before in
+    let c11 = c8 .before .before .before in
+    let c19 = c11 .before .before .before .before .before .before .before .before in
+    omega (arith, c6 .if4, c7 .if3, c8 .if2, c11 .if1, c19 .pre)
 
 inner-same-length-11 : (t : ℕ) → inner-lts.Need-same-length-11 (inner-calls t) (inner-at t) inner.Post
 inner-same-length-11 t c =
@@ -1414,9 +1450,9 @@ inner-same-length-15 t c =
 inner-returns-3 : (t : ℕ) → inner-lts.Need-returns-3 (inner-calls t) (inner-at t) inner.Post
 inner-returns-3 t c =
     let c10 = c .before .before .before .before .before .before .before .before .before .before in
-    let c16 = c10 .before .before .before .before .before .before in
-    let c20 = c16 .before .before .before .before in
-    s.inner-for (c20 .field .ensures) (c16 .if4 .taken) (c10 .for-part .ensures)
+    let c17 = c10 .before .before .before .before .before .before .before in
+    let c21 = c17 .before .before .before .before in
+    s.inner-for (c21 .field .ensures) (c17 .if4 .taken) (c10 .for-part .ensures)
 
 inner-same-length-16 : (t : ℕ) → inner-lts.Need-same-length-16 (inner-calls t) (inner-at t) inner.Post
 inner-same-length-16 t c = (c .before .before .before .before .emit-break .kept .0)
@@ -1426,10 +1462,10 @@ inner-same-length-17 t c = (c .before .before .before .before .emit-break .kept 
 
 inner-returns-4 : (t : ℕ) → inner-lts.Need-returns-4 (inner-calls t) (inner-at t) inner.Post
 inner-returns-4 t c =
-    let c7 = c .before .before .before .before .before .before .before in
-    let c11 = c7 .before .before .before .before in
-    let c12 = c11 .before in
-    s.inner-break (c12 .field .ensures) (c11 .field2 .ensures) (c7 .if5 .taken) (c .before .before .before .before .emit-break .ensures)
+    let c8 = c .before .before .before .before .before .before .before .before in
+    let c12 = c8 .before .before .before .before in
+    let c13 = c12 .before in
+    s.inner-break (c13 .field .ensures) (c12 .field2 .ensures) (c8 .if5 .taken) (c .before .before .before .before .emit-break .ensures)
 
 inner-same-length-18 : (t : ℕ) → inner-lts.Need-same-length-18 (inner-calls t) (inner-at t) inner.Post
 inner-same-length-18 t c = (c .before .before .before .before .rescue .kept .1 .1 .0)
@@ -1439,9 +1475,9 @@ inner-same-length-19 t c = (c .before .before .before .before .rescue .kept .1 .
 
 inner-returns-5 : (t : ℕ) → inner-lts.Need-returns-5 (inner-calls t) (inner-at t) inner.Post
 inner-returns-5 t c =
-    let c7 = c .before .before .before .before .before .before .before in
-    let c13 = c7 .before .before .before .before .before .before in
-    s.inner-rescue (c13 .field .ensures) (c7 .if6 .taken) (c .before .before .before .before .rescue .ensures)
+    let c8 = c .before .before .before .before .before .before .before .before in
+    let c14 = c8 .before .before .before .before .before .before in
+    s.inner-rescue (c14 .field .ensures) (c8 .if6 .taken) (c .before .before .before .before .rescue .ensures)
 
 inner-same-length-20 : (t : ℕ) → inner-lts.Need-same-length-20 (inner-calls t) (inner-at t) inner.Post
 inner-same-length-20 t c = (c .before .before .emit-return .kept .0)
@@ -1454,52 +1490,54 @@ inner-returns-6 t c =
     let c8 = c7 .before in
     let c9 = c8 .before in
     let c10 = c9 .before in
-    s.inner-return (c10 .field .ensures) (c9 .field2 .ensures) (c8 .if2 .left) (c7 .if3 .left) (c6 .if4 .left) (c5 .if5 .left)
-    (c .before .before .before .before .if6 .left) (c .before .before .emit-return .ensures)
+    let c11 = c10 .before in
+    s.inner-return (c11 .field .ensures) (c10 .field2 .ensures) (c9 .if2 .left) (c8 .if3 .left) (c7 .if4 .left) (c6 .if5 .left) (c5 .if6 .left)
+    (c .before .before .emit-return .ensures)
 
 inner-returns-7 : (t : ℕ) → inner-lts.Need-returns-7 (inner-calls t) (inner-at t) inner.Post
 inner-returns-7 t c = s.inner-past (c .if1 .left)
 
 statement-returns : (t : ℕ) → statement-lts.Need-returns (statement-calls t) (statement-at t) statement′.Post
-statement-returns t c = s.full-meets (c .if1 .taken)
+statement-returns t c = s.full-meets (rw (c .before .full .ensures) at (c .if1 .taken))
 
 statement-inner-requires : (t : ℕ) → statement-lts.Need-inner-requires (statement-calls t) (statement-at t) statement′.Post
 statement-inner-requires t c κs =
-    let c6 = c .before .before .before .before .before .before in
-    let c7 = c6 .before in
-    let c16 = c7 .before .before .before .before .before .before .before .before .before in
-    omega (arith, c6 .if2, c7 .if1, c16 .pre)
+    let c10 = c .before .before .before .before .before .before .before .before .before .before in
+    let c11 = c10 .before in
+    let c21 = c11 .before .before .before .before .before .before .before .before .before .before in
+    omega (arith, c10 .if2, c11 .if1, c21 .pre)
 
 statement-same-length : (t : ℕ) → statement-lts.Need-same-length (statement-calls t) (statement-at t) statement′.Post
 statement-same-length t c =
-    let c11 = c .before .before .before .before .before .before .before .before .before .before .before in
-    (c11 .inner .kept .1 .1 .1 .1 .1 .1 .1 .0)
+    let c12 = c .before .before .before .before .before .before .before .before .before .before .before .before in
+    (c12 .inner .kept .1 .1 .1 .1 .1 .1 .1 .0)
 
 statement-same-length-2 : (t : ℕ) → statement-lts.Need-same-length-2 (statement-calls t) (statement-at t) statement′.Post
 statement-same-length-2 t c =
-    let c11 = c .before .before .before .before .before .before .before .before .before .before .before in
-    (c11 .inner .kept .1 .1 .1 .1 .1 .1 .1 .1 .0)
+    let c12 = c .before .before .before .before .before .before .before .before .before .before .before .before in
+    (c12 .inner .kept .1 .1 .1 .1 .1 .1 .1 .1 .0)
 
 statement-same-length-3 : (t : ℕ) → statement-lts.Need-same-length-3 (statement-calls t) (statement-at t) statement′.Post
 statement-same-length-3 t c =
-    let c11 = c .before .before .before .before .before .before .before .before .before .before .before in
-    (c11 .inner .kept .1 .1 .1 .1 .1 .1 .1 .1 .1 .0)
+    let c12 = c .before .before .before .before .before .before .before .before .before .before .before .before in
+    (c12 .inner .kept .1 .1 .1 .1 .1 .1 .1 .1 .1 .0)
 
 statement-same-length-4 : (t : ℕ) → statement-lts.Need-same-length-4 (statement-calls t) (statement-at t) statement′.Post
 statement-same-length-4 t c =
-    let c11 = c .before .before .before .before .before .before .before .before .before .before .before in
-    (c11 .inner .kept .1 .1 .1 .1 .1 .1 .1 .1 .1 .1 .0)
+    let c12 = c .before .before .before .before .before .before .before .before .before .before .before .before in
+    (c12 .inner .kept .1 .1 .1 .1 .1 .1 .1 .1 .1 .1 .0)
 
 statement-same-length-5 : (t : ℕ) → statement-lts.Need-same-length-5 (statement-calls t) (statement-at t) statement′.Post
 statement-same-length-5 t c =
-    let c11 = c .before .before .before .before .before .before .before .before .before .before .before in
-    (c11 .inner .kept .1 .1 .1 .1 .1 .1 .1 .1 .1 .1 .1 .0)
+    let c12 = c .before .before .before .before .before .before .before .before .before .before .before .before in
+    (c12 .inner .kept .1 .1 .1 .1 .1 .1 .1 .1 .1 .1 .1 .0)
 
 statement-returns-2 : (t : ℕ) → statement-lts.Need-returns-2 (statement-calls t) (statement-at t) statement′.Post
 statement-returns-2 t c =
-    let c11 = c .before .before .before .before .before .before .before .before .before .before .before in
-    let c17 = c11 .before .before .before .before .before .before in
-    s.statement-meets (c17 .deeper .ensures) (c11 .inner .ensures) (c .with-depth .ensures)
+    let c12 = c .before .before .before .before .before .before .before .before .before .before .before .before in
+    let c19 = c12 .before .before .before .before .before .before .before in
+    let c21 = c19 .before .before in
+    s.statement-meets (c19 .deeper .ensures) (c12 .inner .ensures) (rw (c21 .depth .ensures) at (c .with-depth .ensures))
 
 statement-returns-3 : (t : ℕ) → statement-lts.Need-returns-3 (statement-calls t) (statement-at t) statement′.Post
 statement-returns-3 t c = s.past-meets (c .if2 .left)
@@ -1509,44 +1547,44 @@ statements-loop-holds t c = (omega arith, refl, refl, refl, refl, refl, λ m h. 
 
 statements-statement-requires : (t : ℕ) → statements-lts.Need-statement-requires (statements-calls t) (statements-at t) statements.Post statements-Inv-loop statements-μ-loop
 statements-statement-requires t c κs =
-    let c5 = c .before .before .before .before .before in
-    let c6 = c5 .before in
+    let c6 = c .before .before .before .before .before .before in
     let c7 = c6 .before in
-    let c15 = c7 .before .before .before .before .before .before .before .before in
-    let m = skip-more (c15 .args .tree .now) (c7 .loop .i) (c15 .args .end) (c6 .loop-test .taken) (c5 .skip .ensures) in
-    omega (arith, m, c7 .loop .inv .0, c6 .loop-test .taken, c15 .pre)
+    let c8 = c7 .before in
+    let c16 = c8 .before .before .before .before .before .before .before .before in
+    let m = skip-more (c16 .args .tree .now) (c8 .loop .i) (c16 .args .end) (c7 .loop-test .taken) (c6 .skip .ensures) in
+    omega (arith, m, c8 .loop .inv .0, c7 .loop-test .taken, c16 .pre)
 
 statements-loop-less : (t : ℕ) → statements-lts.Need-loop-less (statements-calls t) (statements-at t) statements.Post statements-Inv-loop statements-μ-loop
 statements-loop-less t c =
-    let c16 = c .before .before .before .before .before .before .before .before .before .before .before .before .before .before .before .before in
-    let c17 = c16 .before in
+    let c17 = c .before .before .before .before .before .before .before .before .before .before .before .before .before .before .before .before .before in
     let c18 = c17 .before in
-    let c26 = c18 .before .before .before .before .before .before .before .before in
-    let m = skip-more (c26 .args .tree .now) (c18 .loop .i) (c26 .args .end) (c17 .loop-test .taken) (c16 .skip .ensures) in omega (
+    let c19 = c18 .before in
+    let c27 = c19 .before .before .before .before .before .before .before .before in
+    let m = skip-more (c27 .args .tree .now) (c19 .loop .i) (c27 .args .end) (c18 .loop-test .taken) (c17 .skip .ensures) in omega (
       arith,
       m,
-      c17 .loop-test .taken,
+      c18 .loop-test .taken,
     )
 
 statements-loop-again : (t : ℕ) → statements-lts.Need-loop-again (statements-calls t) (statements-at t) statements.Post statements-Inv-loop statements-μ-loop
 statements-loop-again t c =
     let c10 = c .before .before .before .before .before .before .before .before .before .before in
-    let c16 = c10 .before .before .before .before .before .before in
-    let c17 = c16 .before in
+    let c17 = c10 .before .before .before .before .before .before .before in
     let c18 = c17 .before in
-    let c26 = c18 .before .before .before .before .before .before .before .before in
-    let m = skip-more (c26 .args .tree .now) (c18 .loop .i) (c26 .args .end) (c17 .loop-test .taken) (c16 .skip .ensures) in (
-      omega (arith, m, c18 .loop .inv .0),
-      omega (arith, c18 .loop .inv .1, c10 .statement .kept),
-      omega (arith, c18 .loop .inv .2, c10 .statement .kept),
-      omega (arith, c18 .loop .inv .3, c10 .statement .kept),
-      omega (arith, c18 .loop .inv .4, c10 .statement .kept),
+    let c19 = c18 .before in
+    let c27 = c19 .before .before .before .before .before .before .before .before in
+    let m = skip-more (c27 .args .tree .now) (c19 .loop .i) (c27 .args .end) (c18 .loop-test .taken) (c17 .skip .ensures) in (
+      omega (arith, m, c19 .loop .inv .0),
+      omega (arith, c19 .loop .inv .1, c10 .statement .kept),
+      omega (arith, c19 .loop .inv .2, c10 .statement .kept),
+      omega (arith, c19 .loop .inv .3, c10 .statement .kept),
+      omega (arith, c19 .loop .inv .4, c10 .statement .kept),
       omega (
         arith,
-        c18 .loop .inv .5,
+        c19 .loop .inv .5,
         c10 .statement .kept,
       ),
-      λ m h. c18 .loop .inv .6 m (s.list-more (c17 .loop-test .taken) (c16 .skip .ensures) (c10 .statement .ensures) h),
+      λ m h. c19 .loop .inv .6 m (s.list-more (c18 .loop-test .taken) (c17 .skip .ensures) (c10 .statement .ensures) h),
     )
 
 statements-same-length : (t : ℕ) → statements-lts.Need-same-length (statements-calls t) (statements-at t) statements.Post statements-Inv-loop statements-μ-loop
@@ -1568,7 +1606,7 @@ statements-returns : (t : ℕ) → statements-lts.Need-returns (statements-calls
 statements-returns t c = c .before .loop .inv .6 _ (s.list-end (c .loop-test .left))
 
 target-returns : (t : ℕ) → target-lts.Need-returns (target-calls t) (target-at t) target.Post
-target-returns t c = i.target-full (c .if1 .taken)
+target-returns t c = i.target-full (rw (c .before .full .ensures) at (c .if1 .taken))
 
 target-same-length : (t : ℕ) → target-lts.Need-same-length (target-calls t) (target-at t) target.Post
 target-same-length t c = (c .before .before .before .before .set-name .kept .1 .1 .1 .1 .1 .1 .1 .0)
@@ -1581,215 +1619,217 @@ target-same-length-3 t c = refl
 
 target-returns-2 : (t : ℕ) → target-lts.Need-returns-2 (target-calls t) (target-at t) target.Post
 target-returns-2 t c =
-    let c8 = c .before .before .before .before .before .before .before .before in
-    let c10 = c8 .before .before in
-    i.target-name (c10 .field .ensures) (c8 .if3 .taken) (c .before .before .before .before .set-name .ensures)
+    let c9 = c .before .before .before .before .before .before .before .before .before in
+    let c11 = c9 .before .before in
+    i.target-name (c11 .field .ensures) (c9 .if3 .taken) (c .before .before .before .before .set-name .ensures)
 
 target-two-requires : (t : ℕ) → target-lts.Need-two-requires (target-calls t) (target-at t) target.Post
 target-two-requires t c κs =
-    let c5 = c .before .before .before .before .before in
-    let c6 = c5 .before in
-    let c9 = c6 .before .before .before in
-    let c10 = c9 .before in
-    let c19 = c10 .before .before .before .before .before .before .before .before .before in
-    omega (arith, c5 .if4, c6 .if3, c9 .if2, c10 .if1, c19 .pre)
-
-target-same-length-4 : (t : ℕ) → target-lts.Need-same-length-4 (target-calls t) (target-at t) target.Post
-target-same-length-4 t c =
-    let c14 = c .before .before .before .before .before .before .before .before .before .before .before .before .before .before in
-    (c .before .before .emit-opcode .kept .0) ∙ (c14 .two .kept .1 .1 .1 .1 .1 .1 .1 .0)
-
-target-same-length-5 : (t : ℕ) → target-lts.Need-same-length-5 (target-calls t) (target-at t) target.Post
-target-same-length-5 t c =
-    let c14 = c .before .before .before .before .before .before .before .before .before .before .before .before .before .before in
-    (c14 .two .kept .1 .1 .1 .1 .1 .1 .1 .1 .0)
-
-target-same-length-6 : (t : ℕ) → target-lts.Need-same-length-6 (target-calls t) (target-at t) target.Post
-target-same-length-6 t c =
-    let c14 = c .before .before .before .before .before .before .before .before .before .before .before .before .before .before in
-    (c14 .two .kept .1 .1 .1 .1 .1 .1 .1 .1 .1 .0)
-
-target-same-length-7 : (t : ℕ) → target-lts.Need-same-length-7 (target-calls t) (target-at t) target.Post
-target-same-length-7 t c =
-    let c14 = c .before .before .before .before .before .before .before .before .before .before .before .before .before .before in
-    (c14 .two .kept .1 .1 .1 .1 .1 .1 .1 .1 .1 .1 .0)
-
-target-same-length-8 : (t : ℕ) → target-lts.Need-same-length-8 (target-calls t) (target-at t) target.Post
-target-same-length-8 t c =
-    let c14 = c .before .before .before .before .before .before .before .before .before .before .before .before .before .before in
-    (c14 .two .kept .1 .1 .1 .1 .1 .1 .1 .1 .1 .1 .1 .0)
-
-target-returns-3 : (t : ℕ) → target-lts.Need-returns-3 (target-calls t) (target-at t) target.Post
-target-returns-3 t c =
-    let c14 = c .before .before .before .before .before .before .before .before .before .before .before .before .before .before in
-    let c20 = c14 .before .before .before .before .before .before in
-    let c22 = c20 .before .before in
-    let c23 = c22 .before in
-    i.target-instance (c23 .field .ensures) (c22 .field2 .ensures) (c20 .if4 .taken) (c14 .two .ensures) (c .before .before .emit-opcode .ensures)
-
-target-two-requires-2 : (t : ℕ) → target-lts.Need-two-requires-2 (target-calls t) (target-at t) target.Post
-target-two-requires-2 t c κs =
-    let c5 = c .before .before .before .before .before in
-    let c6 = c5 .before in
+    let c6 = c .before .before .before .before .before .before in
     let c7 = c6 .before in
     let c10 = c7 .before .before .before in
     let c11 = c10 .before in
-    let c20 = c11 .before .before .before .before .before .before .before .before .before in
-    omega (arith, c5 .if5, c6 .if4, c7 .if3, c10 .if2, c11 .if1, c20 .pre)
+    let c21 = c11 .before .before .before .before .before .before .before .before .before .before in
+    omega (arith, c6 .if4, c7 .if3, c10 .if2, c11 .if1, c21 .pre)
+
+target-same-length-4 : (t : ℕ) → target-lts.Need-same-length-4 (target-calls t) (target-at t) target.Post
+target-same-length-4 t c =
+    let c15 = c .before .before .before .before .before .before .before .before .before .before .before .before .before .before .before in
+    (c .before .before .emit-opcode .kept .0) ∙ (c15 .two .kept .1 .1 .1 .1 .1 .1 .1 .0)
+
+target-same-length-5 : (t : ℕ) → target-lts.Need-same-length-5 (target-calls t) (target-at t) target.Post
+target-same-length-5 t c =
+    let c15 = c .before .before .before .before .before .before .before .before .before .before .before .before .before .before .before in
+    (c15 .two .kept .1 .1 .1 .1 .1 .1 .1 .1 .0)
+
+target-same-length-6 : (t : ℕ) → target-lts.Need-same-length-6 (target-calls t) (target-at t) target.Post
+target-same-length-6 t c =
+    let c15 = c .before .before .before .before .before .before .before .before .before .before .before .before .before .before .before in
+    (c15 .two .kept .1 .1 .1 .1 .1 .1 .1 .1 .1 .0)
+
+target-same-length-7 : (t : ℕ) → target-lts.Need-same-length-7 (target-calls t) (target-at t) target.Post
+target-same-length-7 t c =
+    let c15 = c .before .before .before .before .before .before .before .before .before .before .before .before .before .before .before in
+    (c15 .two .kept .1 .1 .1 .1 .1 .1 .1 .1 .1 .1 .0)
+
+target-same-length-8 : (t : ℕ) → target-lts.Need-same-length-8 (target-calls t) (target-at t) target.Post
+target-same-length-8 t c =
+    let c15 = c .before .before .before .before .before .before .before .before .before .before .before .before .before .before .before in
+    (c15 .two .kept .1 .1 .1 .1 .1 .1 .1 .1 .1 .1 .1 .0)
+
+target-returns-3 : (t : ℕ) → target-lts.Need-returns-3 (target-calls t) (target-at t) target.Post
+target-returns-3 t c =
+    let c15 = c .before .before .before .before .before .before .before .before .before .before .before .before .before .before .before in
+    let c22 = c15 .before .before .before .before .before .before .before in
+    let c24 = c22 .before .before in
+    let c25 = c24 .before in
+    i.target-instance (c25 .field .ensures) (c24 .field2 .ensures) (c22 .if4 .taken) (c15 .two .ensures) (c .before .before .emit-opcode .ensures)
+
+target-two-requires-2 : (t : ℕ) → target-lts.Need-two-requires-2 (target-calls t) (target-at t) target.Post
+target-two-requires-2 t c κs =
+    let c6 = c .before .before .before .before .before .before in
+    let c7 = c6 .before in
+    let c8 = c7 .before in
+    let c11 = c8 .before .before .before in
+    let c12 = c11 .before in
+    let c22 = c12 .before .before .before .before .before .before .before .before .before .before in
+    omega (arith, c6 .if5, c7 .if4, c8 .if3, c11 .if2, c12 .if1, c22 .pre)
 
 target-same-length-9 : (t : ℕ) → target-lts.Need-same-length-9 (target-calls t) (target-at t) target.Post
 target-same-length-9 t c =
-    let c14 = c .before .before .before .before .before .before .before .before .before .before .before .before .before .before in
-    (c .before .before .emit-opcode2 .kept .0) ∙ (c14 .two2 .kept .1 .1 .1 .1 .1 .1 .1 .0)
+    let c15 = c .before .before .before .before .before .before .before .before .before .before .before .before .before .before .before in
+    (c .before .before .emit-opcode2 .kept .0) ∙ (c15 .two2 .kept .1 .1 .1 .1 .1 .1 .1 .0)
 
 target-same-length-10 : (t : ℕ) → target-lts.Need-same-length-10 (target-calls t) (target-at t) target.Post
 target-same-length-10 t c =
-    let c14 = c .before .before .before .before .before .before .before .before .before .before .before .before .before .before in
-    (c14 .two2 .kept .1 .1 .1 .1 .1 .1 .1 .1 .0)
+    let c15 = c .before .before .before .before .before .before .before .before .before .before .before .before .before .before .before in
+    (c15 .two2 .kept .1 .1 .1 .1 .1 .1 .1 .1 .0)
 
 target-same-length-11 : (t : ℕ) → target-lts.Need-same-length-11 (target-calls t) (target-at t) target.Post
 target-same-length-11 t c =
-    let c14 = c .before .before .before .before .before .before .before .before .before .before .before .before .before .before in
-    (c14 .two2 .kept .1 .1 .1 .1 .1 .1 .1 .1 .1 .0)
+    let c15 = c .before .before .before .before .before .before .before .before .before .before .before .before .before .before .before in
+    (c15 .two2 .kept .1 .1 .1 .1 .1 .1 .1 .1 .1 .0)
 
 target-same-length-12 : (t : ℕ) → target-lts.Need-same-length-12 (target-calls t) (target-at t) target.Post
 target-same-length-12 t c =
-    let c14 = c .before .before .before .before .before .before .before .before .before .before .before .before .before .before in
-    (c14 .two2 .kept .1 .1 .1 .1 .1 .1 .1 .1 .1 .1 .0)
+    let c15 = c .before .before .before .before .before .before .before .before .before .before .before .before .before .before .before in
+    (c15 .two2 .kept .1 .1 .1 .1 .1 .1 .1 .1 .1 .1 .0)
 
 target-same-length-13 : (t : ℕ) → target-lts.Need-same-length-13 (target-calls t) (target-at t) target.Post
 target-same-length-13 t c =
-    let c14 = c .before .before .before .before .before .before .before .before .before .before .before .before .before .before in
-    (c14 .two2 .kept .1 .1 .1 .1 .1 .1 .1 .1 .1 .1 .1 .0)
+    let c15 = c .before .before .before .before .before .before .before .before .before .before .before .before .before .before .before in
+    (c15 .two2 .kept .1 .1 .1 .1 .1 .1 .1 .1 .1 .1 .1 .0)
 
 target-returns-4 : (t : ℕ) → target-lts.Need-returns-4 (target-calls t) (target-at t) target.Post
 target-returns-4 t c =
-    let c14 = c .before .before .before .before .before .before .before .before .before .before .before .before .before .before in
-    let c20 = c14 .before .before .before .before .before .before in
-    let c23 = c20 .before .before .before in
-    let c24 = c23 .before in
-    i.target-index (c24 .field .ensures) (c23 .field2 .ensures) (c20 .if5 .taken) (c14 .two2 .ensures) (c .before .before .emit-opcode2 .ensures)
+    let c15 = c .before .before .before .before .before .before .before .before .before .before .before .before .before .before .before in
+    let c22 = c15 .before .before .before .before .before .before .before in
+    let c25 = c22 .before .before .before in
+    let c26 = c25 .before in
+    i.target-index (c26 .field .ensures) (c25 .field2 .ensures) (c22 .if5 .taken) (c15 .two2 .ensures) (c .before .before .emit-opcode2 .ensures)
 
 target-same-length-14 : (t : ℕ) → target-lts.Need-same-length-14 (target-calls t) (target-at t) target.Post
-target-same-length-14 t c = (c .before .before .fault .kept .1 .1 .0)
+target-same-length-14 t c = (c .before .before .fault-in .kept .1 .1 .0)
 
 target-returns-5 : (t : ℕ) → target-lts.Need-returns-5 (target-calls t) (target-at t) target.Post
 target-returns-5 t c =
     let c5 = c .before .before .before .before .before in
     let c6 = c5 .before in
-    let c8 = c6 .before .before in
-    let c19 = c8 .before .before .before .before .before .before .before .before .before .before .before in
-    i.target-other (c8 .field .ensures) (c6 .if3 .left) (c5 .if4 .left) (c .before .before .before .before .if5 .left) (faults (c19 .args .tree .now)
-    (c19 .args .token) 2 (c .before .before .fault .ensures))
+    let c7 = c6 .before in
+    let c9 = c7 .before .before in
+    let c21 = c9 .before .before .before .before .before .before .before .before .before .before .before .before in
+    i.target-other (c9 .field .ensures) (c7 .if3 .left) (c6 .if4 .left) (c5 .if5 .left) (faults (c21 .args .tree .now) (c21 .args .token) 2
+    (c .before .before .fault-in .ensures))
 
 target-returns-6 : (t : ℕ) → target-lts.Need-returns-6 (target-calls t) (target-at t) target.Post
 target-returns-6 t c = i.target-past (c .if2 .left)
 
 two-expression-requires : (t : ℕ) → two-lts.Need-expression-requires (two-calls t) (two-at t) two.Post
 two-expression-requires t c κs =
-    let c5 = c .before .before .before .before .before in
-    let c13 = c5 .before .before .before .before .before .before .before .before in
-    let m = skip-within (c13 .args .tree .now) (c13 .args .at) (c13 .args .end) (c5 .skip .ensures) in omega (arith, m, c13 .pre)
+    let c6 = c .before .before .before .before .before .before in
+    let c14 = c6 .before .before .before .before .before .before .before .before in
+    let m = skip-within (c14 .args .tree .now) (c14 .args .at) (c14 .args .end) (c6 .skip .ensures) in omega (arith, m, c14 .pre)
 
 two-expression-requires-2 : (t : ℕ) → two-lts.Need-expression-requires-2 (two-calls t) (two-at t) two.Post
 two-expression-requires-2 t c κs =
-    let c21 = c .before .before .before .before .before .before .before .before .before .before .before .before .before .before .before .before .before .before .before .before .before in
-    let c29 = c21 .before .before .before .before .before .before .before .before in
-    let m = skip-within (c29 .args .tree .now) (c29 .args .at) (c29 .args .end) (c21 .skip .ensures) in omega (arith, m, c29 .pre)
+    let c23 = c .before .before .before .before .before .before .before .before .before .before .before .before .before .before .before .before .before .before .before .before .before .before .before in
+    let c31 = c23 .before .before .before .before .before .before .before .before in
+    let m = skip-within (c31 .args .tree .now) (c31 .args .at) (c31 .args .end) (c23 .skip .ensures) in omega (arith, m, c31 .pre)
 
 two-same-length : (t : ℕ) → two-lts.Need-same-length (two-calls t) (two-at t) two.Post
 two-same-length t c =
     let c10 = c .before .before .before .before .before .before .before .before .before .before in
-    let c26 = c10 .before .before .before .before .before .before .before .before .before .before .before .before .before .before .before .before in
-    omega (arith, c10 .expression2 .kept, c26 .expression .kept)
+    let c27 = c10 .before .before .before .before .before .before .before .before .before .before .before .before .before .before .before .before .before in
+    omega (arith, c10 .expression2 .kept, c27 .expression .kept)
 
 two-same-length-2 : (t : ℕ) → two-lts.Need-same-length-2 (two-calls t) (two-at t) two.Post
 two-same-length-2 t c =
     let c10 = c .before .before .before .before .before .before .before .before .before .before in
-    let c26 = c10 .before .before .before .before .before .before .before .before .before .before .before .before .before .before .before .before in
-    omega (arith, c10 .expression2 .kept, c26 .expression .kept)
+    let c27 = c10 .before .before .before .before .before .before .before .before .before .before .before .before .before .before .before .before .before in
+    omega (arith, c10 .expression2 .kept, c27 .expression .kept)
 
 two-same-length-3 : (t : ℕ) → two-lts.Need-same-length-3 (two-calls t) (two-at t) two.Post
 two-same-length-3 t c =
     let c10 = c .before .before .before .before .before .before .before .before .before .before in
-    let c26 = c10 .before .before .before .before .before .before .before .before .before .before .before .before .before .before .before .before in
-    omega (arith, c10 .expression2 .kept, c26 .expression .kept)
+    let c27 = c10 .before .before .before .before .before .before .before .before .before .before .before .before .before .before .before .before .before in
+    omega (arith, c10 .expression2 .kept, c27 .expression .kept)
 
 two-same-length-4 : (t : ℕ) → two-lts.Need-same-length-4 (two-calls t) (two-at t) two.Post
 two-same-length-4 t c =
     let c10 = c .before .before .before .before .before .before .before .before .before .before in
-    let c26 = c10 .before .before .before .before .before .before .before .before .before .before .before .before .before .before .before .before in
-    omega (arith, c10 .expression2 .kept, c26 .expression .kept)
+    let c27 = c10 .before .before .before .before .before .before .before .before .before .before .before .before .before .before .before .before .before in
+    omega (arith, c10 .expression2 .kept, c27 .expression .kept)
 
 two-same-length-5 : (t : ℕ) → two-lts.Need-same-length-5 (two-calls t) (two-at t) two.Post
 two-same-length-5 t c =
     let c10 = c .before .before .before .before .before .before .before .before .before .before in
-    let c26 = c10 .before .before .before .before .before .before .before .before .before .before .before .before .before .before .before .before in
-    omega (arith, c10 .expression2 .kept, c26 .expression .kept)
+    let c27 = c10 .before .before .before .before .before .before .before .before .before .before .before .before .before .before .before .before .before in
+    omega (arith, c10 .expression2 .kept, c27 .expression .kept)
 
 two-returns : (t : ℕ) → two-lts.Need-returns (two-calls t) (two-at t) two.Post
 two-returns t c =
     let c10 = c .before .before .before .before .before .before .before .before .before .before in
-    let c26 = c10 .before .before .before .before .before .before .before .before .before .before .before .before .before .before .before .before in
-    let c32 = c26 .before .before .before .before .before .before in
-    e.two-meets (c32 .skip .ensures) (c26 .expression .ensures) (c10 .expression2 .ensures)
+    let c27 = c10 .before .before .before .before .before .before .before .before .before .before .before .before .before .before .before .before .before in
+    let c34 = c27 .before .before .before .before .before .before .before in
+    e.two-meets (c34 .skip .ensures) (c27 .expression .ensures) (c10 .expression2 .ensures)
 
 variable-same-length : (t : ℕ) → variable-lts.Need-same-length (variable-calls t) (variable-at t) variable.Post
 variable-same-length t c =
-    let c8 = c .before .before .before .before .before .before .before .before in
-    (c8 .define-local .kept .0)
+    let c7 = c .before .before .before .before .before .before .before in
+    (c7 .define-local .kept .0)
 
 variable-returns : (t : ℕ) → variable-lts.Need-returns (variable-calls t) (variable-at t) variable.Post
 variable-returns t c =
-    let c8 = c .before .before .before .before .before .before .before .before in
-    let c11 = c8 .before .before .before in
-    v.variable-bare (c11 .field .ensures) (c8 .define-local .ensures) (c .before .before .before .found .given .1) (c .before .field3 .ensures) (c .if2 .taken)
+    let c7 = c .before .before .before .before .before .before .before in
+    let c11 = c7 .before .before .before .before in
+    v.variable-bare (c11 .field .ensures) (c7 .define-local .ensures) (c .before .before .before .found .given .1) (c .before .field3 .ensures) (c .if2 .taken)
 
 variable-expression-requires : (t : ℕ) → variable-lts.Need-expression-requires (variable-calls t) (variable-at t) variable.Post
 variable-expression-requires t c κs =
-    let c5 = c .before .before .before .before .before in
-    let c17 = c5 .before .before .before .before .before .before .before .before .before .before .before .before in
-    let c25 = c17 .before .before .before .before .before .before .before .before in
-    omega (arith, c5 .if2, c17 .if1, c25 .pre)
+    let c6 = c .before .before .before .before .before .before in
+    let c18 = c6 .before .before .before .before .before .before .before .before .before .before .before .before in
+    let c26 = c18 .before .before .before .before .before .before .before .before in
+    omega (arith, c6 .if2, c18 .if1, c26 .pre)
 
 variable-same-length-2 : (t : ℕ) → variable-lts.Need-same-length-2 (variable-calls t) (variable-at t) variable.Post
 variable-same-length-2 t c =
-    let c15 = c .before .before .before .before .before .before .before .before .before .before .before .before .before .before .before in
-    (c .before .before .emit .kept .0) ∙ (c15 .expression .kept .1 .1 .1 .1 .1 .1 .1 .0)
+    let c16 = c .before .before .before .before .before .before .before .before .before .before .before .before .before .before .before .before in
+    (c .before .before .emit .kept .0) ∙ (c16 .expression .kept .1 .1 .1 .1 .1 .1 .1 .0)
 
 variable-same-length-3 : (t : ℕ) → variable-lts.Need-same-length-3 (variable-calls t) (variable-at t) variable.Post
 variable-same-length-3 t c =
-    let c15 = c .before .before .before .before .before .before .before .before .before .before .before .before .before .before .before in
-    (c15 .expression .kept .1 .1 .1 .1 .1 .1 .1 .1 .0)
+    let c16 = c .before .before .before .before .before .before .before .before .before .before .before .before .before .before .before .before in
+    (c16 .expression .kept .1 .1 .1 .1 .1 .1 .1 .1 .0)
 
 variable-same-length-4 : (t : ℕ) → variable-lts.Need-same-length-4 (variable-calls t) (variable-at t) variable.Post
 variable-same-length-4 t c =
-    let c15 = c .before .before .before .before .before .before .before .before .before .before .before .before .before .before .before in
-    let c29 = c15 .before .before .before .before .before .before .before .before .before .before .before .before .before .before in
-    (c15 .expression .kept .1 .1 .1 .1 .1 .1 .1 .1 .1 .0) ∙ (c29 .define-local .kept .0)
+    let c16 = c .before .before .before .before .before .before .before .before .before .before .before .before .before .before .before .before in
+    let c30 = c16 .before .before .before .before .before .before .before .before .before .before .before .before .before .before in
+    (c16 .expression .kept .1 .1 .1 .1 .1 .1 .1 .1 .1 .0) ∙ (c30 .define-local .kept .0)
 
 variable-same-length-5 : (t : ℕ) → variable-lts.Need-same-length-5 (variable-calls t) (variable-at t) variable.Post
 variable-same-length-5 t c =
-    let c15 = c .before .before .before .before .before .before .before .before .before .before .before .before .before .before .before in
-    (c15 .expression .kept .1 .1 .1 .1 .1 .1 .1 .1 .1 .1 .0)
+    let c16 = c .before .before .before .before .before .before .before .before .before .before .before .before .before .before .before .before in
+    (c16 .expression .kept .1 .1 .1 .1 .1 .1 .1 .1 .1 .1 .0)
 
 variable-same-length-6 : (t : ℕ) → variable-lts.Need-same-length-6 (variable-calls t) (variable-at t) variable.Post
 variable-same-length-6 t c =
-    let c15 = c .before .before .before .before .before .before .before .before .before .before .before .before .before .before .before in
-    (c15 .expression .kept .1 .1 .1 .1 .1 .1 .1 .1 .1 .1 .1 .0)
+    let c16 = c .before .before .before .before .before .before .before .before .before .before .before .before .before .before .before .before in
+    (c16 .expression .kept .1 .1 .1 .1 .1 .1 .1 .1 .1 .1 .1 .0)
 
 variable-returns-2 : (t : ℕ) → variable-lts.Need-returns-2 (variable-calls t) (variable-at t) variable.Post
 variable-returns-2 t c =
-    let c15 = c .before .before .before .before .before .before .before .before .before .before .before .before .before .before .before in
-    let c21 = c15 .before .before .before .before .before .before in
-    let c22 = c21 .before in
-    let c24 = c22 .before .before in
-    let c29 = c24 .before .before .before .before .before in
-    let c31 = c29 .before .before in
-    let c32 = c31 .before in
-    v.variable-valued (c32 .field .ensures) (c29 .define-local .ensures) (c24 .found .given .1) (c22 .field3 .ensures) (c31 .field2 .ensures) (c21 .if2 .left)
-    (c15 .expression .ensures)
-    (c .before .before .before .before .to-instruction .ensures) (c .before .before .emit .ensures)
+    let c5 = c .before .before .before .before .before in
+    let c16 = c5 .before .before .before .before .before .before .before .before .before .before .before in
+    let c23 = c16 .before .before .before .before .before .before .before in
+    let c24 = c23 .before in
+    let c26 = c24 .before .before in
+    let c30 = c26 .before .before .before .before in
+    let c33 = c30 .before .before .before in
+    let c34 = c33 .before in
+    v.variable-valued (c34 .field .ensures) (c30 .define-local .ensures) (c26 .found .given .1) (c24 .field3 .ensures) (c33 .field2 .ensures) (c23 .if2 .left)
+    (c16 .expression .ensures)
+    (c5 .to-instruction .ensures) (c .before .before .emit .ensures)
 
 variable-same-length-7 : (t : ℕ) → variable-lts.Need-same-length-7 (variable-calls t) (variable-at t) variable.Post
 variable-same-length-7 t c =
@@ -1797,15 +1837,16 @@ variable-same-length-7 t c =
     (c9 .define-local .kept .0)
 
 variable-same-length-8 : (t : ℕ) → variable-lts.Need-same-length-8 (variable-calls t) (variable-at t) variable.Post
-variable-same-length-8 t c = (c .before .before .fault .kept .1 .1 .0)
+variable-same-length-8 t c = (c .before .before .fault-in .kept .1 .1 .0)
 
 variable-returns-3 : (t : ℕ) → variable-lts.Need-returns-3 (variable-calls t) (variable-at t) variable.Post
 variable-returns-3 t c =
-    let c9 = c .before .before .before .before .before .before .before .before .before in
-    let c12 = c9 .before .before .before in
-    let c21 = c12 .before .before .before .before .before .before .before .before .before in
-    v.variable-there (c12 .field .ensures) (c9 .define-local .ensures) (c .before .before .before .before .enum-told .given .1) (faults (c21 .args .tree .now)
-    (c21 .args .at) 1 (c .before .before .fault .ensures))
+    let c5 = c .before .before .before .before .before in
+    let c9 = c5 .before .before .before .before in
+    let c13 = c9 .before .before .before .before in
+    let c22 = c13 .before .before .before .before .before .before .before .before .before in
+    v.variable-there (c13 .field .ensures) (c9 .define-local .ensures) (c5 .enum-told .given .1) (faults (c22 .args .tree .now) (c22 .args .at) 1
+    (c .before .before .fault-in .ensures))
 
 variable-returns-4 : (t : ℕ) → variable-lts.Need-returns-4 (variable-calls t) (variable-at t) variable.Post
 variable-returns-4 t c = v.variable-past (c .if1 .left)
@@ -1815,41 +1856,41 @@ variables-loop-holds t c = (omega arith, refl, refl, refl, refl, refl, λ m h. h
 
 variables-variable-requires : (t : ℕ) → variables-lts.Need-variable-requires (variables-calls t) (variables-at t) variables.Post variables-Inv-loop variables-μ-loop
 variables-variable-requires t c κs =
-    let c5 = c .before .before .before .before .before in
-    let c6 = c5 .before in
+    let c6 = c .before .before .before .before .before .before in
     let c7 = c6 .before in
-    let c15 = c7 .before .before .before .before .before .before .before .before in
-    let m = skip-inside (c15 .args .tree .now) (c7 .loop .i + 1) (c15 .args .end) (omega (arith, c6 .loop-test .taken)) (c5 .skip .ensures) in
-    omega (arith, m, c7 .loop .inv .0, c6 .loop-test .taken, c15 .pre)
+    let c8 = c7 .before in
+    let c16 = c8 .before .before .before .before .before .before .before .before in
+    let m = skip-inside (c16 .args .tree .now) (c8 .loop .i + 1) (c16 .args .end) (omega (arith, c7 .loop-test .taken)) (c6 .skip .ensures) in
+    omega (arith, m, c8 .loop .inv .0, c7 .loop-test .taken, c16 .pre)
 
 variables-loop-less : (t : ℕ) → variables-lts.Need-loop-less (variables-calls t) (variables-at t) variables.Post variables-Inv-loop variables-μ-loop
 variables-loop-less t c =
-    let c16 = c .before .before .before .before .before .before .before .before .before .before .before .before .before .before .before .before in
-    let c17 = c16 .before in
+    let c17 = c .before .before .before .before .before .before .before .before .before .before .before .before .before .before .before .before .before in
     let c18 = c17 .before in
-    let c26 = c18 .before .before .before .before .before .before .before .before in
-    let m = skip-inside (c26 .args .tree .now) (c18 .loop .i + 1) (c26 .args .end) (omega (arith, c17 .loop-test .taken)) (c16 .skip .ensures) in
-    omega (arith, m, c17 .loop-test .taken)
+    let c19 = c18 .before in
+    let c27 = c19 .before .before .before .before .before .before .before .before in
+    let m = skip-inside (c27 .args .tree .now) (c19 .loop .i + 1) (c27 .args .end) (omega (arith, c18 .loop-test .taken)) (c17 .skip .ensures) in
+    omega (arith, m, c18 .loop-test .taken)
 
 variables-loop-again : (t : ℕ) → variables-lts.Need-loop-again (variables-calls t) (variables-at t) variables.Post variables-Inv-loop variables-μ-loop
 variables-loop-again t c =
     let c10 = c .before .before .before .before .before .before .before .before .before .before in
-    let c16 = c10 .before .before .before .before .before .before in
-    let c17 = c16 .before in
+    let c17 = c10 .before .before .before .before .before .before .before in
     let c18 = c17 .before in
-    let c26 = c18 .before .before .before .before .before .before .before .before in
-    let m = skip-inside (c26 .args .tree .now) (c18 .loop .i + 1) (c26 .args .end) (omega (arith, c17 .loop-test .taken)) (c16 .skip .ensures) in (
-      omega (arith, m, c18 .loop .inv .0),
-      omega (arith, c18 .loop .inv .1, c10 .variable .kept),
-      omega (arith, c18 .loop .inv .2, c10 .variable .kept),
-      omega (arith, c18 .loop .inv .3, c10 .variable .kept),
-      omega (arith, c18 .loop .inv .4, c10 .variable .kept),
+    let c19 = c18 .before in
+    let c27 = c19 .before .before .before .before .before .before .before .before in
+    let m = skip-inside (c27 .args .tree .now) (c19 .loop .i + 1) (c27 .args .end) (omega (arith, c18 .loop-test .taken)) (c17 .skip .ensures) in (
+      omega (arith, m, c19 .loop .inv .0),
+      omega (arith, c19 .loop .inv .1, c10 .variable .kept),
+      omega (arith, c19 .loop .inv .2, c10 .variable .kept),
+      omega (arith, c19 .loop .inv .3, c10 .variable .kept),
+      omega (arith, c19 .loop .inv .4, c10 .variable .kept),
       omega (
         arith,
-        c18 .loop .inv .5,
+        c19 .loop .inv .5,
         c10 .variable .kept,
       ),
-      λ m h. c18 .loop .inv .6 m (v.list-more (c17 .loop-test .taken) (c16 .skip .ensures) (c10 .variable .ensures) h),
+      λ m h. c19 .loop .inv .6 m (v.list-more (c18 .loop-test .taken) (c17 .skip .ensures) (c10 .variable .ensures) h),
     )
 
 variables-same-length : (t : ℕ) → variables-lts.Need-same-length (variables-calls t) (variables-at t) variables.Post variables-Inv-loop variables-μ-loop
@@ -1891,11 +1932,12 @@ pub +block+expression+expressions+false-part+for-part+if-part+infix-part+inner+s
     (λ t. block-lts.spec (block-calls t)
     (block-at t)
     block.Post
-    (λ c κs. search needs)
+    (λ c κs. tt)
+    (λ c κs. tt)
     (λ c. omega arith)
     (block-statements-requires t)
-    (λ c κs. search needs)
-    (λ c κs. search needs)
+    (λ c κs. tt)
+    (λ c κs. tt)
     (block-same-length t)
     (block-same-length-2 t)
     (block-same-length-3 t)
@@ -1906,6 +1948,7 @@ pub +block+expression+expressions+false-part+for-part+if-part+infix-part+inner+s
     (λ t. expression-lts.spec (expression-calls t)
     (expression-at t)
     expression.Post
+    (λ c κs. tt)
     (expression-returns t)
     (λ c κs. search needs)
     (λ c κs. search needs)
@@ -1937,7 +1980,7 @@ pub +block+expression+expressions+false-part+for-part+if-part+infix-part+inner+s
     (λ c. omega arith)
     (expression-expressions-requires t)
     (λ c κs. search needs)
-    (λ c κs. search needs)
+    (λ c κs. tt)
     (expression-same-length-16 t)
     (expression-same-length-17 t)
     (expression-same-length-18 t)
@@ -1951,7 +1994,7 @@ pub +block+expression+expressions+false-part+for-part+if-part+infix-part+inner+s
     (expression-expression-requires-2 t)
     (expression-expressions-requires-2 t)
     (λ c κs. search needs)
-    (λ c κs. search needs)
+    (λ c κs. tt)
     (expression-same-length-21 t)
     (expression-same-length-22 t)
     (expression-same-length-23 t)
@@ -1960,7 +2003,7 @@ pub +block+expression+expressions+false-part+for-part+if-part+infix-part+inner+s
     (expression-returns-6 t)
     (λ c. omega arith)
     (expression-two-requires t)
-    (λ c κs. search needs)
+    (λ c κs. tt)
     (expression-same-length-26 t)
     (expression-same-length-27 t)
     (expression-same-length-28 t)
@@ -1969,7 +2012,7 @@ pub +block+expression+expressions+false-part+for-part+if-part+infix-part+inner+s
     (expression-returns-7 t)
     (λ c. omega arith)
     (expression-two-requires-2 t)
-    (λ c κs. search needs)
+    (λ c κs. tt)
     (expression-same-length-31 t)
     (expression-same-length-32 t)
     (expression-same-length-33 t)
@@ -2008,7 +2051,7 @@ pub +block+expression+expressions+false-part+for-part+if-part+infix-part+inner+s
     (false-part-same-length-4 t)
     (false-part-same-length-5 t)
     (false-part-returns t)
-    (λ c κs. search needs)
+    (λ c κs. tt)
     (false-part-same-length-6 t)
     (false-part-returns-2 t))
     (λ t. for-part-lts.spec (for-part-calls t)
@@ -2016,6 +2059,7 @@ pub +block+expression+expressions+false-part+for-part+if-part+infix-part+inner+s
     for-part.Post
     (λ c. omega arith)
     (λ c. omega arith)
+    (λ c κs. tt)
     (λ c κs. tt)
     (λ c κs. tt)
     (λ c. omega arith)
@@ -2040,18 +2084,18 @@ pub +block+expression+expressions+false-part+for-part+if-part+infix-part+inner+s
     (λ c κs. tt)
     (λ c. omega arith)
     (if-part-expression-requires t)
-    (λ c κs. search needs)
-    (λ c κs. search needs)
+    (λ c κs. tt)
+    (λ c κs. tt)
     (if-part-false-part-requires t)
+    (λ c κs. tt)
+    (λ c κs. tt)
+    (λ c κs. tt)
     (λ c κs. search needs)
-    (λ c κs. search needs)
-    (λ c κs. search needs)
-    (λ c κs. search needs)
-    (λ c κs. search needs)
+    (λ c κs. tt)
     (if-part-block-requires t)
+    (λ c κs. tt)
     (λ c κs. search needs)
-    (λ c κs. search needs)
-    (λ c κs. search needs)
+    (λ c κs. tt)
     (if-part-same-length t)
     (if-part-same-length-2 t)
     (if-part-same-length-3 t)
@@ -2109,7 +2153,7 @@ pub +block+expression+expressions+false-part+for-part+if-part+infix-part+inner+s
     (λ c κs. search needs)
     (λ c. omega arith)
     (inner-expression-requires t)
-    (λ c κs. search needs)
+    (λ c κs. tt)
     (inner-same-length t)
     (inner-same-length-2 t)
     (inner-same-length-3 t)
@@ -2131,7 +2175,7 @@ pub +block+expression+expressions+false-part+for-part+if-part+infix-part+inner+s
     (inner-same-length-14 t)
     (inner-same-length-15 t)
     (inner-returns-3 t)
-    (λ c κs. search needs)
+    (λ c κs. tt)
     (inner-same-length-16 t)
     (inner-same-length-17 t)
     (inner-returns-4 t)
@@ -2139,17 +2183,19 @@ pub +block+expression+expressions+false-part+for-part+if-part+infix-part+inner+s
     (inner-same-length-18 t)
     (inner-same-length-19 t)
     (inner-returns-5 t)
-    (λ c κs. search needs)
+    (λ c κs. tt)
     (inner-same-length-20 t)
     (inner-returns-6 t)
     (inner-returns-7 t))
     (λ t. statement-lts.spec (statement-calls t)
     (statement-at t)
     statement′.Post
+    (λ c κs. tt)
     (statement-returns t)
-    (λ c κs. search needs)
+    (λ c κs. tt)
+    (λ c κs. tt)
     (statement-inner-requires t)
-    (λ c κs. search needs)
+    (λ c κs. tt)
     (statement-same-length t)
     (statement-same-length-2 t)
     (statement-same-length-3 t)
@@ -2176,6 +2222,7 @@ pub +block+expression+expressions+false-part+for-part+if-part+infix-part+inner+s
     (λ t. target-lts.spec (target-calls t)
     (target-at t)
     target.Post
+    (λ c κs. tt)
     (target-returns t)
     (λ c κs. search needs)
     (λ c κs. search needs)
@@ -2186,7 +2233,7 @@ pub +block+expression+expressions+false-part+for-part+if-part+infix-part+inner+s
     (target-returns-2 t)
     (λ c. omega arith)
     (target-two-requires t)
-    (λ c κs. search needs)
+    (λ c κs. tt)
     (target-same-length-4 t)
     (target-same-length-5 t)
     (target-same-length-6 t)
@@ -2195,7 +2242,7 @@ pub +block+expression+expressions+false-part+for-part+if-part+infix-part+inner+s
     (target-returns-3 t)
     (λ c. omega arith)
     (target-two-requires-2 t)
-    (λ c κs. search needs)
+    (λ c κs. tt)
     (target-same-length-9 t)
     (target-same-length-10 t)
     (target-same-length-11 t)
@@ -2223,7 +2270,7 @@ pub +block+expression+expressions+false-part+for-part+if-part+infix-part+inner+s
     variable.Post
     (λ c κs. search needs)
     (λ c κs. search needs)
-    (λ c κs. search needs)
+    (λ c κs. tt)
     (λ c. search needs)
     (λ c. omega arith)
     (λ c κs. search needs)
@@ -2232,7 +2279,7 @@ pub +block+expression+expressions+false-part+for-part+if-part+infix-part+inner+s
     (λ c. omega arith)
     (variable-expression-requires t)
     (λ c κs. search needs)
-    (λ c κs. search needs)
+    (λ c κs. tt)
     (variable-same-length-2 t)
     (variable-same-length-3 t)
     (variable-same-length-4 t)

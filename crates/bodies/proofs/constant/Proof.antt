@@ -7,10 +7,11 @@ use borrow.Author.Needs.{needs}
 
 returns : tie.Need-returns
 returns c =
-    let c8 = c .before .before .before .before .before .before .before .before in
-    let c12 = c8 .before .before .before .before in
-    constant-acts 2 (c12 .args .kind) (c12 .args .value) (c12 .args .position) (c8 .add-constant .ensures)
-    (c .before .before .before .before .to-instruction .ensures) (c .before .before .emit .ensures)
+    let c5 = c .before .before .before .before .before in
+    let c8 = c5 .before .before .before in
+    let c13 = c8 .before .before .before .before .before in
+    constant-acts 2 (c13 .args .kind) (c13 .args .value) (c13 .args .position) (c8 .add-constant .ensures) (c5 .to-instruction .ensures)
+    (c .before .before .emit .ensures)
 
 pub constant-spec : {M : Type 1} → statement M
 constant-spec =

@@ -8,11 +8,12 @@ use borrow.Author.Needs.{needs}
 
 returns : tie.Need-returns
 returns c =
-    let c7 = c .before .before .before .before .before .before .before in
-    let c12 = c7 .before .before .before .before .before in
-    let c16 = c12 .before .before .before .before in
-    global-acts (numberOf (c16 .args .opcode)) (c16 .args .name) (c16 .args .position) (c12 .add-constant .ensures) (c7 .mark-global .ensures)
-    (c .before .before .before .before .to-instruction .ensures)
+    let c5 = c .before .before .before .before .before in
+    let c8 = c5 .before .before .before in
+    let c13 = c8 .before .before .before .before .before in
+    let c18 = c13 .before .before .before .before .before in
+    global-acts (numberOf (c18 .args .opcode)) (c18 .args .name) (c18 .args .position) (c13 .add-constant .ensures) (c8 .mark-global .ensures)
+    (c5 .to-instruction .ensures)
     (c .before .before .emit .ensures)
 
 pub global-spec : {M : Type 1} → statement M

@@ -8,28 +8,28 @@ use native.Mathlib.Omega.{arith}
 
 same-length : tie.Need-same-length
 same-length c =
-    let c8 = c .before .before .before .before .before .before .before .before in
-    let c13 = c8 .before .before .before .before .before in
-    let c19 = c13 .before .before .before .before .before .before in
-    let c26 = c19 .before .before .before .before .before .before .before in
-    omega (arith, c26 .emit .kept, c19 .emit2 .kept, c13 .replace-instruction .kept, c8 .exit-break-scope .kept)
+    let c9 = c .before .before .before .before .before .before .before .before .before in
+    let c15 = c9 .before .before .before .before .before .before in
+    let c23 = c15 .before .before .before .before .before .before .before .before in
+    let c32 = c23 .before .before .before .before .before .before .before .before .before in
+    omega (arith, c32 .emit .kept, c23 .emit2 .kept, c15 .replace-instruction .kept, c9 .exit-break-scope .kept)
 
 returns : tie.Need-returns
 returns c =
-    let c8 = c .before .before .before .before .before .before .before .before in
-    let c13 = c8 .before .before .before .before .before in
-    let c15 = c13 .before .before in
-    let c16 = c15 .before in
-    let c19 = c16 .before .before .before in
-    let c21 = c19 .before .before in
-    let c22 = c21 .before in
-    let c26 = c22 .before .before .before .before in
-    let c28 = c26 .before .before in
-    let c29 = c28 .before in
-    let c30 = c29 .before in
-    end-ends (c30 .get-last-position .ensures) (c29 .wrapping-add-u64 .ensures) (c28 .to-instruction .ensures) (c26 .emit .ensures)
-    (c22 .get-last-position2 .ensures) (c21 .to-instruction2 .ensures) (c19 .emit2 .ensures) (c16 .get-next-instruction-index .ensures)
-    (c15 .to-instruction3 .ensures) (c13 .replace-instruction .ensures) (c8 .exit-break-scope .ensures) (c .before .before .exit-scope .ensures)
+    let c9 = c .before .before .before .before .before .before .before .before .before in
+    let c15 = c9 .before .before .before .before .before .before in
+    let c18 = c15 .before .before .before in
+    let c19 = c18 .before in
+    let c23 = c19 .before .before .before .before in
+    let c26 = c23 .before .before .before in
+    let c27 = c26 .before in
+    let c32 = c27 .before .before .before .before .before in
+    let c35 = c32 .before .before .before in
+    let c36 = c35 .before in
+    let c37 = c36 .before in
+    end-ends (c37 .get-last-position .ensures) (c36 .wrapping-add-u64 .ensures) (c35 .to-instruction .ensures) (c32 .emit .ensures)
+    (c27 .get-last-position2 .ensures) (c26 .to-instruction2 .ensures) (c23 .emit2 .ensures) (c19 .get-next-instruction-index .ensures)
+    (c18 .to-instruction3 .ensures) (c15 .replace-instruction .ensures) (c9 .exit-break-scope .ensures) (c .before .before .exit-scope .ensures)
 
 pub loop-end-spec : {M : Type 1} → statement M
 loop-end-spec =

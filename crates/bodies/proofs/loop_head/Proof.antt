@@ -8,31 +8,31 @@ use native.Mathlib.Omega.{arith}
 
 same-length : tie.Need-same-length
 same-length c =
-    let c6 = c .before .before .before .before .before .before in
-    let c14 = c6 .before .before .before .before .before .before .before .before in
-    let c19 = c14 .before .before .before .before .before in
-    let c23 = c19 .before .before .before .before in
+    let c7 = c .before .before .before .before .before .before .before in
+    let c16 = c7 .before .before .before .before .before .before .before .before .before in
+    let c22 = c16 .before .before .before .before .before .before in
+    let c27 = c22 .before .before .before .before .before in
     omega (
       arith,
-      c23 .emit .kept,
-      c19 .emit-opcode-without-position .kept,
-      c14 .constant .kept,
-      c6 .emit2 .kept,
+      c27 .emit .kept,
+      c22 .emit-opcode-without-position .kept,
+      c16 .constant .kept,
+      c7 .emit2 .kept,
       c .before .before .emit-opcode-without-position2 .kept,
     )
 
 returns : tie.Need-returns
 returns c =
-    let c6 = c .before .before .before .before .before .before in
-    let c8 = c6 .before .before in
-    let c9 = c8 .before in
-    let c14 = c9 .before .before .before .before .before in
-    let c19 = c14 .before .before .before .before .before in
-    let c23 = c19 .before .before .before .before in
-    let c25 = c23 .before .before in
-    let c26 = c25 .before in
-    head-acts (c26 .field .ensures) (c25 .to-instruction .ensures) (c23 .emit .ensures) (c19 .emit-opcode-without-position .ensures) (c14 .constant .ensures)
-    (c9 .wrapping-add-u64 .ensures) (c8 .to-instruction2 .ensures) (c6 .emit2 .ensures)
+    let c7 = c .before .before .before .before .before .before .before in
+    let c10 = c7 .before .before .before in
+    let c11 = c10 .before in
+    let c16 = c11 .before .before .before .before .before in
+    let c22 = c16 .before .before .before .before .before .before in
+    let c27 = c22 .before .before .before .before .before in
+    let c30 = c27 .before .before .before in
+    let c31 = c30 .before in
+    head-acts (c31 .field .ensures) (c30 .to-instruction .ensures) (c27 .emit .ensures) (c22 .emit-opcode-without-position .ensures) (c16 .constant .ensures)
+    (c11 .wrapping-add-u64 .ensures) (c10 .to-instruction2 .ensures) (c7 .emit2 .ensures)
     (c .before .before .emit-opcode-without-position2 .ensures)
 
 pub loop-head-spec : {M : Type 1} → statement M

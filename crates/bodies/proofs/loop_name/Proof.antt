@@ -8,27 +8,27 @@ use native.Mathlib.Omega.{arith}
 
 same-length-2 : tie.Need-same-length-2
 same-length-2 c =
-    let c24 = c .before .before .before .before .before .before .before .before .before .before .before .before .before .before .before .before .before .before .before .before .before .before .before .before in
-    omega (arith, c24 .define-local .kept)
+    let c29 = c .before .before .before .before .before .before .before .before .before .before .before .before .before .before .before .before .before .before .before .before .before .before .before .before .before .before .before .before .before in
+    omega (arith, c29 .define-local .kept)
 
 returns : tie.Need-returns
 returns c =
-    let c6 = c .before .before .before .before .before .before in
-    let c8 = c6 .before .before in
-    let c11 = c8 .before .before .before in
-    let c13 = c11 .before .before in
+    let c7 = c .before .before .before .before .before .before .before in
+    let c10 = c7 .before .before .before in
+    let c13 = c10 .before .before .before in
     let c16 = c13 .before .before .before in
-    let c18 = c16 .before .before in
-    let c19 = c18 .before in
-    let c20 = c19 .before in
-    let c24 = c20 .before .before .before .before in
+    let c20 = c16 .before .before .before .before in
+    let c23 = c20 .before .before .before in
+    let c24 = c23 .before in
     let c26 = c24 .before .before in
-    let c27 = c26 .before in
-    let c28 = c27 .before in
-    name-names (c28 .field .ensures) (c27 .field2 .ensures) (c26 .field3 .ensures) (c24 .define-local .ensures) (c20 .found-or-zero .ensures)
-    (c19 .get-next-instruction-index .ensures) (c18 .to-instruction .ensures)
-    (c16 .emit .ensures) (c13 .get-next-instruction-index2 .ensures) (c11 .emit-opcode-without-position .ensures) (c8 .to-instruction2 .ensures)
-    (c6 .emit2 .ensures) (c .before .before .emit-opcode-without-position2 .ensures)
+    let c29 = c26 .before .before .before in
+    let c32 = c29 .before .before .before in
+    let c33 = c32 .before in
+    let c34 = c33 .before in
+    name-names (c34 .field .ensures) (c33 .field2 .ensures) (c32 .field3 .ensures) (c29 .define-local .ensures) (c26 .found-or-zero .ensures)
+    (c24 .get-next-instruction-index .ensures) (c23 .to-instruction .ensures)
+    (c20 .emit .ensures) (c16 .get-next-instruction-index2 .ensures) (c13 .emit-opcode-without-position .ensures) (c10 .to-instruction2 .ensures)
+    (c7 .emit2 .ensures) (c .before .before .emit-opcode-without-position2 .ensures)
 
 pub loop-name-spec : {M : Type 1} → statement M
 loop-name-spec =

@@ -6,8 +6,10 @@ use Rattle.bodies.proofs.loop_start.Tie as tie
 use borrow.Author.Needs.{needs}
 
 returns : tie.Need-returns
-returns c = start-acts (c .before .before .before .define-anonymous-local .ensures) (c .before .before .define-anonymous-local2 .ensures)
-    (c .before .enter-scope .ensures) (c .enter-break-scope .ensures)
+returns c =
+    let c6 = c .before .before .before .before .before .before in
+    start-acts (c6 .define-anonymous-local .ensures) (c .before .before .before .before .define-anonymous-local2 .ensures)
+    (c .before .before .enter-scope .ensures) (c .enter-break-scope .ensures)
 
 pub loop-start-spec : {M : Type 1} → statement M
 loop-start-spec =

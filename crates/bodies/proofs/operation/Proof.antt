@@ -7,19 +7,20 @@ use borrow.Author.Needs.{needs}
 
 returns : tie.Need-returns
 returns c =
-    let c7 = c .before .before .before .before .before .before .before in
-    let c9 = c7 .before .before in
-    let c10 = c9 .before in
-    let c12 = c10 .before .before in
-    operation-not (c12 .args .value) (c12 .args .position) (c10 .operation-of .ensures) (c9 .to-instruction .ensures) (c7 .emit .ensures)
-    (c .before .before .before .before .if1 .taken) (c .before .before .emit-opcode .ensures)
+    let c5 = c .before .before .before .before .before in
+    let c8 = c5 .before .before .before in
+    let c11 = c8 .before .before .before in
+    let c12 = c11 .before in
+    let c14 = c12 .before .before in
+    operation-not (c14 .args .value) (c14 .args .position) (c12 .operation-of .ensures) (c11 .to-instruction .ensures) (c8 .emit .ensures) (c5 .if1 .taken)
+    (c .before .before .emit-opcode .ensures)
 
 returns-2 : tie.Need-returns-2
 returns-2 c =
-    let c5 = c .before .before .before .before .before in
-    let c6 = c5 .before in
-    let c8 = c6 .before .before in
-    operation-plain (c8 .args .value) (c8 .args .position) (c6 .operation-of .ensures) (c5 .to-instruction .ensures) (c .before .before .before .emit .ensures)
+    let c6 = c .before .before .before .before .before .before in
+    let c7 = c6 .before in
+    let c9 = c7 .before .before in
+    operation-plain (c9 .args .value) (c9 .args .position) (c7 .operation-of .ensures) (c6 .to-instruction .ensures) (c .before .before .before .emit .ensures)
     (c .if1 .left)
 
 pub operation-spec : {M : Type 1} → statement M

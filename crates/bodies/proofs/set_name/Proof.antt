@@ -7,10 +7,10 @@ use borrow.Author.Needs.{needs}
 
 returns : tie.Need-returns
 returns c =
-    let c7 = c .before .before .before .before .before .before .before in
-    let c8 = c7 .before in
-    let c14 = c8 .before .before .before .before .before .before in
-    set-name-way (c14 .args .tree .now) (c14 .args .at) (c14 .args .token) (c8 .field .ensures) (c7 .field2 .ensures)
+    let c8 = c .before .before .before .before .before .before .before .before in
+    let c9 = c8 .before in
+    let c15 = c9 .before .before .before .before .before .before in
+    set-name-way (c15 .args .tree .now) (c15 .args .at) (c15 .args .token) (c9 .field .ensures) (c8 .field2 .ensures)
     (c .before .before .before .before .name .ensures)
 
 pub set-name-spec : {M : Type 1} → statement M

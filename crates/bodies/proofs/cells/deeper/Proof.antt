@@ -1,0 +1,14 @@
+-- `bodies::cells::deeper` meets its contract: the state is loaded and stored. Assumes nothing.
+-- Made from Proof.answers by `answers make`: edit that file, and not this one.
+use Rattle.bodies.proofs.StateWords.{stored}
+use Rattle.bodies.proofs.cells.deeper.Statement.{statement}
+use Rattle.bodies.proofs.cells.deeper.Tie as tie
+use borrow.Author.Needs.{needs}
+
+returns : tie.Need-returns
+returns c = rw (stored (c .before .before .deeper .result) (c .store .ensures)) (rw (c .before .before .before .load .ensures) at
+    (c .before .before .deeper .ensures))
+
+pub deeper-spec : {M : Type 1} → statement M
+deeper-spec =
+    tie.close (tie.spec (λ c κs. search needs) (λ c κs. search needs) (λ c κs. search needs) returns)

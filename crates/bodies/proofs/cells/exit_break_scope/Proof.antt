@@ -1,0 +1,23 @@
+-- `bodies::cells::exit_break_scope` meets its contract: the state is loaded and stored. Assumes nothing.
+-- Made from Proof.answers by `answers make`: edit that file, and not this one.
+use Rattle.bodies.proofs.StateWords.{stored}
+use Rattle.bodies.proofs.cells.exit_break_scope.Statement.{statement}
+use Rattle.bodies.proofs.cells.exit_break_scope.Tie as tie
+use borrow.Author.Needs.{needs}
+
+returns : tie.Need-returns
+returns c =
+    let c6 = c .before .before .before .before .before .before in
+    let c9 = c6 .before .before .before in
+    rw (stored (c6 .exit-break-scope .result) (c .store .ensures)) (rw (c9 .load .ensures) at (c6 .exit-break-scope .ensures))
+
+pub exit-break-scope-spec : {M : Type 1} → statement M
+exit-break-scope-spec =
+    tie.close
+    (tie.spec
+    (λ c κs. search needs)
+    (λ c κs. search needs)
+    (λ c κs. search needs)
+    (λ c. search needs)
+    (λ c. search needs)
+    returns)

@@ -1,0 +1,364 @@
+// `FunctionState` as fifteen lent words, in the order of its fields: the compilers of this crate hand one reference on in place of the record by value.
+// Each routine does to the words what `building`'s of the same name does to the record.
+ghost use mathlib.Core.Path.{_≡_};
+ghost use Rattle.words.specs.Codes.{codeWord, numberOf};
+ghost use Rattle.words.specs.Opcode.{word, toInstruction};
+ghost use Rattle.building.specs.Emission.{coded, breaking, nextC, lastPositionC, emitC, emitLastC, emitNullC, removePopC, emitReturnC, replaceC};
+ghost use Rattle.building.specs.Emission.{emitBreakC, enterBreakC, exitBreakC, deeperC, depthC, rescueC};
+ghost use Rattle.building.specs.Found.{foundOf};
+ghost use Rattle.building.specs.Scopes.{naming, findLocalC, enterScopeC, exitScopeC, defineAnonymousC, Defines};
+ghost use Rattle.building.specs.Pool.{pooling, addConstantC, markGlobalC, erring, pushErrorC};
+ghost use Rattle.building.specs.Taking.{taken};
+ghost use Rattle.building.specs.State.{withCode, withConstants};
+ghost use Rattle.bodies.specs.Cells.{stateOf, wordsOf, defined, flagWord};
+use building::function_state;
+use building::function_state::FunctionState;
+use building::pool;
+use building::scopes;
+use building::scopes::Found;
+use words::opcode::Instruction;
+use words::opcode::OpCode;
+
+// The state that the words are. A flag is set where its word is not 0.
+pub(crate) fn load(cells: &[u64; 15]) -> FunctionState
+    ensures { λ r. ⌜ r ≡ stateOf (now (cells .entry)) ⌝ }
+{
+    FunctionState {
+        full: cells[0],
+        code: cells[1] as usize,
+        constants: cells[2] as usize,
+        names: cells[3] as usize,
+        breaks: cells[4] as usize,
+        errors: cells[5] as usize,
+        base: cells[6] as usize,
+        scope_base: cells[7] as usize,
+        break_base: cells[8] as usize,
+        in_loop: cells[9] != 0,
+        depth: cells[10] as usize,
+        rescue_position: cells[11] as usize,
+        is_instance: cells[12] != 0,
+        parameter_count: cells[13] as usize,
+        local_count: cells[14],
+    }
+}
+
+fn flag_word(flag: bool) -> u64
+    ensures { λ r. ⌜ r ≡ flagWord flag ⌝ }
+{
+    if flag {
+        return 1;
+    }
+    0
+}
+
+// The words of a state.
+pub(crate) fn store(cells: &mut [u64; 15], state: FunctionState)
+    ensures { λ _. ⌜ now (cells .exit) ≡ wordsOf state ⌝ }
+{
+    let in_loop = flag_word(state.in_loop);
+    let is_instance = flag_word(state.is_instance);
+    *cells = [
+        state.full,
+        state.code as u64,
+        state.constants as u64,
+        state.names as u64,
+        state.breaks as u64,
+        state.errors as u64,
+        state.base as u64,
+        state.scope_base as u64,
+        state.break_base as u64,
+        in_loop,
+        state.depth as u64,
+        state.rescue_position as u64,
+        is_instance,
+        state.parameter_count as u64,
+        state.local_count,
+    ];
+}
+
+// The words with a new mark and a new count of the code; the others are read again, not carried over a call.
+fn keep_code(cells: &mut [u64; 15], full: u64, code: usize)
+    ensures { λ _. ⌜ stateOf (now (cells .exit)) ≡ withCode (taken full code) (stateOf (now (cells .entry))) ⌝ }
+{
+    *cells = [
+        full,
+        code as u64,
+        cells[2],
+        cells[3],
+        cells[4],
+        cells[5],
+        cells[6],
+        cells[7],
+        cells[8],
+        cells[9],
+        cells[10],
+        cells[11],
+        cells[12],
+        cells[13],
+        cells[14],
+    ];
+}
+
+// The words with a new mark and a new count of the constants; the others are read again, not carried over a call.
+fn keep_constants(cells: &mut [u64; 15], full: u64, constants: usize)
+    ensures { λ _. ⌜ stateOf (now (cells .exit)) ≡ withConstants (taken full constants) (stateOf (now (cells .entry))) ⌝ }
+{
+    *cells = [
+        full,
+        cells[1],
+        constants as u64,
+        cells[3],
+        cells[4],
+        cells[5],
+        cells[6],
+        cells[7],
+        cells[8],
+        cells[9],
+        cells[10],
+        cells[11],
+        cells[12],
+        cells[13],
+        cells[14],
+    ];
+}
+
+pub(crate) fn get_last_position(code: &[u64], cells: &[u64; 15]) -> u64
+    ensures { λ r. ⌜ r ≡ lastPositionC (coded (stateOf (now (cells .entry))) (now (code .entry))) ⌝ }
+{
+    let s = load(cells);
+    function_state::get_last_position(code, s)
+}
+
+pub(crate) fn get_next_instruction_index(cells: &[u64; 15]) -> usize
+    ensures { λ r. ⌜ r ≡ nextC (stateOf (now (cells .entry))) ⌝ }
+{
+    let s = load(cells);
+    function_state::get_next_instruction_index(s)
+}
+
+// Of the words only the mark and the count of the code change.
+pub(crate) fn emit(code: &mut [u64], cells: &mut [u64; 15], instruction: Instruction, position: u64)
+    ensures { λ _. ⌜ coded (stateOf (now (cells .exit))) (now (code .exit))
+        ≡ emitC (codeWord instruction) position (coded (stateOf (now (cells .entry))) (now (code .entry))) ⌝ }
+{
+    let s = load(cells);
+    let t = function_state::emit(code, s, instruction, position);
+    keep_code(cells, t.full, t.code);
+}
+
+pub(crate) fn emit_opcode(code: &mut [u64], cells: &mut [u64; 15], opcode: OpCode, position: u64)
+    ensures { λ _. ⌜ coded (stateOf (now (cells .exit))) (now (code .exit))
+        ≡ emitC (word (toInstruction (numberOf opcode) 0)) position (coded (stateOf (now (cells .entry))) (now (code .entry))) ⌝ }
+{
+    let instruction = opcode.to_instruction(0);
+    emit(code, cells, instruction, position);
+}
+
+pub(crate) fn emit_opcode_without_position(code: &mut [u64], cells: &mut [u64; 15], opcode: OpCode)
+    ensures { λ _. ⌜ coded (stateOf (now (cells .exit))) (now (code .exit))
+        ≡ emitLastC (word (toInstruction (numberOf opcode) 0)) (coded (stateOf (now (cells .entry))) (now (code .entry))) ⌝ }
+{
+    let position = get_last_position(code, cells);
+    emit_opcode(code, cells, opcode, position);
+}
+
+pub(crate) fn emit_null(code: &mut [u64], cells: &mut [u64; 15])
+    ensures { λ _. ⌜ coded (stateOf (now (cells .exit))) (now (code .exit)) ≡ emitNullC (coded (stateOf (now (cells .entry))) (now (code .entry))) ⌝ }
+{
+    let s = load(cells);
+    let t = function_state::emit_null(code, s);
+    store(cells, t);
+}
+
+pub(crate) fn remove_pop_or_push_null(code: &mut [u64], cells: &mut [u64; 15])
+    ensures { λ _. ⌜ coded (stateOf (now (cells .exit))) (now (code .exit)) ≡ removePopC (coded (stateOf (now (cells .entry))) (now (code .entry))) ⌝ }
+{
+    let s = load(cells);
+    let t = function_state::remove_pop_or_push_null(code, s);
+    store(cells, t);
+}
+
+pub(crate) fn emit_return(code: &mut [u64], cells: &mut [u64; 15], position: u64)
+    ensures { λ _. ⌜ coded (stateOf (now (cells .exit))) (now (code .exit))
+        ≡ emitReturnC position (coded (stateOf (now (cells .entry))) (now (code .entry))) ⌝ }
+{
+    let s = load(cells);
+    let t = function_state::emit_return(code, s, position);
+    store(cells, t);
+}
+
+pub(crate) fn replace_instruction(
+    code: &mut [u64],
+    cells: &[u64; 15],
+    index: usize,
+    instruction: Instruction,
+)
+    ensures { λ _. ⌜ coded (stateOf (now (cells .entry))) (now (code .exit))
+        ≡ replaceC index (codeWord instruction) (coded (stateOf (now (cells .entry))) (now (code .entry))) ⌝ }
+{
+    let s = load(cells);
+    function_state::replace_instruction(code, s, index, instruction);
+}
+
+pub(crate) fn emit_break(code: &mut [u64], breaks: &mut [u64], cells: &mut [u64; 15], position: u64)
+    ensures { λ _. ⌜ breaking (stateOf (now (cells .exit))) (now (code .exit)) (now (breaks .exit))
+        ≡ emitBreakC position (breaking (stateOf (now (cells .entry))) (now (code .entry)) (now (breaks .entry))) ⌝ }
+{
+    let s = load(cells);
+    let t = function_state::emit_break(code, breaks, s, position);
+    store(cells, t);
+}
+
+pub(crate) fn enter_break_scope(cells: &mut [u64; 15])
+    ensures { λ _. ⌜ stateOf (now (cells .exit)) ≡ enterBreakC (stateOf (now (cells .entry))) ⌝ }
+{
+    let s = load(cells);
+    let t = function_state::enter_break_scope(s);
+    store(cells, t);
+}
+
+pub(crate) fn exit_break_scope(
+    code: &mut [u64],
+    breaks: &mut [u64],
+    cells: &mut [u64; 15],
+    start: usize,
+    inside: bool,
+)
+    ensures { λ _. ⌜ breaking (stateOf (now (cells .exit))) (now (code .exit)) (now (breaks .exit))
+        ≡ exitBreakC start inside (breaking (stateOf (now (cells .entry))) (now (code .entry)) (now (breaks .entry))) ⌝ }
+{
+    let s = load(cells);
+    let t = function_state::exit_break_scope(code, breaks, s, start, inside);
+    store(cells, t);
+}
+
+pub(crate) fn deeper(cells: &mut [u64; 15])
+    ensures { λ _. ⌜ stateOf (now (cells .exit)) ≡ deeperC (stateOf (now (cells .entry))) ⌝ }
+{
+    let s = load(cells);
+    let t = function_state::deeper(s);
+    store(cells, t);
+}
+
+pub(crate) fn with_depth(cells: &mut [u64; 15], depth: usize)
+    ensures { λ _. ⌜ stateOf (now (cells .exit)) ≡ depthC depth (stateOf (now (cells .entry))) ⌝ }
+{
+    let s = load(cells);
+    let t = function_state::with_depth(s, depth);
+    store(cells, t);
+}
+
+pub(crate) fn set_rescue(cells: &mut [u64; 15])
+    ensures { λ _. ⌜ stateOf (now (cells .exit)) ≡ rescueC (stateOf (now (cells .entry))) ⌝ }
+{
+    let s = load(cells);
+    let t = function_state::set_rescue(s);
+    store(cells, t);
+}
+
+pub(crate) fn find_local(names: &[u64], cells: &[u64; 15], name: u64) -> Found
+    ensures { λ r. ⌜ r ≡ foundOf (findLocalC name (naming (stateOf (now (cells .entry))) (now (names .entry)))) ⌝ }
+{
+    let s = load(cells);
+    scopes::find_local(names, s, name)
+}
+
+pub(crate) fn enter_scope(cells: &mut [u64; 15])
+    ensures { λ _. ⌜ stateOf (now (cells .exit)) ≡ enterScopeC (stateOf (now (cells .entry))) ⌝ }
+{
+    let s = load(cells);
+    let t = scopes::enter_scope(s);
+    store(cells, t);
+}
+
+pub(crate) fn exit_scope(names: &mut [u64], cells: &mut [u64; 15], start: usize)
+    ensures { λ _. ⌜ naming (stateOf (now (cells .exit))) (now (names .exit))
+        ≡ exitScopeC start (naming (stateOf (now (cells .entry))) (now (names .entry))) ⌝ }
+{
+    let s = load(cells);
+    let t = scopes::exit_scope(names, s, start);
+    store(cells, t);
+}
+
+pub(crate) fn define_anonymous_local(cells: &mut [u64; 15])
+    ensures { λ _. ⌜ stateOf (now (cells .exit)) ≡ defineAnonymousC (stateOf (now (cells .entry))) ⌝ }
+{
+    let s = load(cells);
+    let t = scopes::define_anonymous_local(s);
+    store(cells, t);
+}
+
+pub(crate) fn define_local(names: &mut [u64], cells: &mut [u64; 15], name: u64) -> Found
+    ensures { λ r. ⌜ Defines name (naming (stateOf (now (cells .entry))) (now (names .entry))) (defined r (stateOf (now (cells .exit))))
+        (now (names .exit)) ⌝ }
+{
+    let s = load(cells);
+    let d = scopes::define_local(names, s, name);
+    let t = d.state;
+    let found = d.found;
+    store(cells, t);
+    found
+}
+
+// Of the words only the mark and the count of the constants change.
+pub(crate) fn add_constant(
+    constants: &mut [u64],
+    cells: &mut [u64; 15],
+    kind: u64,
+    value: u64,
+) -> u64
+    ensures { λ r. ⌜ pooling r (stateOf (now (cells .exit))) (now (constants .exit))
+        ≡ addConstantC kind value (stateOf (now (cells .entry))) (now (constants .entry)) ⌝ }
+{
+    let s = load(cells);
+    let a = pool::add_constant(constants, s, kind, value);
+    let t = a.state;
+    keep_constants(cells, t.full, t.constants);
+    a.index
+}
+
+pub(crate) fn mark_global(constants: &mut [u64], cells: &[u64; 15], index: u64)
+    ensures { λ _. ⌜ now (constants .exit) ≡ markGlobalC index (stateOf (now (cells .entry))) (now (constants .entry)) ⌝ }
+{
+    let s = load(cells);
+    pool::mark_global(constants, s, index);
+}
+
+pub(crate) fn push_error(
+    errors: &mut [u64],
+    cells: &mut [u64; 15],
+    number: u64,
+    position: u64,
+    kind: u64,
+    value: u64,
+)
+    ensures { λ _. ⌜ erring (stateOf (now (cells .exit))) (now (errors .exit))
+        ≡ pushErrorC number position kind value (stateOf (now (cells .entry))) (now (errors .entry)) ⌝ }
+{
+    let s = load(cells);
+    let t = pool::push_error(errors, s, number, position, kind, value);
+    store(cells, t);
+}
+
+// The mark.
+pub(crate) fn full(cells: &[u64; 15]) -> u64
+    ensures { λ r. ⌜ r ≡ stateOf (now (cells .entry)) .full ⌝ }
+{
+    let s = load(cells);
+    s.full
+}
+
+// Where the innermost scope starts.
+pub(crate) fn scope_base(cells: &[u64; 15]) -> usize
+    ensures { λ r. ⌜ r ≡ stateOf (now (cells .entry)) .«scope_base» ⌝ }
+{
+    let s = load(cells);
+    s.scope_base
+}
+
+pub(crate) fn depth(cells: &[u64; 15]) -> usize
+    ensures { λ r. ⌜ r ≡ stateOf (now (cells .entry)) .depth ⌝ }
+{
+    let s = load(cells);
+    s.depth
+}
