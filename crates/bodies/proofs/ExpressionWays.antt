@@ -18,10 +18,11 @@ use Rattle.building.specs.declared.function_state.FunctionState.{FunctionState}
 use Rattle.building.specs.Emission.{coded, emitC}
 use Rattle.building.specs.Held.{Machine, machine}
 use Rattle.bodies.specs.Meets.{Does, OnFaults, Leafs, Counted, skipC}
-use Rattle.bodies.specs.Members.{MeetsE, MeetsEs, MeetsTwo, MeetsKind}
+use Rattle.bodies.specs.Members.{MeetsE, MeetsEs, MeetsList, MeetsTwo, MeetsKind}
 use Rattle.bodies.proofs.Balanced.{balanced-expression}
 use Rattle.bodies.proofs.Steps.{inside-after, does-then, full-does}
 use Rattle.bodies.proofs.Leaves.{emitted}
+use Rattle.bodies.proofs.Runs.{count-end, count-more}
 use Rattle.bodies.proofs.Tokens.{skip-law}
 
 module _ {tree : List ℕ} {at end start count : ℕ} {locals : List ℕ} where
@@ -45,18 +46,18 @@ module _ {tree : List ℕ} {at end start count : ℕ} {locals : List ℕ} where
           does-then (steady-expression a) (balanced-expression a) (A .meets a ha (sym mid)) (B .meets b (rw mid hb) (omega arith))
 
   -- the loop over expressions
-  pub list-end : {m : Machine} → end ≤ at → MeetsEs tree at end start count locals m m
+  run-end : {m : Machine} → end ≤ at → MeetsEs tree at end start count locals m m
   unfolding compileExpressions ExpressionsAt sizeE skip
-  list-end {m} past = record { meets = go }
+  run-end {m} past = record { meets = go }
     where
       go : (es : Expressions) → ExpressionsAt es tree at → at + sizeEs es ≡ end → Does start count locals m m (compileExpressions es)
       go ∅ₑ h q = record { meets = λ κ E w I H. H }
       go (e ∷ₑ es) h q = absurd (omega (arith, sizeE-pos e))
 
-  pub list-more : {next : ℕ} {m m₁ m′ : Machine} → at < end → next ≡ skipC tree at end → MeetsE tree at next start count locals m m₁
+  run-more : {next : ℕ} {m m₁ m′ : Machine} → at < end → next ≡ skipC tree at end → MeetsE tree at next start count locals m m₁
       → MeetsEs tree next end start count locals m₁ m′ → MeetsEs tree at end start count locals m m′
   unfolding compileExpressions ExpressionsAt sizeE
-  list-more {next} {m} {m₁} {m′} inside skipped A B = record { meets = go }
+  run-more {next} {m} {m₁} {m′} inside skipped A B = record { meets = go }
     where
       go : (es : Expressions) → ExpressionsAt es tree at → at + sizeEs es ≡ end → Does start count locals m m′ (compileExpressions es)
       go ∅ₑ h q = absurd (omega arith)
@@ -64,8 +65,24 @@ module _ {tree : List ℕ} {at end start count : ℕ} {locals : List ℕ} where
           let mid : next ≡ at + sizeE e = skipped ∙ skip-law tree at end (headE e (h .0)) (sizeE-pos e) (omega arith) in
           does-then (steady-expression e) (balanced-expression e) (A .meets e (h .0) (sym mid)) (B .meets es (rw mid (h .1)) (omega arith))
 
+  -- and the count of them
+  pub list-end : {n : ℕ} {m : Machine} → end ≤ at → MeetsList tree at end start count locals m m n n
+  list-end {n} past = record { meets = run-end past; counted = count-end tree at end n past }
+
+  pub list-more : {next n r : ℕ} {m m₁ m′ : Machine} → at < end → next ≡ skipC tree at end → MeetsE tree at next start count locals m m₁
+      → MeetsList tree next end start count locals m₁ m′ (n + 1) r → MeetsList tree at end start count locals m m′ n r
+  list-more {n = n} inside skipped A L = record {
+    meets = run-more inside skipped A (L .meets);
+    counted = count-more tree at end n inside skipped (L .counted);
+  }
+
 module _ {tree : List ℕ} {at end start count : ℕ} {locals : List ℕ} {kind : ℕ} (kind-is : kind ≡ kindAt tree at) where
-  -- an expression without parts is what is left
+  -- an expression without parts, by its kind
+  pub part-leaf : {s s′ : FunctionState} {c c′ k k′ n b e : List ℕ} → kind < 37 → Leafs tree at start count locals s c k n s′ c′ k′
+      → MeetsE tree at end start count locals (machine s c k n b e) (machine s′ c′ k′ n b e)
+  part-leaf {b = b} {e = e} low L = record { meets = λ x h l. L .leaf x h (rw (← kind-is) low) .does b e }
+
+  -- as what is left
   pub leaf-meets : {s s′ : FunctionState} {c c′ k k′ n b e : List ℕ} → (kind ≡ 37 → ⊥) → (kind ≡ 38 → ⊥) → (kind ≡ 39 → ⊥) → (kind ≡ 42 → ⊥)
       → (kind ≡ 44 → ⊥) → (kind ≡ 45 → ⊥) → (kind ≡ 46 → ⊥) → Leafs tree at start count locals s c k n s′ c′ k′
       → MeetsE tree at end start count locals (machine s c k n b e) (machine s′ c′ k′ n b e)

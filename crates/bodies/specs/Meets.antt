@@ -10,10 +10,13 @@ use Rattle.words.specs.Record.{kindAt, spanAt}
 use Rattle.words.specs.Opcode.{Not, OPERATION_EQUAL, OPERATION_AND, OPERATION_OR}
 use Rattle.definition.specs.Uses.{Limits}
 use Rattle.definition.specs.Compiler.{Work, Step, InfixKind, Assigning, Plain, Negated, Compound, Unknown, compileOperation, compileExpression}
-use Rattle.definition.specs.Compiler.{emitOpcode, skip, infixKind, count}
+use Rattle.definition.specs.Compiler.{emitName, emitOpcode, skip, infixKind, count}
 use Rattle.definition.specs.Program.{Entries}
 use Rattle.tree.specs.At.{ExpressionAt, ExpressionsAt, sizeEs}
 use Rattle.building.specs.declared.function_state.FunctionState.{FunctionState}
+use Rattle.building.specs.declared.scopes.Found.the-variants.{Nothing}
+use Rattle.building.specs.Found.{foundOf}
+use Rattle.building.specs.Scopes.{naming, findLocalC}
 use Rattle.building.specs.Held.{Machine, machine, Held, LocalsHeld, isOpen}
 
 -- any state and areas
@@ -50,6 +53,12 @@ pub record OnNames (start count : ℕ) (locals : List ℕ) (s : FunctionState) (
     : Type 0 where
   pub does : (b e : List ℕ) → Does start count locals (machine s c k n b e) (machine s′ c′ k′ n b e) step
 
+-- a name that no scope has (`elsewhere`): l is the opcode for a local, and n the names that were looked in
+pub record Elsewhere (start count : ℕ) (locals : List ℕ) (s : FunctionState) (c k : List ℕ) (s′ : FunctionState) (c′ k′ : List ℕ) (x g text p : ℕ)
+    : Type 0 where
+  pub does : (l : ℕ) (n : List ℕ) → s .full ≡ 0 → foundOf (findLocalC text (naming s n)) ≡ Nothing
+      → OnNames start count locals s c k n s′ c′ k′ (emitName l x g text p)
+
 -- `leaf`: an expression without parts, kinds 30 to 36
 pub record Leafs (tree : List ℕ) (at start count : ℕ) (locals : List ℕ) (s : FunctionState) (c k n : List ℕ) (s′ : FunctionState) (c′ k′ : List ℕ)
     : Type 0 where
@@ -71,7 +80,7 @@ standingOf kind value = cond (eqb kind 36) (cond (eqb value 1) TRUE FALSE) NULL
 unfoldable pub skipC : List ℕ → ℕ → ℕ → ℕ
 skipC w at end = cond (ltb at end) (cond (eqb (spanAt w at) 0) (at + 1) (min (at + spanAt w at) end)) at
 
--- `count_children`: how many expressions stand from a place up to the end, n counted before it
+-- how many expressions stand from a place up to the end, n counted before it (`expressions`)
 pub record Counted (tree : List ℕ) (at end n r : ℕ) : Type 0 where
   pub counts : (es : Expressions) → ExpressionsAt es tree at → at + sizeEs es ≡ end → r ≡ n + count es
 

@@ -10,15 +10,20 @@ use Rattle.definition.specs.Compiler.{compileStatement, compileStatements, comp
 use Rattle.definition.specs.Compiler.{compileRescue, compileExpressionStatement}
 use Rattle.tree.specs.At.{Head, Leaf, ExpressionAt, ExpressionsAt, VariablesAt, StatementAt, StatementsAt, kindE, sizeE, sizeEs, sizeVs, sizeS, sizeSs}
 use Rattle.building.specs.Held.{Machine}
-use Rattle.bodies.specs.Meets.{Does}
+use Rattle.bodies.specs.Meets.{Does, Counted}
 
--- `expression`
+-- `expression` and `part`
 pub record MeetsE (tree : List ℕ) (at end start count : ℕ) (locals : List ℕ) (m m′ : Machine) : Type 0 where
   pub meets : (e : Expression) → ExpressionAt e tree at → at + sizeE e ≡ end → Does start count locals m m′ (compileExpression e)
 
 -- `expressions`
 pub record MeetsEs (tree : List ℕ) (at end start count : ℕ) (locals : List ℕ) (m m′ : Machine) : Type 0 where
   pub meets : (es : Expressions) → ExpressionsAt es tree at → at + sizeEs es ≡ end → Does start count locals m m′ (compileExpressions es)
+
+-- and how many they are, n counted before them
+pub record MeetsList (tree : List ℕ) (at end start count : ℕ) (locals : List ℕ) (m m′ : Machine) (n r : ℕ) : Type 0 where
+  pub meets : MeetsEs tree at end start count locals m m′
+  pub counted : Counted tree at end n r
 
 -- `two`: one expression and then another
 pub record MeetsTwo (tree : List ℕ) (at end start count : ℕ) (locals : List ℕ) (m m′ : Machine) : Type 0 where

@@ -8,12 +8,12 @@ ghost use Rattle.words.specs.Object.{constantOf};
 ghost use Rattle.words.specs.Opcode.{PushConstant};
 ghost use Rattle.definition.specs.Compiler.{emitConstant, emitGlobal, emitName, compileAssignName, compilePrefixExpression, compileRescue};
 ghost use Rattle.definition.specs.Compiler.{skip};
-ghost use Rattle.bodies.specs.Meets.{OnFaults, OnPool, OnNames, Leafs, standingOf, skipC};
-ghost use Rattle.bodies.specs.Meets.{Counted, operationOf, Operates};
+ghost use Rattle.bodies.specs.Meets.{OnFaults, OnPool, OnNames, Elsewhere, Leafs, standingOf, skipC};
+ghost use Rattle.bodies.specs.Meets.{operationOf, Operates};
 ghost use Rattle.bodies.specs.Looping.{LoopStart, LoopHead, LoopName, LoopEnd, foundOrZero};
 ghost use Rattle.bodies.specs.Cells.{stateOf};
 ghost use Rattle.building.specs.Held.{machine};
-ghost use Rattle.bodies.specs.Members.{MeetsE, MeetsTwo, MeetsEs, MeetsKind, MeetsTarget, MeetsFalse};
+ghost use Rattle.bodies.specs.Members.{MeetsE, MeetsTwo, MeetsList, MeetsKind, MeetsTarget, MeetsFalse};
 ghost use Rattle.bodies.specs.Members.{MeetsBlock, MeetsSs, MeetsS, MeetsInner, MeetsVariables, MeetsVariable, MeetsFor};
 
 mod cells;
@@ -96,6 +96,31 @@ fn global(
     cells::emit(code, cells, instruction, position);
 }
 
+// A name that no scope has: a context local or a global.
+fn elsewhere(
+    cells: &mut [u64; 15],
+    start: usize,
+    count: usize,
+    locals: &[u64],
+    code: &mut [u64],
+    constants: &mut [u64],
+    outer: OpCode,
+    other: OpCode,
+    text: u64,
+    position: u64,
+)
+    ensures { λ _. ⌜ Elsewhere start count (now (locals .entry)) (stateOf (now (cells .entry))) (now (code .entry)) (now (constants .entry))
+        (stateOf (now (cells .exit))) (now (code .exit)) (now (constants .exit)) (numberOf outer) (numberOf other) text position ⌝ }
+{
+    let there = context::find_context_local(locals, start, count, text);
+    if let Found::At(i) = there {
+        let instruction = outer.to_instruction(i);
+        cells::emit(code, cells, instruction, position);
+        return;
+    }
+    global(code, constants, cells, other, text, position);
+}
+
 // A name, read or set: by the opcode for a local, a context local or a global.
 fn name(
     cells: &mut [u64; 15],
@@ -124,13 +149,18 @@ fn name(
         cells::emit(code, cells, instruction, position);
         return;
     }
-    let there = context::find_context_local(locals, start, count, text);
-    if let Found::At(i) = there {
-        let instruction = outer.to_instruction(i);
-        cells::emit(code, cells, instruction, position);
-        return;
-    }
-    global(code, constants, cells, other, text, position);
+    elsewhere(
+        cells,
+        start,
+        count,
+        locals,
+        code,
+        constants,
+        outer,
+        other,
+        text,
+        position,
+    );
 }
 
 // The name of a target, set by the assignment whose record is `token`.
@@ -289,19 +319,6 @@ pub fn skip(tree: &[u64], at: usize, end: usize) -> usize
         return end;
     }
     at
-}
-
-// How many subtrees stand one after the other.
-fn count_children(tree: &[u64], at: usize, end: usize) -> u64
-    ensures { λ r. ⌜ Counted (now (tree .entry)) at end 0 r ⌝ }
-{
-    let mut i = at;
-    let mut n: u64 = 0;
-    while i < end {
-        i = skip(tree, i, end);
-        n += 1;
-    }
-    n
 }
 
 // The operation of an infix value between 1 and 18.
@@ -508,7 +525,7 @@ fn expression(
             return;
         }
         if kind == record::PREFIX {
-            expression(
+            part(
                 tree,
                 at + 1,
                 end,
@@ -526,8 +543,7 @@ fn expression(
             return;
         }
         if kind == record::ARRAY {
-            let n = count_children(tree, at + 1, end);
-            expressions(
+            let n = expressions(
                 tree,
                 at + 1,
                 end,
@@ -547,8 +563,7 @@ fn expression(
         }
         if kind == record::CALL {
             let next = skip(tree, at + 1, end);
-            let n = count_children(tree, next, end);
-            expression(
+            part(
                 tree,
                 at + 1,
                 next,
@@ -562,7 +577,7 @@ fn expression(
                 breaks,
                 errors,
             );
-            expressions(
+            let n = expressions(
                 tree,
                 next,
                 end,
@@ -631,6 +646,56 @@ fn expression(
     }
 }
 
+// An expression. One without parts needs no call of `expression`, which hands on every area.
+fn part(
+    tree: &[u64],
+    at: usize,
+    end: usize,
+    cells: &mut [u64; 15],
+    start: usize,
+    count: usize,
+    locals: &[u64],
+    code: &mut [u64],
+    constants: &mut [u64],
+    names: &mut [u64],
+    breaks: &mut [u64],
+    errors: &mut [u64],
+)
+    ensures { λ _. ⌜ MeetsE (now (tree .entry)) at end start count (now (locals .entry))
+        (machine (stateOf (now (cells .entry))) (now (code .entry)) (now (constants .entry)) (now (names .entry)) (now (breaks .entry)) (now (errors .entry)))
+        (machine (stateOf (now (cells .exit))) (now (code .exit)) (now (constants .exit)) (now (names .exit)) (now (breaks .exit)) (now (errors .exit))) ⌝ }
+{
+    let kind = field(tree, at, record::KIND);
+    if kind < record::ARRAY {
+        leaf(
+            tree,
+            at,
+            cells,
+            start,
+            count,
+            locals,
+            code,
+            constants,
+            names,
+        );
+        return;
+    }
+    expression(
+        tree,
+        at,
+        end,
+        cells,
+        start,
+        count,
+        locals,
+        code,
+        constants,
+        names,
+        breaks,
+        errors,
+    );
+}
+
 // One expression and then another.
 fn two(
     tree: &[u64],
@@ -651,7 +716,7 @@ fn two(
         (machine (stateOf (now (cells .exit))) (now (code .exit)) (now (constants .exit)) (now (names .exit)) (now (breaks .exit)) (now (errors .exit))) ⌝ }
 {
     let middle = skip(tree, at, end);
-    expression(
+    part(
         tree,
         at,
         middle,
@@ -665,7 +730,7 @@ fn two(
         breaks,
         errors,
     );
-    expression(
+    part(
         tree,
         middle,
         end,
@@ -681,7 +746,7 @@ fn two(
     );
 }
 
-// Expressions one after the other.
+// Expressions one after the other, and how many they are.
 fn expressions(
     tree: &[u64],
     at: usize,
@@ -695,15 +760,16 @@ fn expressions(
     names: &mut [u64],
     breaks: &mut [u64],
     errors: &mut [u64],
-)
-    ensures { λ _. ⌜ MeetsEs (now (tree .entry)) at end start count (now (locals .entry))
+) -> u64
+    ensures { λ r. ⌜ MeetsList (now (tree .entry)) at end start count (now (locals .entry))
         (machine (stateOf (now (cells .entry))) (now (code .entry)) (now (constants .entry)) (now (names .entry)) (now (breaks .entry)) (now (errors .entry)))
-        (machine (stateOf (now (cells .exit))) (now (code .exit)) (now (constants .exit)) (now (names .exit)) (now (breaks .exit)) (now (errors .exit))) ⌝ }
+        (machine (stateOf (now (cells .exit))) (now (code .exit)) (now (constants .exit)) (now (names .exit)) (now (breaks .exit)) (now (errors .exit))) 0 r ⌝ }
 {
     let mut i = at;
+    let mut n: u64 = 0;
     while i < end {
         let next = skip(tree, i, end);
-        expression(
+        part(
             tree,
             i,
             next,
@@ -718,7 +784,9 @@ fn expressions(
             errors,
         );
         i = next;
+        n += 1;
     }
+    n
 }
 
 // `compile_infix_expression`.
@@ -745,7 +813,7 @@ fn infix_part(
         let position = field(tree, at, record::POSITION);
         let middle = skip(tree, at + 1, end);
         if value == record::INFIX_ASSIGN {
-            expression(
+            part(
                 tree,
                 middle,
                 end,
@@ -780,9 +848,23 @@ fn infix_part(
             fault_in(tree, at, errors, cells, reply::ERROR_UNKNOWN_OPERATION);
             return;
         }
-        two(
+        part(
             tree,
             at + 1,
+            middle,
+            cells,
+            start,
+            count,
+            locals,
+            code,
+            constants,
+            names,
+            breaks,
+            errors,
+        );
+        part(
+            tree,
+            middle,
             end,
             cells,
             start,
@@ -924,7 +1006,7 @@ fn if_part(
     if at < end {
         let yes = skip(tree, at + 1, end);
         let no = skip(tree, yes, end);
-        expression(
+        part(
             tree,
             at + 1,
             yes,
@@ -1169,7 +1251,7 @@ fn inner(
         let kind = field(tree, at, record::KIND);
         let position = field(tree, at, record::POSITION);
         if kind == record::EXPRESSION_STATEMENT {
-            expression(
+            part(
                 tree,
                 at + 1,
                 end,
@@ -1301,7 +1383,7 @@ fn variable(
             if kind == record::ABSENT {
                 return;
             }
-            expression(
+            part(
                 tree,
                 at + 1,
                 end,
@@ -1349,7 +1431,7 @@ fn for_part(
             let body = skip(tree, at + 2, end);
             let around = cells::load(cells);
             loop_start(cells);
-            expression(
+            part(
                 tree,
                 at + 2,
                 body,

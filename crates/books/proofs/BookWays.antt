@@ -25,14 +25,14 @@ use Rattle.building.proofs.Filling.{room-fits}
 use Rattle.bodies.specs.Meets.{skipC}
 use Rattle.books.specs.Sets.{setSize, bitOf, allBits, SetIs, NextIn, Below, Ascends}
 use Rattle.books.specs.Solving.{Bundle, placeOf, FindsDocument, bookUnit, bookWord, waiting, booksOf, TakesBooks, AllIncluded, Stands, Ready}
-use Rattle.books.specs.Solving.{FindsReady, Brings}
+use Rattle.books.specs.Solving.{FindsReady, Brings, Skips, Lowers, FindsNext}
 use Rattle.bodies.proofs.Tokens.{skip-law}
 use Rattle.books.proofs.FileLists.{all-bits, found-below, SetFrom, set-from, next-some, next-none}
 use Rattle.books.proofs.BundleWays.{bundle-first, bundle-next, bundle-past, bundle-none, bundle-rest, bundle-fits, defs-end, defs-other, defs-more}
 
--- `find_document`
+-- a document from a place on
 module _ (tree : List ℕ) (i end n : ℕ) where
-  pub find-end : end ≤ i → i ≤ end → FindsDocument tree i end n i
+  find-end : end ≤ i → i ≤ end → FindsDocument tree i end n i
   find-end past in′ = record { inside = in′; finds = go }
     where
       go : (ds : List Document) → Bundle ds tree i end → i ≡ placeOf n i ds
@@ -40,14 +40,14 @@ module _ (tree : List ℕ) (i end n : ℕ) where
       go (d ∷ ds) b = absurd (omega (arith, bundle-past b))
 
   module _ (inside : i < end) {there : ℕ} (v : there ≡ valueAt tree i) where
-    pub find-here : there ≡ n → FindsDocument tree i end n i
+    find-here : there ≡ n → FindsDocument tree i end n i
     find-here q = record { inside = omega arith; finds = go }
       where
         go : (ds : List Document) → Bundle ds tree i end → i ≡ placeOf n i ds
         go [] b = refl
         go (d ∷ ds) b = rw (eq-eqb (d .filename) n (bundle-first b .file ∙ sym v ∙ q))
 
-    pub find-more : {next r : ℕ} → (there ≡ n → ⊥) → next ≡ skipC tree i end → FindsDocument tree next end n r → FindsDocument tree i end n r
+    find-more : {next r : ℕ} → (there ≡ n → ⊥) → next ≡ skipC tree i end → FindsDocument tree next end n r → FindsDocument tree i end n r
     find-more {next} {r} ne l F = record { inside = F .inside; finds = go }
       where
         go : (ds : List Document) → Bundle ds tree i end → r ≡ placeOf n i ds
@@ -55,6 +55,33 @@ module _ (tree : List ℕ) (i end n : ℕ) where
         go (d ∷ ds) b =
             let nx = bundle-next b l in
             rw (ne-eqb (d .filename) n (λ q. ne (v ∙ sym (bundle-first b .file) ∙ q)), ← nx .0) (F .finds ds (nx .1))
+
+-- from the start, and from a higher number on
+pub skips-start : (tree : List ℕ) (end n above : ℕ) → Skips tree end 0 n above
+skips-start tree end n above = record { inside = omega arith; skips = λ m r a b f. f }
+
+pub skips-on : {tree : List ℕ} {end at n k above : ℕ} → n ≤ k → Skips tree end at n above → Skips tree end at k above
+skips-on h S = record { inside = S .inside; skips = λ m r a b f. S .skips m r (omega arith) b f }
+
+-- `find_document`
+module _ (tree : List ℕ) (i end n : ℕ) {at above bound : ℕ} (below : n < bound) (S : Skips tree end at n above → Skips tree end i n bound) where
+  pub place-end : end ≤ i → FindsNext tree end n at above i bound
+  place-end past = record { finds = λ s. let q = S s in q .skips n i (omega arith) below (find-end tree i end n past (q .inside)); skips = S }
+
+  module _ (inside : i < end) {there : ℕ} (v : there ≡ valueAt tree i) where
+    pub place-here : there ≡ n → FindsNext tree end n at above i bound
+    place-here q = record { finds = λ s. S s .skips n i (omega arith) below (find-here tree i end n inside v q); skips = S }
+
+    pub place-more : {next bound′ : ℕ} → (there ≡ n → ⊥) → Lowers bound n there bound′ → next ≡ skipC tree i end → next ≤ end
+        → Skips tree end at n above → Skips tree end next n bound′
+    place-more {next} {bound′} ne L l e s = record { inside = e; skips = go }
+      where
+        other : (m : ℕ) → n ≤ m → m < bound′ → Dec (n < there) → there ≡ m → ⊥
+        other m a b (yes h) q = omega (arith, L .bound h)
+        other m a b (no h) q = ne (omega arith)
+
+        go : (m r : ℕ) → n ≤ m → m < bound′ → FindsDocument tree next end m r → FindsDocument tree 0 end m r
+        go m r a b F = S s .skips m r a (omega (arith, L .most)) (find-more tree i end m inside v (other m a b (decLt n there)) l F)
 
 -- `all_in`
 module _ (tree : List ℕ) (j end : ℕ) (set : List ℕ) where
@@ -121,6 +148,13 @@ module _ (tree : List ℕ) (end : ℕ) (set : List ℕ) (k : ℕ) (t : Taken) (b
       go : (l : List ℕ) → SetFrom set k l → l ≡ []
       go [] s = refl
       go (x ∷ xs) s = absurd (omega (arith, s .below .0, s .ascends .0))
+
+  pub takes-full : (t .full ≡ 0 → ⊥) → TakesFrom tree end set k t books t books
+  takes-full ne = record {
+    marked = λ ne′. (refl, refl);
+    fits = λ ds l b s z f. absurd (ne z);
+    over = λ ds l b s z a f. absurd (ne z);
+  }
 
   module _ {n : ℕ} (next : NextIn set k n) where
     pub takes-none : setSize ≤ n → TakesFrom tree end set k t books t books

@@ -2,7 +2,7 @@
 use Prim.Native.Nat.{ℕ, zero, suc, _+_, _-_, _*_, _/_, _%_, _^_, _≤_, _<_}
 use native.Mathlib.Omega.{arith}
 use native.Mathlib.Decide.{decLt, ℕ-discrete}
-use native.Mathlib.Nat.{zero-div, div-self, div-eq-of-lt, mul-mod-left, pow-suc, mod-lt, div-add-mod', div-eq-of-lt-le, lt-div-mul-add, one-mul}
+use native.Mathlib.Nat.{zero-div, div-self, div-eq-of-lt, mul-mod-left, pow-suc, mod-lt, div-add-mod', lt-div-mul-add, one-mul}
 use mathlib.Core.Path.{_≡_, refl, sym, ap, _∙_}
 use mathlib.Core.Bool.{Bool, true, false, cond}
 use mathlib.Core.List.{List}
@@ -12,7 +12,7 @@ use lib.Dec.{eqb}
 use lib.Pow.{pow-pos, pow-lt, pow-add, shl-shr, shl-exact}
 use lib.Bits.{bitOr, or-shr, or-mod, or-zero-r}
 use borrow.Author.Tests.{eq-eqb, ne-eqb}
-use Rattle.books.specs.Sets.{bitOf, addBit, Added, NextIn, Passes, setSize}
+use Rattle.books.specs.Sets.{bitOf, addBit, Added, NextIn, Passes, Zeros, setSize}
 
 -- powers of two have one bit
 pow-other : (j k : ℕ) → (j ≡ k → ⊥) → 2 ^ k / 2 ^ j % 2 ≡ 0
@@ -105,23 +105,36 @@ add-bit bits n m l = go (bitOf bits n) refl (ℕ-discrete n m)
         ∙ ap (λ (y : ℕ). eqb y 1) (bit-same x (n % 64)))
     go false q (no ne) = rw (q, ne-eqb n m ne) (other ne (ℕ-discrete (m / 64) (n / 64)))
 
+-- `zeros_end`
+pub zeros-none : (bits : List ℕ) (at : ℕ) → Zeros bits at at
+zeros-none bits at = record { zero-word = λ i a b. absurd (omega arith) }
+
+pub zeros-more : (bits : List ℕ) (at k : ℕ) → getD bits k 0 ≡ 0 → Zeros bits at k → Zeros bits at (k + 1)
+zeros-more bits at k z s = record { zero-word = λ i a b. go i a b (ℕ-discrete i k) }
+  where
+    go : (i : ℕ) → at ≤ i → i < k + 1 → Dec (i ≡ k) → getD bits i 0 ≡ 0
+    go i a b (yes q) = ap (λ (j : ℕ). getD bits j 0) q ∙ z
+    go i a b (no q) = s .zero-word i a (omega arith)
+
 -- `after`
 pub after-one : (bits : List ℕ) (n : ℕ) → n < setSize → Passes bits n (n + 1)
 after-one bits n l = record { on = omega arith; last = omega arith; between = λ m a b. absurd (omega arith) }
 
-pub after-word : (bits : List ℕ) (n : ℕ) → n < setSize → getD bits (n / 64) 0 ≡ 0 → Passes bits n ((n / 64 + 1) * 64)
+pub after-zeros : (bits : List ℕ) (n r : ℕ) {end : ℕ} → Zeros bits (n / 64) end → n < r → r ≤ end * 64 → r ≤ setSize → Passes bits n r
 unfolding bitOf
-after-word bits n l z =
-    let w : n < n / 64 * 64 + 64 = lt-div-mul-add (omega arith) in
-    let d = div-add-mod' n 64 in
-    record {
-      on = omega arith;
-      last = omega arith;
-      between = λ m a b.
-          let q : m / 64 ≡ n / 64 = div-eq-of-lt-le 64 (omega arith) (omega arith) in
-          ap (λ (i : ℕ). eqb (getD bits i 0 / 2 ^ (m % 64) % 2) 1) q ∙ ap (λ (y : ℕ). eqb (y / 2 ^ (m % 64) % 2) 1) z
-          ∙ ap (λ (y : ℕ). eqb (y % 2) 1) (zero-div (2 ^ (m % 64)));
-    }
+after-zeros bits n r {end} s on far last = record { on = on; last = last; between = clear }
+  where
+    clear : (m : ℕ) → n < m → m < r → bitOf bits m ≡ false
+    clear m a b =
+        let w : m < m / 64 * 64 + 64 = lt-div-mul-add (omega arith) in
+        let from = div-add-mod' n 64 in
+        let at = div-add-mod' m 64 in
+        ap (λ (y : ℕ). eqb (y / 2 ^ (m % 64) % 2) 1) (s .zero-word (m / 64) (omega arith) (omega arith))
+        ∙ ap (λ (y : ℕ). eqb (y % 2) 1) (zero-div (2 ^ (m % 64)))
+
+-- the end of a run of zero words that has the number's word is further on than the number
+pub word-past : (n : ℕ) {end : ℕ} → n / 64 < end → n < end * 64
+word-past n h = let w : n < n / 64 * 64 + 64 = lt-div-mul-add (omega arith) in omega arith
 
 -- `next_in`: whatever is the next from here is the next from the start
 pub next-more : (bits : List ℕ) (n : ℕ) {m r : ℕ} → false ≡ bitOf bits n → Passes bits n m → NextIn bits m r → NextIn bits n r

@@ -32,6 +32,10 @@ pub record SetIs (bits l : List ℕ) : Type 0 where
   pub sized : length bits ≡ setWords
   pub has : (n : ℕ) → n < setSize → bitOf bits n ≡ hasText n l
 
+-- `zeros_end`: the words from a place up to another are 0
+pub record Zeros (bits : List ℕ) (at r : ℕ) : Type 0 where
+  pub zero-word : (i : ℕ) → at ≤ i → i < r → getD bits i 0 ≡ 0
+
 -- `after`: a number further on, with none of the set between
 pub record Passes (bits : List ℕ) (n r : ℕ) : Type 0 where
   pub on : n < r

@@ -74,7 +74,7 @@ pub record Misses (set present : List ℕ) (r : Found) : Type 0 where
   pub misses : (ds : List Document) (numbers : List ℕ) → Ascends 0 numbers → Below numbers → SetIs set numbers → SetIs present (files ds)
       → r ≡ foundOf (missing ds numbers)
 
--- `find_document`: the place of a file's document among those from a place on; the end where there is none
+-- the place of a file's document among those from a place on; the end where there is none
 abbrev pub placeOf : ℕ → ℕ → List Document → ℕ
 placeOf n i [] = i
 placeOf n i (d ∷ ds) = cond (eqb (d .filename) n) i (placeOf n (i + sizeDoc d) ds)
@@ -82,6 +82,27 @@ placeOf n i (d ∷ ds) = cond (eqb (d .filename) n) i (placeOf n (i + sizeDoc d)
 pub record FindsDocument (tree : List ℕ) (at end n r : ℕ) : Type 0 where
   pub inside : r ≤ end
   pub finds : (ds : List Document) → Bundle ds tree at end → r ≡ placeOf n at ds
+
+-- a document of a number from n on, but below a bound, that is found from a place on is found from the start: those ahead have none of these numbers
+pub record Skips (tree : List ℕ) (end at n above : ℕ) : Type 0 where
+  pub inside : at ≤ end
+  pub skips : (m r : ℕ) → n ≤ m → m < above → FindsDocument tree at end m r → FindsDocument tree 0 end m r
+
+-- `lower`: a bound that is no higher, still above n where it was, and not above a number there that is
+pub record Lowers (above n there r : ℕ) : Type 0 where
+  pub most : r ≤ above
+  pub bound : n < there → r ≤ there
+  pub more : n < above → n < r
+
+-- `resumed`: the place, or the start where the number is not below the bound
+pub record Resumes (n at above to bound : ℕ) : Type 0 where
+  pub below : n < bound
+  pub from : (tree : List ℕ) (end : ℕ) → Skips tree end at n above → Skips tree end to n bound
+
+-- `find_document`: the place of a file's document, from where an earlier one was found, and what is known of those ahead of it
+pub record FindsNext (tree : List ℕ) (end n at above to bound : ℕ) : Type 0 where
+  pub finds : Skips tree end at n above → FindsDocument tree 0 end n to
+  pub skips : Skips tree end at n above → Skips tree end to n bound
 
 -- a book that waits in area 12: its file number, and below it the place of its document, which is below 1,048,576 (row 2)
 abbrev pub bookUnit : ℕ

@@ -3,8 +3,9 @@ ghost use mathlib.Core.Path.{_≡_};
 ghost use mathlib.Core.Bool.{true, false, cond};
 ghost use Prim.Native.Nat.{_≤_, _<_};
 ghost use lib.ListN.{length};
-ghost use Rattle.books.specs.Sets.{bitOf, Added, NextIn, Passes, setSize};
-ghost use Rattle.books.specs.Solving.{FindsTwice, Includes, Reaches, Needs, Misses, FindsDocument, TakesBooks, AllIncluded, FindsReady, Brings};
+ghost use Rattle.books.specs.Sets.{bitOf, Added, NextIn, Passes, Zeros, setSize};
+ghost use Rattle.books.specs.Solving.{FindsTwice, Includes, Reaches, Needs, Misses, Lowers, Resumes, FindsNext, TakesBooks, AllIncluded};
+ghost use Rattle.books.specs.Solving.{FindsReady, Brings};
 ghost use Rattle.words.specs.Record.{mostRecords};
 use bodies::skip;
 use building::scopes::Found;
@@ -15,6 +16,8 @@ use words::record::field;
 
 // Numbers in sets are below this: every text number is.
 const SET_SIZE: u64 = 1048576;
+
+const SET_WORDS: usize = 16384;
 
 // A book that waits in area 12 is its file number times this and the place of its document.
 pub(crate) const BOOK_UNIT: u64 = 1048576;
@@ -43,7 +46,7 @@ pub(crate) fn add(set: &mut [u64], n: u64) -> bool
     true
 }
 
-// The first from `from` on that is in the set, or SET_SIZE; words without a bit are passed over.
+// The first from `from` on that is in the set, or SET_SIZE; runs of words without a bit are passed over at once.
 fn next_in(set: &[u64], from: u64) -> u64
     requires { ⌜ from ≤ setSize ⌝ }
     ensures { λ r. ⌜ NextIn (now (set .entry)) from r ⌝ }
@@ -58,18 +61,34 @@ fn next_in(set: &[u64], from: u64) -> u64
     n
 }
 
-// The next number, or where the number's word has no bit the next word's first.
+// The next number, or where the number's word has no bit the first of the next word that has one, or SET_SIZE.
 fn after(set: &[u64], n: u64) -> u64
     requires { ⌜ n < setSize ⌝ }
     ensures { λ r. ⌜ Passes (now (set .entry)) n r ⌝ }
 {
     let at = (n / 64) as usize;
-    if at < set.len() {
-        if set[at] == 0 {
-            return (n / 64 + 1) * 64;
-        }
+    let end = zeros_end(set, at);
+    if end <= at {
+        return n + 1;
     }
-    n + 1
+    if end < SET_WORDS {
+        return end as u64 * 64;
+    }
+    SET_SIZE
+}
+
+// The end of the run of zero words from a place on. Most words of a set are 0: the loop has nothing but the test of one.
+fn zeros_end(set: &[u64], at: usize) -> usize
+    ensures { λ r. ⌜ Zeros (now (set .entry)) at r ⌝ }
+{
+    let mut i = at;
+    while i < set.len() {
+        if set[i] != 0 {
+            return i;
+        }
+        i += 1;
+    }
+    i
 }
 
 // Row 5: the first document whose file number an earlier one has; `present` gets the file numbers.
@@ -179,21 +198,58 @@ pub(crate) fn missing(needed: &[u64], present: &[u64]) -> Found
     Found::Nothing
 }
 
-fn find_document(tree: &[u64], end: usize, file: u64) -> usize
-    ensures { λ r. ⌜ FindsDocument (now (tree .entry)) 0 end file r ⌝ }
+// Where a document was found: those ahead of it have no number from its own up to `above`, so the next one's search goes on from there.
+pub struct Place {
+    pub at: usize,
+    pub above: u64,
+}
+
+// The bound where a document of the number `there` is passed over.
+fn lower(above: u64, file: u64, there: u64) -> u64
+    ensures { λ r. ⌜ Lowers above file there r ⌝ }
 {
-    let mut i: usize = 0;
+    if there <= file {
+        return above;
+    }
+    if above <= there {
+        return above;
+    }
+    there
+}
+
+fn resumed(last: Place, file: u64) -> Place
+    requires { ⌜ file < setSize ⌝ }
+    ensures { λ r. ⌜ Resumes file (last .at) (last .above) (r .at) (r .above) ⌝ }
+{
+    if file < last.above {
+        return last;
+    }
+    Place {
+        at: 0,
+        above: SET_SIZE,
+    }
+}
+
+// Documents that come in the order of their numbers are passed over once, and not once for each number.
+fn find_document(tree: &[u64], end: usize, last: Place, file: u64) -> Place
+    requires { ⌜ file < setSize ⌝ }
+    ensures { λ r. ⌜ FindsNext (now (tree .entry)) end file (last .at) (last .above) (r .at) (r .above) ⌝ }
+{
+    let start = resumed(last, file);
+    let mut i = start.at;
+    let mut above = start.above;
     while i < end {
         let there = field(tree, i, record::VALUE);
         if there == file {
-            return i;
+            return Place { at: i, above };
         }
+        above = lower(above, file, there);
         i = skip(tree, i, end);
     }
-    i
+    Place { at: i, above }
 }
 
-// The books needed, ascending, each an entry of area 12.
+// The books needed, ascending, each an entry of area 12. Once the mark is set nothing more is taken, so nothing more is looked for.
 pub(crate) fn take_books(
     tree: &[u64],
     end: usize,
@@ -205,14 +261,27 @@ pub(crate) fn take_books(
     ensures { λ r. ⌜ TakesBooks (now (tree .entry)) end (now (needed .entry)) full (now (books .entry)) r (now (books .exit)) ⌝ }
 {
     let mut t = taking::Taken { full, count: 0 };
+    let mut place = Place {
+        at: 0,
+        above: SET_SIZE,
+    };
     let mut from: u64 = 0;
     while from < SET_SIZE {
+        if t.full != 0 {
+            return t;
+        }
         let n = next_in(needed, from);
         if SET_SIZE <= n {
             return t;
         }
-        let at = find_document(tree, end, n) as u64;
-        t = taking::take1(books, areas::BOOKS, t.full, t.count, n * BOOK_UNIT + at);
+        place = find_document(tree, end, place, n);
+        t = taking::take1(
+            books,
+            areas::BOOKS,
+            t.full,
+            t.count,
+            n * BOOK_UNIT + place.at as u64,
+        );
         from = n + 1;
     }
     t

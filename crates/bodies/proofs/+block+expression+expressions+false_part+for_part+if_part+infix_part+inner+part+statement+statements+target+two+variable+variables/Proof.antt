@@ -7,7 +7,7 @@ use mathlib.Core.Path.{_≡_, refl, _∙_}
 use lib.ListN.{length}
 use Rattle.building.specs.Held.{Machine, machine}
 use Rattle.bodies.specs.Cells.{stateOf}
-use Rattle.bodies.specs.Members.{MeetsEs, MeetsSs, MeetsVariables}
+use Rattle.bodies.specs.Members.{MeetsList, MeetsSs, MeetsVariables}
 use Rattle.bodies.proofs.ExpressionWays as e
 use Rattle.bodies.proofs.InfixWays as i
 use Rattle.bodies.proofs.IfWays as f
@@ -19,46 +19,49 @@ use borrow.Fn.Kinds.{In}
 use borrow.Fn.PlainCycle.{Measures, is, falls, and}
 use Rattle.bodies.proofs.block.Reads as block
 use Rattle.bodies.proofs.block.Kinds as block-kinds
-use Rattle.bodies.proofs.+block+expression+expressions+false_part+for_part+if_part+infix_part+inner+statement+statements+target+two+variable+variables.Lts-block as block-lts
+use Rattle.bodies.proofs.+block+expression+expressions+false_part+for_part+if_part+infix_part+inner+part+statement+statements+target+two+variable+variables.Lts-block as block-lts
 use Rattle.bodies.proofs.expression.Reads as expression
 use Rattle.bodies.proofs.expression.Kinds as expression-kinds
-use Rattle.bodies.proofs.+block+expression+expressions+false_part+for_part+if_part+infix_part+inner+statement+statements+target+two+variable+variables.Lts-expression as expression-lts
+use Rattle.bodies.proofs.+block+expression+expressions+false_part+for_part+if_part+infix_part+inner+part+statement+statements+target+two+variable+variables.Lts-expression as expression-lts
 use Rattle.bodies.proofs.expressions.Reads as expressions
 use Rattle.bodies.proofs.expressions.Kinds as expressions-kinds
-use Rattle.bodies.proofs.+block+expression+expressions+false_part+for_part+if_part+infix_part+inner+statement+statements+target+two+variable+variables.Lts-expressions as expressions-lts
+use Rattle.bodies.proofs.+block+expression+expressions+false_part+for_part+if_part+infix_part+inner+part+statement+statements+target+two+variable+variables.Lts-expressions as expressions-lts
 use Rattle.bodies.proofs.false_part.Reads as false-part
 use Rattle.bodies.proofs.false_part.Kinds as false-part-kinds
-use Rattle.bodies.proofs.+block+expression+expressions+false_part+for_part+if_part+infix_part+inner+statement+statements+target+two+variable+variables.Lts-false_part as false-part-lts
+use Rattle.bodies.proofs.+block+expression+expressions+false_part+for_part+if_part+infix_part+inner+part+statement+statements+target+two+variable+variables.Lts-false_part as false-part-lts
 use Rattle.bodies.proofs.for_part.Reads as for-part
 use Rattle.bodies.proofs.for_part.Kinds as for-part-kinds
-use Rattle.bodies.proofs.+block+expression+expressions+false_part+for_part+if_part+infix_part+inner+statement+statements+target+two+variable+variables.Lts-for_part as for-part-lts
+use Rattle.bodies.proofs.+block+expression+expressions+false_part+for_part+if_part+infix_part+inner+part+statement+statements+target+two+variable+variables.Lts-for_part as for-part-lts
 use Rattle.bodies.proofs.if_part.Reads as if-part
 use Rattle.bodies.proofs.if_part.Kinds as if-part-kinds
-use Rattle.bodies.proofs.+block+expression+expressions+false_part+for_part+if_part+infix_part+inner+statement+statements+target+two+variable+variables.Lts-if_part as if-part-lts
+use Rattle.bodies.proofs.+block+expression+expressions+false_part+for_part+if_part+infix_part+inner+part+statement+statements+target+two+variable+variables.Lts-if_part as if-part-lts
 use Rattle.bodies.proofs.infix_part.Reads as infix-part
 use Rattle.bodies.proofs.infix_part.Kinds as infix-part-kinds
-use Rattle.bodies.proofs.+block+expression+expressions+false_part+for_part+if_part+infix_part+inner+statement+statements+target+two+variable+variables.Lts-infix_part as infix-part-lts
+use Rattle.bodies.proofs.+block+expression+expressions+false_part+for_part+if_part+infix_part+inner+part+statement+statements+target+two+variable+variables.Lts-infix_part as infix-part-lts
 use Rattle.bodies.proofs.inner.Reads as inner
 use Rattle.bodies.proofs.inner.Kinds as inner-kinds
-use Rattle.bodies.proofs.+block+expression+expressions+false_part+for_part+if_part+infix_part+inner+statement+statements+target+two+variable+variables.Lts-inner as inner-lts
+use Rattle.bodies.proofs.+block+expression+expressions+false_part+for_part+if_part+infix_part+inner+part+statement+statements+target+two+variable+variables.Lts-inner as inner-lts
+use Rattle.bodies.proofs.part.Reads as part
+use Rattle.bodies.proofs.part.Kinds as part-kinds
+use Rattle.bodies.proofs.+block+expression+expressions+false_part+for_part+if_part+infix_part+inner+part+statement+statements+target+two+variable+variables.Lts-part as part-lts
 use Rattle.bodies.proofs.statement.Reads as statement′
 use Rattle.bodies.proofs.statement.Kinds as statement-kinds
-use Rattle.bodies.proofs.+block+expression+expressions+false_part+for_part+if_part+infix_part+inner+statement+statements+target+two+variable+variables.Lts-statement as statement-lts
+use Rattle.bodies.proofs.+block+expression+expressions+false_part+for_part+if_part+infix_part+inner+part+statement+statements+target+two+variable+variables.Lts-statement as statement-lts
 use Rattle.bodies.proofs.statements.Reads as statements
 use Rattle.bodies.proofs.statements.Kinds as statements-kinds
-use Rattle.bodies.proofs.+block+expression+expressions+false_part+for_part+if_part+infix_part+inner+statement+statements+target+two+variable+variables.Lts-statements as statements-lts
+use Rattle.bodies.proofs.+block+expression+expressions+false_part+for_part+if_part+infix_part+inner+part+statement+statements+target+two+variable+variables.Lts-statements as statements-lts
 use Rattle.bodies.proofs.target.Reads as target
 use Rattle.bodies.proofs.target.Kinds as target-kinds
-use Rattle.bodies.proofs.+block+expression+expressions+false_part+for_part+if_part+infix_part+inner+statement+statements+target+two+variable+variables.Lts-target as target-lts
+use Rattle.bodies.proofs.+block+expression+expressions+false_part+for_part+if_part+infix_part+inner+part+statement+statements+target+two+variable+variables.Lts-target as target-lts
 use Rattle.bodies.proofs.two.Reads as two
 use Rattle.bodies.proofs.two.Kinds as two-kinds
-use Rattle.bodies.proofs.+block+expression+expressions+false_part+for_part+if_part+infix_part+inner+statement+statements+target+two+variable+variables.Lts-two as two-lts
+use Rattle.bodies.proofs.+block+expression+expressions+false_part+for_part+if_part+infix_part+inner+part+statement+statements+target+two+variable+variables.Lts-two as two-lts
 use Rattle.bodies.proofs.variable.Reads as variable
 use Rattle.bodies.proofs.variable.Kinds as variable-kinds
-use Rattle.bodies.proofs.+block+expression+expressions+false_part+for_part+if_part+infix_part+inner+statement+statements+target+two+variable+variables.Lts-variable as variable-lts
+use Rattle.bodies.proofs.+block+expression+expressions+false_part+for_part+if_part+infix_part+inner+part+statement+statements+target+two+variable+variables.Lts-variable as variable-lts
 use Rattle.bodies.proofs.variables.Reads as variables
 use Rattle.bodies.proofs.variables.Kinds as variables-kinds
-use Rattle.bodies.proofs.+block+expression+expressions+false_part+for_part+if_part+infix_part+inner+statement+statements+target+two+variable+variables.Lts-variables as variables-lts
+use Rattle.bodies.proofs.+block+expression+expressions+false_part+for_part+if_part+infix_part+inner+part+statement+statements+target+two+variable+variables.Lts-variables as variables-lts
 use Rattle.bodies.proofs.cells.deeper.Reads as deeper-reads
 use Rattle.bodies.proofs.cells.define_local.Reads as define-local-reads
 use Rattle.bodies.proofs.cells.depth.Reads as depth-reads
@@ -77,7 +80,6 @@ use Rattle.bodies.proofs.cells.remove_pop_or_push_null.Reads as remove-
 use Rattle.bodies.proofs.cells.replace_instruction.Reads as replace-instruction-reads
 use Rattle.bodies.proofs.cells.scope_base.Reads as scope-base-reads
 use Rattle.bodies.proofs.cells.with_depth.Reads as with-depth-reads
-use Rattle.bodies.proofs.count_children.Reads as count-children-reads
 use Rattle.bodies.proofs.fault_in.Reads as fault-in-reads
 use Rattle.bodies.proofs.leaf.Reads as leaf-reads
 use Rattle.bodies.proofs.loop_end.Reads as loop-end-reads
@@ -91,8 +93,8 @@ use Rattle.bodies.proofs.set_name.Reads as set-name-reads
 use Rattle.bodies.proofs.skip.Reads as skip-reads
 use Rattle.words.proofs.opcode.OpCode.to_instruction.Reads as to-instruction-reads
 use Rattle.words.proofs.record.field.Reads as field-reads
-use Rattle.bodies.proofs.+block+expression+expressions+false_part+for_part+if_part+infix_part+inner+statement+statements+target+two+variable+variables.{statement}
-use Rattle.bodies.proofs.+block+expression+expressions+false_part+for_part+if_part+infix_part+inner+statement+statements+target+two+variable+variables.Tie.{close}
+use Rattle.bodies.proofs.+block+expression+expressions+false_part+for_part+if_part+infix_part+inner+part+statement+statements+target+two+variable+variables.{statement}
+use Rattle.bodies.proofs.+block+expression+expressions+false_part+for_part+if_part+infix_part+inner+part+statement+statements+target+two+variable+variables.Tie.{close}
 use borrow.Author.Needs.{needs}
 use native.Mathlib.Omega.{arith}
 
@@ -103,7 +105,7 @@ abbrev μ-expression : Measures 8 expression-kinds.ps ℕ
 μ-expression κs a = (a .1 .1 .0 - a .1 .0) * 4 + 1
 
 abbrev μ-expressions : Measures 8 expressions-kinds.ps ℕ
-μ-expressions κs a = (a .1 .1 .0 - a .1 .0) * 4 + 2
+μ-expressions κs a = (a .1 .1 .0 - a .1 .0) * 4 + 3
 
 abbrev μ-false-part : Measures 8 false-part-kinds.ps ℕ
 μ-false-part κs a = (a .1 .1 .0 - a .1 .0) * 4 + 1
@@ -120,6 +122,9 @@ abbrev μ-infix-part : Measures 8 infix-part-kinds.ps ℕ
 abbrev μ-inner : Measures 8 inner-kinds.ps ℕ
 μ-inner κs a = (a .1 .1 .0 - a .1 .0) * 4 + 1
 
+abbrev μ-part : Measures 8 part-kinds.ps ℕ
+μ-part κs a = (a .1 .1 .0 - a .1 .0) * 4 + 2
+
 abbrev μ-statement : Measures 8 statement-kinds.ps ℕ
 μ-statement κs a = (a .1 .1 .0 - a .1 .0) * 4 + 2
 
@@ -130,7 +135,7 @@ abbrev μ-target : Measures 8 target-kinds.ps ℕ
 μ-target κs a = (a .1 .1 .0 - a .1 .0) * 4
 
 abbrev μ-two : Measures 8 two-kinds.ps ℕ
-μ-two κs a = (a .1 .1 .0 - a .1 .0) * 4 + 2
+μ-two κs a = (a .1 .1 .0 - a .1 .0) * 4 + 3
 
 abbrev μ-variable : Measures 8 variable-kinds.ps ℕ
 μ-variable κs a = (a .1 .1 .0 - a .1 .0) * 4
@@ -186,6 +191,12 @@ inner-at t = and 8 inner-kinds.ps (is 8 inner-kinds.ps μ-inner t) inner.Pre
 abbrev inner-below : ℕ → In 8 inner-kinds.ps
 inner-below t = and 8 inner-kinds.ps (falls 8 inner-kinds.ps _<_ μ-inner t) inner.Pre
 
+abbrev part-at : ℕ → In 8 part-kinds.ps
+part-at t = and 8 part-kinds.ps (is 8 part-kinds.ps μ-part t) part.Pre
+
+abbrev part-below : ℕ → In 8 part-kinds.ps
+part-below t = and 8 part-kinds.ps (falls 8 part-kinds.ps _<_ μ-part t) part.Pre
+
 abbrev statement-at : ℕ → In 8 statement-kinds.ps
 statement-at t = and 8 statement-kinds.ps (is 8 statement-kinds.ps μ-statement t) statement′.Pre
 
@@ -223,14 +234,14 @@ abbrev variables-below : ℕ → In 8 variables-kinds.ps
 variables-below t = and 8 variables-kinds.ps (falls 8 variables-kinds.ps _<_ μ-variables t) variables.Pre
 
 abbrev expressions-Inv-loop : expressions-lts.InvT-loop
-expressions-Inv-loop tree at end cells₀ start count locals code₀ constants₀ names₀ breaks₀ errors₀ i₀ cells code constants names breaks errors i = (at ≤ i) ×
-    (length code ≡ length code₀) × (length constants ≡ length constants₀) × (length names ≡ length names₀)
-    × (length breaks ≡ length breaks₀) × (length errors ≡ length errors₀) × ((m : Machine) → MeetsEs tree i end start count locals
-    (machine (stateOf cells) code constants names breaks errors) m → MeetsEs tree at end start count locals (machine
-    (stateOf cells₀) code₀ constants₀ names₀ breaks₀ errors₀) m)
+expressions-Inv-loop tree at end cells₀ start count locals code₀ constants₀ names₀ breaks₀ errors₀ i₀ n₀ cells code constants names breaks errors i n =
+    (at + n ≤ i) × (length code ≡ length code₀) × (length constants ≡ length constants₀) × (length names ≡ length names₀)
+    × (length breaks ≡ length breaks₀) × (length errors ≡ length errors₀) × ((m : Machine) (r : ℕ) → MeetsList tree i end start count locals
+    (machine (stateOf cells) code constants names breaks errors) m n r → MeetsList tree at end start count locals (machine
+    (stateOf cells₀) code₀ constants₀ names₀ breaks₀ errors₀) m 0 r)
 
 abbrev expressions-μ-loop : expressions-lts.MeasureT-loop
-expressions-μ-loop tree at end cells₀ start count locals code₀ constants₀ names₀ breaks₀ errors₀ i₀ cells code constants names breaks errors i = end - i
+expressions-μ-loop tree at end cells₀ start count locals code₀ constants₀ names₀ breaks₀ errors₀ i₀ n₀ cells code constants names breaks errors i n = end - i
 
 abbrev statements-Inv-loop : statements-lts.InvT-loop
 statements-Inv-loop tree at end cells₀ start count locals code₀ constants₀ names₀ breaks₀ errors₀ i₀ cells code constants names breaks errors i = (at ≤ i) ×
@@ -276,12 +287,10 @@ expression-calls t = (
   infix-part.Post,
   if-part-below t,
   if-part.Post,
-  expression-below t,
-  expression.Post,
+  part-below t,
+  part.Post,
   prefix-reads.Asked,
   prefix-reads.Learnt,
-  count-children-reads.Asked,
-  count-children-reads.Learnt,
   expressions-below t,
   expressions.Post,
   to-instruction-reads.Asked,
@@ -299,7 +308,7 @@ expression-calls t = (
 )
 
 abbrev expressions-calls : ℕ → expressions-lts.Claims
-expressions-calls t = (skip-reads.Asked, skip-reads.Learnt, expression-below t, expression.Post)
+expressions-calls t = (skip-reads.Asked, skip-reads.Learnt, part-below t, part.Post)
 
 abbrev false-part-calls : ℕ → false-part-lts.Claims
 false-part-calls t = (block-below t, block.Post, emit-null-reads.Asked, emit-null-reads.Learnt)
@@ -312,8 +321,8 @@ for-part-calls t = (
   load-reads.Learnt,
   loop-start-reads.Asked,
   loop-start-reads.Learnt,
-  expression-below t,
-  expression.Post,
+  part-below t,
+  part.Post,
   loop-head-reads.Asked,
   loop-head-reads.Learnt,
   loop-name-reads.Asked,
@@ -328,8 +337,8 @@ abbrev if-part-calls : ℕ → if-part-lts.Claims
 if-part-calls t = (
   skip-reads.Asked,
   skip-reads.Learnt,
-  expression-below t,
-  expression.Post,
+  part-below t,
+  part.Post,
   get-next-instruction-index-reads.Asked,
   get-next-instruction-index-reads.Learnt,
   emit-opcode-without-position-reads.Asked,
@@ -350,14 +359,12 @@ infix-part-calls t = (
   field-reads.Learnt,
   skip-reads.Asked,
   skip-reads.Learnt,
-  expression-below t,
-  expression.Post,
+  part-below t,
+  part.Post,
   target-below t,
   target.Post,
   fault-in-reads.Asked,
   fault-in-reads.Learnt,
-  two-below t,
-  two.Post,
   operation-reads.Asked,
   operation-reads.Learnt,
 )
@@ -366,8 +373,8 @@ abbrev inner-calls : ℕ → inner-lts.Claims
 inner-calls t = (
   field-reads.Asked,
   field-reads.Learnt,
-  expression-below t,
-  expression.Post,
+  part-below t,
+  part.Post,
   emit-opcode-without-position-reads.Asked,
   emit-opcode-without-position-reads.Learnt,
   variables-below t,
@@ -381,6 +388,9 @@ inner-calls t = (
   emit-return-reads.Asked,
   emit-return-reads.Learnt,
 )
+
+abbrev part-calls : ℕ → part-lts.Claims
+part-calls t = (field-reads.Asked, field-reads.Learnt, leaf-reads.Asked, leaf-reads.Learnt, expression-below t, expression.Post)
 
 abbrev statement-calls : ℕ → statement-lts.Claims
 statement-calls t = (
@@ -416,7 +426,7 @@ target-calls t = (
 )
 
 abbrev two-calls : ℕ → two-lts.Claims
-two-calls t = (skip-reads.Asked, skip-reads.Learnt, expression-below t, expression.Post)
+two-calls t = (skip-reads.Asked, skip-reads.Learnt, part-below t, part.Post)
 
 abbrev variable-calls : ℕ → variable-lts.Claims
 variable-calls t = (
@@ -424,8 +434,8 @@ variable-calls t = (
   field-reads.Learnt,
   define-local-reads.Asked,
   define-local-reads.Learnt,
-  expression-below t,
-  expression.Post,
+  part-below t,
+  part.Post,
   to-instruction-reads.Asked,
   to-instruction-reads.Learnt,
   emit-reads.Asked,
@@ -565,8 +575,8 @@ expression-returns-3 t c =
     let c20 = c17 .before .before .before in
     e.if-arm (c20 .field .ensures) (c17 .if4 .taken) (c10 .if-part .ensures)
 
-expression-expression-requires : (t : ℕ) → expression-lts.Need-expression-requires (expression-calls t) (expression-at t) expression.Post
-expression-expression-requires t c κs =
+expression-part-requires : (t : ℕ) → expression-lts.Need-part-requires (expression-calls t) (expression-at t) expression.Post
+expression-part-requires t c κs =
     let c6 = c .before .before .before .before .before .before in
     let c7 = c6 .before in
     let c8 = c7 .before in
@@ -578,45 +588,45 @@ expression-expression-requires t c κs =
 expression-same-length-11 : (t : ℕ) → expression-lts.Need-same-length-11 (expression-calls t) (expression-at t) expression.Post
 expression-same-length-11 t c =
     let c18 = c .before .before .before .before .before .before .before .before .before .before .before .before .before .before .before .before .before .before in
-    (c .before .before .before .before .prefix .kept .1 .1 .0) ∙ (c18 .expression .kept .1 .1 .1 .1 .1 .1 .1 .0)
+    (c .before .before .before .before .prefix .kept .1 .1 .0) ∙ (c18 .part .kept .1 .1 .1 .1 .1 .1 .1 .0)
 
 expression-same-length-12 : (t : ℕ) → expression-lts.Need-same-length-12 (expression-calls t) (expression-at t) expression.Post
 expression-same-length-12 t c =
     let c18 = c .before .before .before .before .before .before .before .before .before .before .before .before .before .before .before .before .before .before in
-    (c18 .expression .kept .1 .1 .1 .1 .1 .1 .1 .1 .0)
+    (c18 .part .kept .1 .1 .1 .1 .1 .1 .1 .1 .0)
 
 expression-same-length-13 : (t : ℕ) → expression-lts.Need-same-length-13 (expression-calls t) (expression-at t) expression.Post
 expression-same-length-13 t c =
     let c18 = c .before .before .before .before .before .before .before .before .before .before .before .before .before .before .before .before .before .before in
-    (c18 .expression .kept .1 .1 .1 .1 .1 .1 .1 .1 .1 .0)
+    (c18 .part .kept .1 .1 .1 .1 .1 .1 .1 .1 .1 .0)
 
 expression-same-length-14 : (t : ℕ) → expression-lts.Need-same-length-14 (expression-calls t) (expression-at t) expression.Post
 expression-same-length-14 t c =
     let c18 = c .before .before .before .before .before .before .before .before .before .before .before .before .before .before .before .before .before .before in
-    (c18 .expression .kept .1 .1 .1 .1 .1 .1 .1 .1 .1 .1 .0)
+    (c18 .part .kept .1 .1 .1 .1 .1 .1 .1 .1 .1 .1 .0)
 
 expression-same-length-15 : (t : ℕ) → expression-lts.Need-same-length-15 (expression-calls t) (expression-at t) expression.Post
 expression-same-length-15 t c =
     let c18 = c .before .before .before .before .before .before .before .before .before .before .before .before .before .before .before .before .before .before in
-    (c .before .before .before .before .prefix .kept .1 .1 .1 .0) ∙ (c18 .expression .kept .1 .1 .1 .1 .1 .1 .1 .1 .1 .1 .1 .0)
+    (c .before .before .before .before .prefix .kept .1 .1 .1 .0) ∙ (c18 .part .kept .1 .1 .1 .1 .1 .1 .1 .1 .1 .1 .1 .0)
 
 expression-returns-4 : (t : ℕ) → expression-lts.Need-returns-4 (expression-calls t) (expression-at t) expression.Post
 expression-returns-4 t c =
     let c18 = c .before .before .before .before .before .before .before .before .before .before .before .before .before .before .before .before .before .before in
     let c25 = c18 .before .before .before .before .before .before .before in
     let c29 = c25 .before .before .before .before in
-    e.prefix-meets (c29 .field .ensures) (c25 .if5 .taken) (c18 .expression .ensures) (c .before .before .before .before .prefix .ensures)
+    e.prefix-meets (c29 .field .ensures) (c25 .if5 .taken) (c18 .part .ensures) (c .before .before .before .before .prefix .ensures)
 
 expression-expressions-requires : (t : ℕ) → expression-lts.Need-expressions-requires (expression-calls t) (expression-at t) expression.Post
 expression-expressions-requires t c κs =
-    let c7 = c .before .before .before .before .before .before .before in
+    let c6 = c .before .before .before .before .before .before in
+    let c7 = c6 .before in
     let c8 = c7 .before in
     let c9 = c8 .before in
-    let c10 = c9 .before in
-    let c13 = c10 .before .before .before in
-    let c14 = c13 .before in
-    let c24 = c14 .before .before .before .before .before .before .before .before .before .before in
-    omega (arith, c7 .if6, c8 .if5, c9 .if4, c10 .if3, c13 .if2, c14 .if1, c24 .pre)
+    let c12 = c9 .before .before .before in
+    let c13 = c12 .before in
+    let c23 = c13 .before .before .before .before .before .before .before .before .before .before in
+    omega (arith, c6 .if6, c7 .if5, c8 .if4, c9 .if3, c12 .if2, c13 .if1, c23 .pre)
 
 expression-same-length-16 : (t : ℕ) → expression-lts.Need-same-length-16 (expression-calls t) (expression-at t) expression.Post
 expression-same-length-16 t c =
@@ -648,57 +658,56 @@ expression-returns-5 t c =
     let c5 = c .before .before .before .before .before in
     let c16 = c5 .before .before .before .before .before .before .before .before .before .before .before in
     let c23 = c16 .before .before .before .before .before .before .before in
-    let c24 = c23 .before in
-    let c28 = c24 .before .before .before .before in
-    let c29 = c28 .before in
-    e.array-meets (c29 .field .ensures) (c28 .field2 .ensures) (c24 .if6 .taken) (c23 .count-children .ensures) (c16 .expressions .ensures)
+    let c27 = c23 .before .before .before .before in
+    let c28 = c27 .before in
+    e.array-meets (c28 .field .ensures) (c27 .field2 .ensures) (c23 .if6 .taken) (c16 .expressions .ensures .counted) (c16 .expressions .ensures .meets)
     (c5 .to-instruction .ensures) (c .before .before .emit .ensures)
 
-expression-expression-requires-2 : (t : ℕ) → expression-lts.Need-expression-requires-2 (expression-calls t) (expression-at t) expression.Post
-expression-expression-requires-2 t c κs =
-    let c7 = c .before .before .before .before .before .before .before in
-    let c15 = c7 .before .before .before .before .before .before .before .before in
-    let c26 = c15 .before .before .before .before .before .before .before .before .before .before .before in
-    let m = skip-inside (c26 .args .tree .now) (c26 .args .at + 1) (c26 .args .end) (omega (arith, c15 .if2 .taken)) (c7 .skip .ensures) in
-    omega (arith, m, c15 .if2, c26 .pre)
+expression-part-requires-2 : (t : ℕ) → expression-lts.Need-part-requires-2 (expression-calls t) (expression-at t) expression.Post
+expression-part-requires-2 t c κs =
+    let c6 = c .before .before .before .before .before .before in
+    let c14 = c6 .before .before .before .before .before .before .before .before in
+    let c25 = c14 .before .before .before .before .before .before .before .before .before .before .before in
+    let m = skip-inside (c25 .args .tree .now) (c25 .args .at + 1) (c25 .args .end) (omega (arith, c14 .if2 .taken)) (c6 .skip .ensures) in
+    omega (arith, m, c14 .if2, c25 .pre)
 
 expression-expressions-requires-2 : (t : ℕ) → expression-lts.Need-expressions-requires-2 (expression-calls t) (expression-at t) expression.Post
 expression-expressions-requires-2 t c κs =
-    let c24 = c .before .before .before .before .before .before .before .before .before .before .before .before .before .before .before .before .before .before .before .before .before .before .before .before in
-    let c32 = c24 .before .before .before .before .before .before .before .before in
-    let c43 = c32 .before .before .before .before .before .before .before .before .before .before .before in
-    let m = skip-inside (c43 .args .tree .now) (c43 .args .at + 1) (c43 .args .end) (omega (arith, c32 .if2 .taken)) (c24 .skip .ensures) in
-    omega (arith, m, c32 .if2, c43 .pre)
+    let c23 = c .before .before .before .before .before .before .before .before .before .before .before .before .before .before .before .before .before .before .before .before .before .before .before in
+    let c31 = c23 .before .before .before .before .before .before .before .before in
+    let c42 = c31 .before .before .before .before .before .before .before .before .before .before .before in
+    let m = skip-inside (c42 .args .tree .now) (c42 .args .at + 1) (c42 .args .end) (omega (arith, c31 .if2 .taken)) (c23 .skip .ensures) in
+    omega (arith, m, c31 .if2, c42 .pre)
 
 expression-same-length-21 : (t : ℕ) → expression-lts.Need-same-length-21 (expression-calls t) (expression-at t) expression.Post
 expression-same-length-21 t c =
     let c16 = c .before .before .before .before .before .before .before .before .before .before .before .before .before .before .before .before in
     let c33 = c16 .before .before .before .before .before .before .before .before .before .before .before .before .before .before .before .before .before in
-    (c .before .before .emit2 .kept .0) ∙ (c16 .expressions2 .kept .1 .1 .1 .1 .1 .1 .1 .0) ∙ (c33 .expression2 .kept .1 .1 .1 .1 .1 .1 .1 .0)
+    (c .before .before .emit2 .kept .0) ∙ (c16 .expressions2 .kept .1 .1 .1 .1 .1 .1 .1 .0) ∙ (c33 .part2 .kept .1 .1 .1 .1 .1 .1 .1 .0)
 
 expression-same-length-22 : (t : ℕ) → expression-lts.Need-same-length-22 (expression-calls t) (expression-at t) expression.Post
 expression-same-length-22 t c =
     let c16 = c .before .before .before .before .before .before .before .before .before .before .before .before .before .before .before .before in
     let c33 = c16 .before .before .before .before .before .before .before .before .before .before .before .before .before .before .before .before .before in
-    (c16 .expressions2 .kept .1 .1 .1 .1 .1 .1 .1 .1 .0) ∙ (c33 .expression2 .kept .1 .1 .1 .1 .1 .1 .1 .1 .0)
+    (c16 .expressions2 .kept .1 .1 .1 .1 .1 .1 .1 .1 .0) ∙ (c33 .part2 .kept .1 .1 .1 .1 .1 .1 .1 .1 .0)
 
 expression-same-length-23 : (t : ℕ) → expression-lts.Need-same-length-23 (expression-calls t) (expression-at t) expression.Post
 expression-same-length-23 t c =
     let c16 = c .before .before .before .before .before .before .before .before .before .before .before .before .before .before .before .before in
     let c33 = c16 .before .before .before .before .before .before .before .before .before .before .before .before .before .before .before .before .before in
-    (c16 .expressions2 .kept .1 .1 .1 .1 .1 .1 .1 .1 .1 .0) ∙ (c33 .expression2 .kept .1 .1 .1 .1 .1 .1 .1 .1 .1 .0)
+    (c16 .expressions2 .kept .1 .1 .1 .1 .1 .1 .1 .1 .1 .0) ∙ (c33 .part2 .kept .1 .1 .1 .1 .1 .1 .1 .1 .1 .0)
 
 expression-same-length-24 : (t : ℕ) → expression-lts.Need-same-length-24 (expression-calls t) (expression-at t) expression.Post
 expression-same-length-24 t c =
     let c16 = c .before .before .before .before .before .before .before .before .before .before .before .before .before .before .before .before in
     let c33 = c16 .before .before .before .before .before .before .before .before .before .before .before .before .before .before .before .before .before in
-    (c16 .expressions2 .kept .1 .1 .1 .1 .1 .1 .1 .1 .1 .1 .0) ∙ (c33 .expression2 .kept .1 .1 .1 .1 .1 .1 .1 .1 .1 .1 .0)
+    (c16 .expressions2 .kept .1 .1 .1 .1 .1 .1 .1 .1 .1 .1 .0) ∙ (c33 .part2 .kept .1 .1 .1 .1 .1 .1 .1 .1 .1 .1 .0)
 
 expression-same-length-25 : (t : ℕ) → expression-lts.Need-same-length-25 (expression-calls t) (expression-at t) expression.Post
 expression-same-length-25 t c =
     let c16 = c .before .before .before .before .before .before .before .before .before .before .before .before .before .before .before .before in
     let c33 = c16 .before .before .before .before .before .before .before .before .before .before .before .before .before .before .before .before .before in
-    (c16 .expressions2 .kept .1 .1 .1 .1 .1 .1 .1 .1 .1 .1 .1 .0) ∙ (c33 .expression2 .kept .1 .1 .1 .1 .1 .1 .1 .1 .1 .1 .1 .0)
+    (c16 .expressions2 .kept .1 .1 .1 .1 .1 .1 .1 .1 .1 .1 .1 .0) ∙ (c33 .part2 .kept .1 .1 .1 .1 .1 .1 .1 .1 .1 .1 .1 .0)
 
 expression-returns-6 : (t : ℕ) → expression-lts.Need-returns-6 (expression-calls t) (expression-at t) expression.Post
 expression-returns-6 t c =
@@ -707,11 +716,10 @@ expression-returns-6 t c =
     let c33 = c16 .before .before .before .before .before .before .before .before .before .before .before .before .before .before .before .before .before in
     let c40 = c33 .before .before .before .before .before .before .before in
     let c41 = c40 .before in
-    let c42 = c41 .before in
-    let c47 = c42 .before .before .before .before .before in
-    let c48 = c47 .before in
-    e.call-meets (c48 .field .ensures) (c47 .field2 .ensures) (c42 .if7 .taken) (c41 .skip .ensures) (c40 .count-children2 .ensures) (c33 .expression2 .ensures)
-    (c16 .expressions2 .ensures)
+    let c46 = c41 .before .before .before .before .before in
+    let c47 = c46 .before in
+    e.call-meets (c47 .field .ensures) (c46 .field2 .ensures) (c41 .if7 .taken) (c40 .skip .ensures) (c16 .expressions2 .ensures .counted) (c33 .part2 .ensures)
+    (c16 .expressions2 .ensures .meets)
     (c5 .to-instruction2 .ensures) (c .before .before .emit2 .ensures)
 
 expression-two-requires : (t : ℕ) → expression-lts.Need-two-requires (expression-calls t) (expression-at t) expression.Post
@@ -833,16 +841,23 @@ expression-returns-10 : (t : ℕ) → expression-lts.Need-returns-10 (expression
 expression-returns-10 t c = e.past-meets (c .if2 .left)
 
 expressions-loop-holds : (t : ℕ) → expressions-lts.Need-loop-holds (expressions-calls t) (expressions-at t) expressions.Post expressions-Inv-loop expressions-μ-loop
-expressions-loop-holds t c = (omega arith, refl, refl, refl, refl, refl, λ m h. h)
+expressions-loop-holds t c = (omega arith, refl, refl, refl, refl, refl, λ m r h. h)
 
-expressions-expression-requires : (t : ℕ) → expressions-lts.Need-expression-requires (expressions-calls t) (expressions-at t) expressions.Post expressions-Inv-loop expressions-μ-loop
-expressions-expression-requires t c κs =
+expressions-part-requires : (t : ℕ) → expressions-lts.Need-part-requires (expressions-calls t) (expressions-at t) expressions.Post expressions-Inv-loop expressions-μ-loop
+expressions-part-requires t c κs =
     let c6 = c .before .before .before .before .before .before in
     let c7 = c6 .before in
     let c8 = c7 .before in
     let c16 = c8 .before .before .before .before .before .before .before .before in
     let m = skip-more (c16 .args .tree .now) (c8 .loop .i) (c16 .args .end) (c7 .loop-test .taken) (c6 .skip .ensures) in
     omega (arith, m, c8 .loop .inv .0, c7 .loop-test .taken, c16 .pre)
+
+expressions-add-n : (t : ℕ) → expressions-lts.Need-add-n (expressions-calls t) (expressions-at t) expressions.Post expressions-Inv-loop expressions-μ-loop
+expressions-add-n t c =
+    let c18 = c .before .before .before .before .before .before .before .before .before .before .before .before .before .before .before .before .before .before in
+    let c19 = c18 .before in
+    let c27 = c19 .before .before .before .before .before .before .before .before in
+    omega (arith, c19 .loop .inv .0, c18 .loop-test .taken, c27 .fits)
 
 expressions-loop-less : (t : ℕ) → expressions-lts.Need-loop-less (expressions-calls t) (expressions-at t) expressions.Post expressions-Inv-loop expressions-μ-loop
 expressions-loop-less t c =
@@ -865,16 +880,12 @@ expressions-loop-again t c =
     let c27 = c19 .before .before .before .before .before .before .before .before in
     let m = skip-more (c27 .args .tree .now) (c19 .loop .i) (c27 .args .end) (c18 .loop-test .taken) (c17 .skip .ensures) in (
       omega (arith, m, c19 .loop .inv .0),
-      omega (arith, c19 .loop .inv .1, c10 .expression .kept),
-      omega (arith, c19 .loop .inv .2, c10 .expression .kept),
-      omega (arith, c19 .loop .inv .3, c10 .expression .kept),
-      omega (arith, c19 .loop .inv .4, c10 .expression .kept),
-      omega (
-        arith,
-        c19 .loop .inv .5,
-        c10 .expression .kept,
-      ),
-      λ m h. c19 .loop .inv .6 m (e.list-more (c18 .loop-test .taken) (c17 .skip .ensures) (c10 .expression .ensures) h),
+      omega (arith, c19 .loop .inv .1, c10 .part .kept),
+      omega (arith, c19 .loop .inv .2, c10 .part .kept),
+      omega (arith, c19 .loop .inv .3, c10 .part .kept),
+      omega (arith, c19 .loop .inv .4, c10 .part .kept),
+      omega (arith, c19 .loop .inv .5, c10 .part .kept),
+      λ m r h. c19 .loop .inv .6 m r (e.list-more (c18 .loop-test .taken) (c17 .skip .ensures) (c10 .part .ensures) h),
     )
 
 expressions-same-length : (t : ℕ) → expressions-lts.Need-same-length (expressions-calls t) (expressions-at t) expressions.Post expressions-Inv-loop expressions-μ-loop
@@ -893,7 +904,7 @@ expressions-same-length-5 : (t : ℕ) → expressions-lts.Need-same-length-5 (ex
 expressions-same-length-5 t c = omega (arith, c .before .loop .inv)
 
 expressions-returns : (t : ℕ) → expressions-lts.Need-returns (expressions-calls t) (expressions-at t) expressions.Post expressions-Inv-loop expressions-μ-loop
-expressions-returns t c = c .before .loop .inv .6 _ (e.list-end (c .loop-test .left))
+expressions-returns t c = c .before .loop .inv .6 _ _ (e.list-end (c .loop-test .left))
 
 false-part-block-requires : (t : ℕ) → false-part-lts.Need-block-requires (false-part-calls t) (false-part-at t) false-part.Post
 false-part-block-requires t c κs =
@@ -940,8 +951,8 @@ false-part-returns-2 t c =
     let c5 = c .before .before .before .before .before in
     f.false-none (c5 .if1 .left) (c .before .before .emit-null .ensures)
 
-for-part-expression-requires : (t : ℕ) → for-part-lts.Need-expression-requires (for-part-calls t) (for-part-at t) for-part.Post
-for-part-expression-requires t c κs =
+for-part-part-requires : (t : ℕ) → for-part-lts.Need-part-requires (for-part-calls t) (for-part-at t) for-part.Post
+for-part-part-requires t c κs =
     let c10 = c .before .before .before .before .before .before .before .before .before .before in
     let c11 = c10 .before in
     let c20 = c11 .before .before .before .before .before .before .before .before .before in
@@ -964,14 +975,14 @@ for-part-same-length t c =
     let c40 = c32 .before .before .before .before .before .before .before .before in
     let c54 = c40 .before .before .before .before .before .before .before .before .before .before .before .before .before .before in
     (c6 .loop-end .kept .0) ∙ (c21 .statements .kept .1 .1 .1 .1 .1 .1 .1 .0) ∙ (c32 .loop-name .kept .1 .1 .1 .0) ∙ (c40 .loop-head .kept .1 .1 .0) ∙
-    (c54 .expression .kept .1 .1 .1 .1 .1 .1 .1 .0)
+    (c54 .part .kept .1 .1 .1 .1 .1 .1 .1 .0)
 
 for-part-same-length-2 : (t : ℕ) → for-part-lts.Need-same-length-2 (for-part-calls t) (for-part-at t) for-part.Post
 for-part-same-length-2 t c =
     let c21 = c .before .before .before .before .before .before .before .before .before .before .before .before .before .before .before .before .before .before .before .before .before in
     let c40 = c21 .before .before .before .before .before .before .before .before .before .before .before .before .before .before .before .before .before .before .before in
     let c54 = c40 .before .before .before .before .before .before .before .before .before .before .before .before .before .before in
-    (c21 .statements .kept .1 .1 .1 .1 .1 .1 .1 .1 .0) ∙ (c40 .loop-head .kept .1 .1 .1 .0) ∙ (c54 .expression .kept .1 .1 .1 .1 .1 .1 .1 .1 .0)
+    (c21 .statements .kept .1 .1 .1 .1 .1 .1 .1 .1 .0) ∙ (c40 .loop-head .kept .1 .1 .1 .0) ∙ (c54 .part .kept .1 .1 .1 .1 .1 .1 .1 .1 .0)
 
 for-part-same-length-3 : (t : ℕ) → for-part-lts.Need-same-length-3 (for-part-calls t) (for-part-at t) for-part.Post
 for-part-same-length-3 t c =
@@ -980,20 +991,20 @@ for-part-same-length-3 t c =
     let c32 = c21 .before .before .before .before .before .before .before .before .before .before .before in
     let c54 = c32 .before .before .before .before .before .before .before .before .before .before .before .before .before .before .before .before .before .before .before .before .before .before in
     (c6 .loop-end .kept .1 .0) ∙ (c21 .statements .kept .1 .1 .1 .1 .1 .1 .1 .1 .1 .0) ∙ (c32 .loop-name .kept .1 .1 .1 .1 .0) ∙
-    (c54 .expression .kept .1 .1 .1 .1 .1 .1 .1 .1 .1 .0)
+    (c54 .part .kept .1 .1 .1 .1 .1 .1 .1 .1 .1 .0)
 
 for-part-same-length-4 : (t : ℕ) → for-part-lts.Need-same-length-4 (for-part-calls t) (for-part-at t) for-part.Post
 for-part-same-length-4 t c =
     let c6 = c .before .before .before .before .before .before in
     let c21 = c6 .before .before .before .before .before .before .before .before .before .before .before .before .before .before .before in
     let c54 = c21 .before .before .before .before .before .before .before .before .before .before .before .before .before .before .before .before .before .before .before .before .before .before .before .before .before .before .before .before .before .before .before .before .before in
-    (c6 .loop-end .kept .1 .1 .0) ∙ (c21 .statements .kept .1 .1 .1 .1 .1 .1 .1 .1 .1 .1 .0) ∙ (c54 .expression .kept .1 .1 .1 .1 .1 .1 .1 .1 .1 .1 .0)
+    (c6 .loop-end .kept .1 .1 .0) ∙ (c21 .statements .kept .1 .1 .1 .1 .1 .1 .1 .1 .1 .1 .0) ∙ (c54 .part .kept .1 .1 .1 .1 .1 .1 .1 .1 .1 .1 .0)
 
 for-part-same-length-5 : (t : ℕ) → for-part-lts.Need-same-length-5 (for-part-calls t) (for-part-at t) for-part.Post
 for-part-same-length-5 t c =
     let c21 = c .before .before .before .before .before .before .before .before .before .before .before .before .before .before .before .before .before .before .before .before .before in
     let c54 = c21 .before .before .before .before .before .before .before .before .before .before .before .before .before .before .before .before .before .before .before .before .before .before .before .before .before .before .before .before .before .before .before .before .before in
-    (c21 .statements .kept .1 .1 .1 .1 .1 .1 .1 .1 .1 .1 .1 .0) ∙ (c54 .expression .kept .1 .1 .1 .1 .1 .1 .1 .1 .1 .1 .1 .0)
+    (c21 .statements .kept .1 .1 .1 .1 .1 .1 .1 .1 .1 .1 .1 .0) ∙ (c54 .part .kept .1 .1 .1 .1 .1 .1 .1 .1 .1 .1 .1 .0)
 
 for-part-returns : (t : ℕ) → for-part-lts.Need-returns (for-part-calls t) (for-part-at t) for-part.Post
 for-part-returns t c =
@@ -1005,7 +1016,7 @@ for-part-returns t c =
     let c61 = c54 .before .before .before .before .before .before .before in
     let c63 = c61 .before .before in
     let c65 = c63 .before .before in
-    rw (← (c63 .load .ensures)) (for-meets (c65 .skip .ensures) (rw (← (c63 .load .ensures)) at (c61 .loop-start .ensures)) (c54 .expression .ensures)
+    rw (← (c63 .load .ensures)) (for-meets (c65 .skip .ensures) (rw (← (c63 .load .ensures)) at (c61 .loop-start .ensures)) (c54 .part .ensures)
     (c40 .loop-head .ensures)
     (c32 .loop-name .ensures) (c21 .statements .ensures) (c6 .loop-end .ensures))
 
@@ -1015,8 +1026,8 @@ for-part-returns-2 t c = for-past (c .if2 .left)
 for-part-returns-3 : (t : ℕ) → for-part-lts.Need-returns-3 (for-part-calls t) (for-part-at t) for-part.Post
 for-part-returns-3 t c = for-past (omega (arith, c .if1 .left))
 
-if-part-expression-requires : (t : ℕ) → if-part-lts.Need-expression-requires (if-part-calls t) (if-part-at t) if-part.Post
-if-part-expression-requires t c κs =
+if-part-part-requires : (t : ℕ) → if-part-lts.Need-part-requires (if-part-calls t) (if-part-at t) if-part.Post
+if-part-part-requires t c κs =
     let c7 = c .before .before .before .before .before .before .before in
     let c8 = c7 .before in
     let c16 = c8 .before .before .before .before .before .before .before .before in
@@ -1051,22 +1062,21 @@ if-part-same-length t c =
     let c74 = c59 .before .before .before .before .before .before .before .before .before .before .before .before .before .before .before in
     (c .before .before .replace-instruction2 .kept .0) ∙ (c18 .block .kept .1 .1 .1 .1 .1 .1 .1 .0) ∙ (c27 .replace-instruction .kept .0) ∙
     (c35 .emit-opcode-without-position2 .kept .0) ∙ (c50 .false-part .kept .1 .1 .1 .1 .1 .1 .1 .0) ∙ (c59 .emit-opcode-without-position .kept .0) ∙
-    (c74 .expression .kept .1 .1 .1 .1 .1 .1 .1 .0)
+    (c74 .part .kept .1 .1 .1 .1 .1 .1 .1 .0)
 
 if-part-same-length-2 : (t : ℕ) → if-part-lts.Need-same-length-2 (if-part-calls t) (if-part-at t) if-part.Post
 if-part-same-length-2 t c =
     let c18 = c .before .before .before .before .before .before .before .before .before .before .before .before .before .before .before .before .before .before in
     let c50 = c18 .before .before .before .before .before .before .before .before .before .before .before .before .before .before .before .before .before .before .before .before .before .before .before .before .before .before .before .before .before .before .before .before in
     let c74 = c50 .before .before .before .before .before .before .before .before .before .before .before .before .before .before .before .before .before .before .before .before .before .before .before .before in
-    (c18 .block .kept .1 .1 .1 .1 .1 .1 .1 .1 .0) ∙ (c50 .false-part .kept .1 .1 .1 .1 .1 .1 .1 .1 .0) ∙ (c74 .expression .kept .1 .1 .1 .1 .1 .1 .1 .1 .0)
+    (c18 .block .kept .1 .1 .1 .1 .1 .1 .1 .1 .0) ∙ (c50 .false-part .kept .1 .1 .1 .1 .1 .1 .1 .1 .0) ∙ (c74 .part .kept .1 .1 .1 .1 .1 .1 .1 .1 .0)
 
 if-part-same-length-3 : (t : ℕ) → if-part-lts.Need-same-length-3 (if-part-calls t) (if-part-at t) if-part.Post
 if-part-same-length-3 t c =
     let c18 = c .before .before .before .before .before .before .before .before .before .before .before .before .before .before .before .before .before .before in
     let c50 = c18 .before .before .before .before .before .before .before .before .before .before .before .before .before .before .before .before .before .before .before .before .before .before .before .before .before .before .before .before .before .before .before .before in
     let c74 = c50 .before .before .before .before .before .before .before .before .before .before .before .before .before .before .before .before .before .before .before .before .before .before .before .before in
-    (c18 .block .kept .1 .1 .1 .1 .1 .1 .1 .1 .1 .0) ∙ (c50 .false-part .kept .1 .1 .1 .1 .1 .1 .1 .1 .1 .0) ∙
-    (c74 .expression .kept .1 .1 .1 .1 .1 .1 .1 .1 .1 .0)
+    (c18 .block .kept .1 .1 .1 .1 .1 .1 .1 .1 .1 .0) ∙ (c50 .false-part .kept .1 .1 .1 .1 .1 .1 .1 .1 .1 .0) ∙ (c74 .part .kept .1 .1 .1 .1 .1 .1 .1 .1 .1 .0)
 
 if-part-same-length-4 : (t : ℕ) → if-part-lts.Need-same-length-4 (if-part-calls t) (if-part-at t) if-part.Post
 if-part-same-length-4 t c =
@@ -1074,7 +1084,7 @@ if-part-same-length-4 t c =
     let c50 = c18 .before .before .before .before .before .before .before .before .before .before .before .before .before .before .before .before .before .before .before .before .before .before .before .before .before .before .before .before .before .before .before .before in
     let c74 = c50 .before .before .before .before .before .before .before .before .before .before .before .before .before .before .before .before .before .before .before .before .before .before .before .before in
     (c18 .block .kept .1 .1 .1 .1 .1 .1 .1 .1 .1 .1 .0) ∙ (c50 .false-part .kept .1 .1 .1 .1 .1 .1 .1 .1 .1 .1 .0) ∙
-    (c74 .expression .kept .1 .1 .1 .1 .1 .1 .1 .1 .1 .1 .0)
+    (c74 .part .kept .1 .1 .1 .1 .1 .1 .1 .1 .1 .1 .0)
 
 if-part-same-length-5 : (t : ℕ) → if-part-lts.Need-same-length-5 (if-part-calls t) (if-part-at t) if-part.Post
 if-part-same-length-5 t c =
@@ -1082,7 +1092,7 @@ if-part-same-length-5 t c =
     let c50 = c18 .before .before .before .before .before .before .before .before .before .before .before .before .before .before .before .before .before .before .before .before .before .before .before .before .before .before .before .before .before .before .before .before in
     let c74 = c50 .before .before .before .before .before .before .before .before .before .before .before .before .before .before .before .before .before .before .before .before .before .before .before .before in
     (c18 .block .kept .1 .1 .1 .1 .1 .1 .1 .1 .1 .1 .1 .0) ∙ (c50 .false-part .kept .1 .1 .1 .1 .1 .1 .1 .1 .1 .1 .1 .0) ∙
-    (c74 .expression .kept .1 .1 .1 .1 .1 .1 .1 .1 .1 .1 .1 .0)
+    (c74 .part .kept .1 .1 .1 .1 .1 .1 .1 .1 .1 .1 .1 .0)
 
 if-part-returns : (t : ℕ) → if-part-lts.Need-returns (if-part-calls t) (if-part-at t) if-part.Post
 if-part-returns t c =
@@ -1100,7 +1110,7 @@ if-part-returns t c =
     let c74 = c62 .before .before .before .before .before .before .before .before .before .before .before .before in
     let c81 = c74 .before .before .before .before .before .before .before in
     let c82 = c81 .before in
-    f.if-meets (c82 .skip .ensures) (c81 .skip2 .ensures) (c74 .expression .ensures) (c62 .get-next-instruction-index .ensures)
+    f.if-meets (c82 .skip .ensures) (c81 .skip2 .ensures) (c74 .part .ensures) (c62 .get-next-instruction-index .ensures)
     (c59 .emit-opcode-without-position .ensures) (c50 .false-part .ensures)
     (c38 .get-next-instruction-index2 .ensures) (c35 .emit-opcode-without-position2 .ensures) (c31 .get-next-instruction-index3 .ensures)
     (c30 .to-instruction .ensures) (c27 .replace-instruction .ensures) (c18 .block .ensures)
@@ -1114,8 +1124,8 @@ infix-part-add-skip t c =
     let c10 = c .before .before .before .before .before .before .before .before .before .before in
     omega (arith, c .before .before .if1 .taken, c10 .fits)
 
-infix-part-expression-requires : (t : ℕ) → infix-part-lts.Need-expression-requires (infix-part-calls t) (infix-part-at t) infix-part.Post
-infix-part-expression-requires t c κs =
+infix-part-part-requires : (t : ℕ) → infix-part-lts.Need-part-requires (infix-part-calls t) (infix-part-at t) infix-part.Post
+infix-part-part-requires t c κs =
     let c7 = c .before .before .before .before .before .before .before in
     let c10 = c7 .before .before .before in
     let c18 = c10 .before .before .before .before .before .before .before .before in
@@ -1140,31 +1150,31 @@ infix-part-same-length : (t : ℕ) → infix-part-lts.Need-same-length (infix-pa
 infix-part-same-length t c =
     let c10 = c .before .before .before .before .before .before .before .before .before .before in
     let c27 = c10 .before .before .before .before .before .before .before .before .before .before .before .before .before .before .before .before .before in
-    (c10 .target .kept .1 .1 .1 .1 .1 .1 .1 .1 .0) ∙ (c27 .expression .kept .1 .1 .1 .1 .1 .1 .1 .0)
+    (c10 .target .kept .1 .1 .1 .1 .1 .1 .1 .1 .0) ∙ (c27 .part .kept .1 .1 .1 .1 .1 .1 .1 .0)
 
 infix-part-same-length-2 : (t : ℕ) → infix-part-lts.Need-same-length-2 (infix-part-calls t) (infix-part-at t) infix-part.Post
 infix-part-same-length-2 t c =
     let c10 = c .before .before .before .before .before .before .before .before .before .before in
     let c27 = c10 .before .before .before .before .before .before .before .before .before .before .before .before .before .before .before .before .before in
-    (c10 .target .kept .1 .1 .1 .1 .1 .1 .1 .1 .1 .0) ∙ (c27 .expression .kept .1 .1 .1 .1 .1 .1 .1 .1 .0)
+    (c10 .target .kept .1 .1 .1 .1 .1 .1 .1 .1 .1 .0) ∙ (c27 .part .kept .1 .1 .1 .1 .1 .1 .1 .1 .0)
 
 infix-part-same-length-3 : (t : ℕ) → infix-part-lts.Need-same-length-3 (infix-part-calls t) (infix-part-at t) infix-part.Post
 infix-part-same-length-3 t c =
     let c10 = c .before .before .before .before .before .before .before .before .before .before in
     let c27 = c10 .before .before .before .before .before .before .before .before .before .before .before .before .before .before .before .before .before in
-    (c10 .target .kept .1 .1 .1 .1 .1 .1 .1 .1 .1 .1 .0) ∙ (c27 .expression .kept .1 .1 .1 .1 .1 .1 .1 .1 .1 .0)
+    (c10 .target .kept .1 .1 .1 .1 .1 .1 .1 .1 .1 .1 .0) ∙ (c27 .part .kept .1 .1 .1 .1 .1 .1 .1 .1 .1 .0)
 
 infix-part-same-length-4 : (t : ℕ) → infix-part-lts.Need-same-length-4 (infix-part-calls t) (infix-part-at t) infix-part.Post
 infix-part-same-length-4 t c =
     let c10 = c .before .before .before .before .before .before .before .before .before .before in
     let c27 = c10 .before .before .before .before .before .before .before .before .before .before .before .before .before .before .before .before .before in
-    (c10 .target .kept .1 .1 .1 .1 .1 .1 .1 .1 .1 .1 .1 .0) ∙ (c27 .expression .kept .1 .1 .1 .1 .1 .1 .1 .1 .1 .1 .0)
+    (c10 .target .kept .1 .1 .1 .1 .1 .1 .1 .1 .1 .1 .1 .0) ∙ (c27 .part .kept .1 .1 .1 .1 .1 .1 .1 .1 .1 .1 .0)
 
 infix-part-same-length-5 : (t : ℕ) → infix-part-lts.Need-same-length-5 (infix-part-calls t) (infix-part-at t) infix-part.Post
 infix-part-same-length-5 t c =
     let c10 = c .before .before .before .before .before .before .before .before .before .before in
     let c27 = c10 .before .before .before .before .before .before .before .before .before .before .before .before .before .before .before .before .before in
-    (c10 .target .kept .1 .1 .1 .1 .1 .1 .1 .1 .1 .1 .1 .1 .0) ∙ (c27 .expression .kept .1 .1 .1 .1 .1 .1 .1 .1 .1 .1 .1 .0)
+    (c10 .target .kept .1 .1 .1 .1 .1 .1 .1 .1 .1 .1 .1 .1 .0) ∙ (c27 .part .kept .1 .1 .1 .1 .1 .1 .1 .1 .1 .1 .1 .0)
 
 infix-part-returns : (t : ℕ) → infix-part-lts.Need-returns (infix-part-calls t) (infix-part-at t) infix-part.Post
 infix-part-returns t c =
@@ -1173,7 +1183,7 @@ infix-part-returns t c =
     let c34 = c27 .before .before .before .before .before .before .before in
     let c35 = c34 .before in
     let c37 = c35 .before .before in
-    i.infix-assign (c37 .field .ensures) (c35 .skip .ensures) (c34 .if2 .taken) (c27 .expression .ensures) (c10 .target .ensures)
+    i.infix-assign (c37 .field .ensures) (c35 .skip .ensures) (c34 .if2 .taken) (c27 .part .ensures) (c10 .target .ensures)
 
 infix-part-same-length-6 : (t : ℕ) → infix-part-lts.Need-same-length-6 (infix-part-calls t) (infix-part-at t) infix-part.Post
 infix-part-same-length-6 t c = (c .before .before .fault-in .kept .1 .1 .0)
@@ -1185,64 +1195,80 @@ infix-part-returns-2 t c =
     let c18 = c9 .before .before .before .before .before .before .before .before .before in
     i.infix-unknown (c9 .field .ensures) (c5 .if3 .taken) (faults (c18 .args .tree .now) (c18 .args .at) 3 (c .before .before .fault-in .ensures))
 
-infix-part-add-two : (t : ℕ) → infix-part-lts.Need-add-two (infix-part-calls t) (infix-part-at t) infix-part.Post
-infix-part-add-two t c =
+infix-part-add-part : (t : ℕ) → infix-part-lts.Need-add-part (infix-part-calls t) (infix-part-at t) infix-part.Post
+infix-part-add-part t c =
     let c5 = c .before .before .before .before .before in
     let c13 = c5 .before .before .before .before .before .before .before .before in
     omega (arith, c5 .if1 .taken, c13 .fits)
 
-infix-part-two-requires : (t : ℕ) → infix-part-lts.Need-two-requires (infix-part-calls t) (infix-part-at t) infix-part.Post
-infix-part-two-requires t c κs =
-    let c6 = c .before .before .before .before .before .before in
-    let c7 = c6 .before in
-    let c11 = c7 .before .before .before .before in
+infix-part-part-requires-2 : (t : ℕ) → infix-part-lts.Need-part-requires-2 (infix-part-calls t) (infix-part-at t) infix-part.Post
+infix-part-part-requires-2 t c κs =
+    let c8 = c .before .before .before .before .before .before .before .before in
+    let c11 = c8 .before .before .before in
     let c19 = c11 .before .before .before .before .before .before .before .before in
-    omega (arith, c6 .if3, c7 .if2, c11 .if1, c19 .pre)
+    let m = skip-inside (c19 .args .tree .now) (c19 .args .at + 1) (c19 .args .end) (omega (arith, c11 .if1 .taken)) (c8 .skip .ensures) in
+    omega (arith, m, c11 .if1, c19 .pre)
+
+infix-part-part-requires-3 : (t : ℕ) → infix-part-lts.Need-part-requires-3 (infix-part-calls t) (infix-part-at t) infix-part.Post
+infix-part-part-requires-3 t c κs =
+    let c25 = c .before .before .before .before .before .before .before .before .before .before .before .before .before .before .before .before .before .before .before .before .before .before .before .before .before in
+    let c28 = c25 .before .before .before in
+    let c36 = c28 .before .before .before .before .before .before .before .before in
+    let m = skip-inside (c36 .args .tree .now) (c36 .args .at + 1) (c36 .args .end) (omega (arith, c28 .if1 .taken)) (c25 .skip .ensures) in
+    omega (arith, m, c28 .if1, c36 .pre)
 
 infix-part-add-target-2 : (t : ℕ) → infix-part-lts.Need-add-target-2 (infix-part-calls t) (infix-part-at t) infix-part.Post
 infix-part-add-target-2 t c =
-    let c29 = c .before .before .before .before .before .before .before .before .before .before .before .before .before .before .before .before .before .before .before .before .before .before .before .before .before .before .before .before .before in
-    let c37 = c29 .before .before .before .before .before .before .before .before in
-    omega (arith, c29 .if1 .taken, c37 .fits)
+    let c46 = c .before .before .before .before .before .before .before .before .before .before .before .before .before .before .before .before .before .before .before .before .before .before .before .before .before .before .before .before .before .before .before .before .before .before .before .before .before .before .before .before .before .before .before .before .before .before in
+    let c54 = c46 .before .before .before .before .before .before .before .before in
+    omega (arith, c46 .if1 .taken, c54 .fits)
 
 infix-part-target-requires-2 : (t : ℕ) → infix-part-lts.Need-target-requires-2 (infix-part-calls t) (infix-part-at t) infix-part.Post
 infix-part-target-requires-2 t c κs =
-    let c32 = c .before .before .before .before .before .before .before .before .before .before .before .before .before .before .before .before .before .before .before .before .before .before .before .before .before .before .before .before .before .before .before .before in
-    let c35 = c32 .before .before .before in
-    let c43 = c35 .before .before .before .before .before .before .before .before in
-    let m = skip-inside (c43 .args .tree .now) (c43 .args .at + 1) (c43 .args .end) (omega (arith, c35 .if1 .taken)) (c32 .skip .ensures) in
-    omega (arith, m, c35 .if1, c43 .pre)
+    let c49 = c .before .before .before .before .before .before .before .before .before .before .before .before .before .before .before .before .before .before .before .before .before .before .before .before .before .before .before .before .before .before .before .before .before .before .before .before .before .before .before .before .before .before .before .before .before .before .before .before .before in
+    let c52 = c49 .before .before .before in
+    let c60 = c52 .before .before .before .before .before .before .before .before in
+    let m = skip-inside (c60 .args .tree .now) (c60 .args .at + 1) (c60 .args .end) (omega (arith, c52 .if1 .taken)) (c49 .skip .ensures) in
+    omega (arith, m, c52 .if1, c60 .pre)
 
 infix-part-same-length-7 : (t : ℕ) → infix-part-lts.Need-same-length-7 (infix-part-calls t) (infix-part-at t) infix-part.Post
 infix-part-same-length-7 t c =
     let c10 = c .before .before .before .before .before .before .before .before .before .before in
     let c21 = c10 .before .before .before .before .before .before .before .before .before .before .before in
     let c34 = c21 .before .before .before .before .before .before .before .before .before .before .before .before .before in
-    (c10 .target2 .kept .1 .1 .1 .1 .1 .1 .1 .1 .0) ∙ (c21 .operation .kept .0) ∙ (c34 .two .kept .1 .1 .1 .1 .1 .1 .1 .0)
+    let c51 = c34 .before .before .before .before .before .before .before .before .before .before .before .before .before .before .before .before .before in
+    (c10 .target2 .kept .1 .1 .1 .1 .1 .1 .1 .1 .0) ∙ (c21 .operation .kept .0) ∙ (c34 .part3 .kept .1 .1 .1 .1 .1 .1 .1 .0) ∙
+    (c51 .part2 .kept .1 .1 .1 .1 .1 .1 .1 .0)
 
 infix-part-same-length-8 : (t : ℕ) → infix-part-lts.Need-same-length-8 (infix-part-calls t) (infix-part-at t) infix-part.Post
 infix-part-same-length-8 t c =
     let c10 = c .before .before .before .before .before .before .before .before .before .before in
     let c34 = c10 .before .before .before .before .before .before .before .before .before .before .before .before .before .before .before .before .before .before .before .before .before .before .before .before in
-    (c10 .target2 .kept .1 .1 .1 .1 .1 .1 .1 .1 .1 .0) ∙ (c34 .two .kept .1 .1 .1 .1 .1 .1 .1 .1 .0)
+    let c51 = c34 .before .before .before .before .before .before .before .before .before .before .before .before .before .before .before .before .before in
+    (c10 .target2 .kept .1 .1 .1 .1 .1 .1 .1 .1 .1 .0) ∙ (c34 .part3 .kept .1 .1 .1 .1 .1 .1 .1 .1 .0) ∙ (c51 .part2 .kept .1 .1 .1 .1 .1 .1 .1 .1 .0)
 
 infix-part-same-length-9 : (t : ℕ) → infix-part-lts.Need-same-length-9 (infix-part-calls t) (infix-part-at t) infix-part.Post
 infix-part-same-length-9 t c =
     let c10 = c .before .before .before .before .before .before .before .before .before .before in
     let c34 = c10 .before .before .before .before .before .before .before .before .before .before .before .before .before .before .before .before .before .before .before .before .before .before .before .before in
-    (c10 .target2 .kept .1 .1 .1 .1 .1 .1 .1 .1 .1 .1 .0) ∙ (c34 .two .kept .1 .1 .1 .1 .1 .1 .1 .1 .1 .0)
+    let c51 = c34 .before .before .before .before .before .before .before .before .before .before .before .before .before .before .before .before .before in
+    (c10 .target2 .kept .1 .1 .1 .1 .1 .1 .1 .1 .1 .1 .0) ∙ (c34 .part3 .kept .1 .1 .1 .1 .1 .1 .1 .1 .1 .0) ∙ (c51 .part2 .kept .1 .1 .1 .1 .1 .1 .1 .1 .1 .0)
 
 infix-part-same-length-10 : (t : ℕ) → infix-part-lts.Need-same-length-10 (infix-part-calls t) (infix-part-at t) infix-part.Post
 infix-part-same-length-10 t c =
     let c10 = c .before .before .before .before .before .before .before .before .before .before in
     let c34 = c10 .before .before .before .before .before .before .before .before .before .before .before .before .before .before .before .before .before .before .before .before .before .before .before .before in
-    (c10 .target2 .kept .1 .1 .1 .1 .1 .1 .1 .1 .1 .1 .1 .0) ∙ (c34 .two .kept .1 .1 .1 .1 .1 .1 .1 .1 .1 .1 .0)
+    let c51 = c34 .before .before .before .before .before .before .before .before .before .before .before .before .before .before .before .before .before in
+    (c10 .target2 .kept .1 .1 .1 .1 .1 .1 .1 .1 .1 .1 .1 .0) ∙ (c34 .part3 .kept .1 .1 .1 .1 .1 .1 .1 .1 .1 .1 .0) ∙
+    (c51 .part2 .kept .1 .1 .1 .1 .1 .1 .1 .1 .1 .1 .0)
 
 infix-part-same-length-11 : (t : ℕ) → infix-part-lts.Need-same-length-11 (infix-part-calls t) (infix-part-at t) infix-part.Post
 infix-part-same-length-11 t c =
     let c10 = c .before .before .before .before .before .before .before .before .before .before in
     let c34 = c10 .before .before .before .before .before .before .before .before .before .before .before .before .before .before .before .before .before .before .before .before .before .before .before .before in
-    (c10 .target2 .kept .1 .1 .1 .1 .1 .1 .1 .1 .1 .1 .1 .1 .0) ∙ (c34 .two .kept .1 .1 .1 .1 .1 .1 .1 .1 .1 .1 .1 .0)
+    let c51 = c34 .before .before .before .before .before .before .before .before .before .before .before .before .before .before .before .before .before in
+    (c10 .target2 .kept .1 .1 .1 .1 .1 .1 .1 .1 .1 .1 .1 .1 .0) ∙ (c34 .part3 .kept .1 .1 .1 .1 .1 .1 .1 .1 .1 .1 .1 .0) ∙
+    (c51 .part2 .kept .1 .1 .1 .1 .1 .1 .1 .1 .1 .1 .1 .0)
 
 infix-part-returns-3 : (t : ℕ) → infix-part-lts.Need-returns-3 (infix-part-calls t) (infix-part-at t) infix-part.Post
 infix-part-returns-3 t c =
@@ -1251,91 +1277,106 @@ infix-part-returns-3 t c =
     let c18 = c17 .before in
     let c21 = c18 .before .before .before in
     let c34 = c21 .before .before .before .before .before .before .before .before .before .before .before .before .before in
-    let c41 = c34 .before .before .before .before .before .before .before in
-    let c42 = c41 .before in
-    let c43 = c42 .before in
-    let c44 = c43 .before in
-    let c45 = c44 .before in
-    i.infix-compound (c45 .field .ensures) (c44 .field2 .ensures) (c43 .skip .ensures) (c42 .if2 .left) (c41 .if3 .left) (c34 .two .ensures)
-    (c21 .operation .ensures) (c18 .if4 .taken)
+    let c51 = c34 .before .before .before .before .before .before .before .before .before .before .before .before .before .before .before .before .before in
+    let c58 = c51 .before .before .before .before .before .before .before in
+    let c59 = c58 .before in
+    let c60 = c59 .before in
+    let c61 = c60 .before in
+    let c62 = c61 .before in
+    i.infix-compound (c62 .field .ensures) (c61 .field2 .ensures) (c60 .skip .ensures) (c59 .if2 .left) (c58 .if3 .left) (e.two-meets (c60 .skip .ensures)
+    (c51 .part2 .ensures) (c34 .part3 .ensures)) (c21 .operation .ensures) (c18 .if4 .taken)
     (c17 .if5 .taken)
     (c10 .target2 .ensures)
 
 infix-part-same-length-12 : (t : ℕ) → infix-part-lts.Need-same-length-12 (infix-part-calls t) (infix-part-at t) infix-part.Post
 infix-part-same-length-12 t c =
     let c17 = c .before .before .before .before .before .before .before .before .before .before .before .before .before .before .before .before .before in
-    (c .before .before .before .before .operation .kept .0) ∙ (c17 .two .kept .1 .1 .1 .1 .1 .1 .1 .0)
+    let c34 = c17 .before .before .before .before .before .before .before .before .before .before .before .before .before .before .before .before .before in
+    (c .before .before .before .before .operation .kept .0) ∙ (c17 .part3 .kept .1 .1 .1 .1 .1 .1 .1 .0) ∙ (c34 .part2 .kept .1 .1 .1 .1 .1 .1 .1 .0)
 
 infix-part-same-length-13 : (t : ℕ) → infix-part-lts.Need-same-length-13 (infix-part-calls t) (infix-part-at t) infix-part.Post
 infix-part-same-length-13 t c =
     let c17 = c .before .before .before .before .before .before .before .before .before .before .before .before .before .before .before .before .before in
-    (c17 .two .kept .1 .1 .1 .1 .1 .1 .1 .1 .0)
+    let c34 = c17 .before .before .before .before .before .before .before .before .before .before .before .before .before .before .before .before .before in
+    (c17 .part3 .kept .1 .1 .1 .1 .1 .1 .1 .1 .0) ∙ (c34 .part2 .kept .1 .1 .1 .1 .1 .1 .1 .1 .0)
 
 infix-part-same-length-14 : (t : ℕ) → infix-part-lts.Need-same-length-14 (infix-part-calls t) (infix-part-at t) infix-part.Post
 infix-part-same-length-14 t c =
     let c17 = c .before .before .before .before .before .before .before .before .before .before .before .before .before .before .before .before .before in
-    (c17 .two .kept .1 .1 .1 .1 .1 .1 .1 .1 .1 .0)
+    let c34 = c17 .before .before .before .before .before .before .before .before .before .before .before .before .before .before .before .before .before in
+    (c17 .part3 .kept .1 .1 .1 .1 .1 .1 .1 .1 .1 .0) ∙ (c34 .part2 .kept .1 .1 .1 .1 .1 .1 .1 .1 .1 .0)
 
 infix-part-same-length-15 : (t : ℕ) → infix-part-lts.Need-same-length-15 (infix-part-calls t) (infix-part-at t) infix-part.Post
 infix-part-same-length-15 t c =
     let c17 = c .before .before .before .before .before .before .before .before .before .before .before .before .before .before .before .before .before in
-    (c17 .two .kept .1 .1 .1 .1 .1 .1 .1 .1 .1 .1 .0)
+    let c34 = c17 .before .before .before .before .before .before .before .before .before .before .before .before .before .before .before .before .before in
+    (c17 .part3 .kept .1 .1 .1 .1 .1 .1 .1 .1 .1 .1 .0) ∙ (c34 .part2 .kept .1 .1 .1 .1 .1 .1 .1 .1 .1 .1 .0)
 
 infix-part-same-length-16 : (t : ℕ) → infix-part-lts.Need-same-length-16 (infix-part-calls t) (infix-part-at t) infix-part.Post
 infix-part-same-length-16 t c =
     let c17 = c .before .before .before .before .before .before .before .before .before .before .before .before .before .before .before .before .before in
-    (c17 .two .kept .1 .1 .1 .1 .1 .1 .1 .1 .1 .1 .1 .0)
+    let c34 = c17 .before .before .before .before .before .before .before .before .before .before .before .before .before .before .before .before .before in
+    (c17 .part3 .kept .1 .1 .1 .1 .1 .1 .1 .1 .1 .1 .1 .0) ∙ (c34 .part2 .kept .1 .1 .1 .1 .1 .1 .1 .1 .1 .1 .1 .0)
 
 infix-part-returns-4 : (t : ℕ) → infix-part-lts.Need-returns-4 (infix-part-calls t) (infix-part-at t) infix-part.Post
 infix-part-returns-4 t c =
     let c17 = c .before .before .before .before .before .before .before .before .before .before .before .before .before .before .before .before .before in
-    let c24 = c17 .before .before .before .before .before .before .before in
-    let c25 = c24 .before in
-    let c27 = c25 .before .before in
-    let c28 = c27 .before in
-    i.infix-plain (c28 .field .ensures) (c27 .field2 .ensures) (c25 .if2 .left) (c24 .if3 .left) (c17 .two .ensures)
-    (c .before .before .before .before .operation .ensures) (λ a l. omega (arith, c .if5 .left, l))
+    let c34 = c17 .before .before .before .before .before .before .before .before .before .before .before .before .before .before .before .before .before in
+    let c41 = c34 .before .before .before .before .before .before .before in
+    let c42 = c41 .before in
+    let c43 = c42 .before in
+    let c44 = c43 .before in
+    let c45 = c44 .before in
+    i.infix-plain (c45 .field .ensures) (c44 .field2 .ensures) (c42 .if2 .left) (c41 .if3 .left) (e.two-meets (c43 .skip .ensures) (c34 .part2 .ensures)
+    (c17 .part3 .ensures)) (c .before .before .before .before .operation .ensures) (λ a l. omega (arith, c .if5 .left, l))
 
 infix-part-same-length-17 : (t : ℕ) → infix-part-lts.Need-same-length-17 (infix-part-calls t) (infix-part-at t) infix-part.Post
 infix-part-same-length-17 t c =
     let c16 = c .before .before .before .before .before .before .before .before .before .before .before .before .before .before .before .before in
-    (c .before .before .before .operation .kept .0) ∙ (c16 .two .kept .1 .1 .1 .1 .1 .1 .1 .0)
+    let c33 = c16 .before .before .before .before .before .before .before .before .before .before .before .before .before .before .before .before .before in
+    (c .before .before .before .operation .kept .0) ∙ (c16 .part3 .kept .1 .1 .1 .1 .1 .1 .1 .0) ∙ (c33 .part2 .kept .1 .1 .1 .1 .1 .1 .1 .0)
 
 infix-part-same-length-18 : (t : ℕ) → infix-part-lts.Need-same-length-18 (infix-part-calls t) (infix-part-at t) infix-part.Post
 infix-part-same-length-18 t c =
     let c16 = c .before .before .before .before .before .before .before .before .before .before .before .before .before .before .before .before in
-    (c16 .two .kept .1 .1 .1 .1 .1 .1 .1 .1 .0)
+    let c33 = c16 .before .before .before .before .before .before .before .before .before .before .before .before .before .before .before .before .before in
+    (c16 .part3 .kept .1 .1 .1 .1 .1 .1 .1 .1 .0) ∙ (c33 .part2 .kept .1 .1 .1 .1 .1 .1 .1 .1 .0)
 
 infix-part-same-length-19 : (t : ℕ) → infix-part-lts.Need-same-length-19 (infix-part-calls t) (infix-part-at t) infix-part.Post
 infix-part-same-length-19 t c =
     let c16 = c .before .before .before .before .before .before .before .before .before .before .before .before .before .before .before .before in
-    (c16 .two .kept .1 .1 .1 .1 .1 .1 .1 .1 .1 .0)
+    let c33 = c16 .before .before .before .before .before .before .before .before .before .before .before .before .before .before .before .before .before in
+    (c16 .part3 .kept .1 .1 .1 .1 .1 .1 .1 .1 .1 .0) ∙ (c33 .part2 .kept .1 .1 .1 .1 .1 .1 .1 .1 .1 .0)
 
 infix-part-same-length-20 : (t : ℕ) → infix-part-lts.Need-same-length-20 (infix-part-calls t) (infix-part-at t) infix-part.Post
 infix-part-same-length-20 t c =
     let c16 = c .before .before .before .before .before .before .before .before .before .before .before .before .before .before .before .before in
-    (c16 .two .kept .1 .1 .1 .1 .1 .1 .1 .1 .1 .1 .0)
+    let c33 = c16 .before .before .before .before .before .before .before .before .before .before .before .before .before .before .before .before .before in
+    (c16 .part3 .kept .1 .1 .1 .1 .1 .1 .1 .1 .1 .1 .0) ∙ (c33 .part2 .kept .1 .1 .1 .1 .1 .1 .1 .1 .1 .1 .0)
 
 infix-part-same-length-21 : (t : ℕ) → infix-part-lts.Need-same-length-21 (infix-part-calls t) (infix-part-at t) infix-part.Post
 infix-part-same-length-21 t c =
     let c16 = c .before .before .before .before .before .before .before .before .before .before .before .before .before .before .before .before in
-    (c16 .two .kept .1 .1 .1 .1 .1 .1 .1 .1 .1 .1 .1 .0)
+    let c33 = c16 .before .before .before .before .before .before .before .before .before .before .before .before .before .before .before .before .before in
+    (c16 .part3 .kept .1 .1 .1 .1 .1 .1 .1 .1 .1 .1 .1 .0) ∙ (c33 .part2 .kept .1 .1 .1 .1 .1 .1 .1 .1 .1 .1 .1 .0)
 
 infix-part-returns-5 : (t : ℕ) → infix-part-lts.Need-returns-5 (infix-part-calls t) (infix-part-at t) infix-part.Post
 infix-part-returns-5 t c =
     let c16 = c .before .before .before .before .before .before .before .before .before .before .before .before .before .before .before .before in
-    let c23 = c16 .before .before .before .before .before .before .before in
-    let c24 = c23 .before in
-    let c26 = c24 .before .before in
-    let c27 = c26 .before in
-    i.infix-plain (c27 .field .ensures) (c26 .field2 .ensures) (c24 .if2 .left) (c23 .if3 .left) (c16 .two .ensures)
-    (c .before .before .before .operation .ensures) (λ a l. omega (arith, c .if4 .left, a))
+    let c33 = c16 .before .before .before .before .before .before .before .before .before .before .before .before .before .before .before .before .before in
+    let c40 = c33 .before .before .before .before .before .before .before in
+    let c41 = c40 .before in
+    let c42 = c41 .before in
+    let c43 = c42 .before in
+    let c44 = c43 .before in
+    i.infix-plain (c44 .field .ensures) (c43 .field2 .ensures) (c41 .if2 .left) (c40 .if3 .left) (e.two-meets (c42 .skip .ensures) (c33 .part2 .ensures)
+    (c16 .part3 .ensures)) (c .before .before .before .operation .ensures) (λ a l. omega (arith, c .if4 .left, a))
 
 infix-part-returns-6 : (t : ℕ) → infix-part-lts.Need-returns-6 (infix-part-calls t) (infix-part-at t) infix-part.Post
 infix-part-returns-6 t c = e.kind-past (c .if1 .left)
 
-inner-expression-requires : (t : ℕ) → inner-lts.Need-expression-requires (inner-calls t) (inner-at t) inner.Post
-inner-expression-requires t c κs =
+inner-part-requires : (t : ℕ) → inner-lts.Need-part-requires (inner-calls t) (inner-at t) inner.Post
+inner-part-requires t c κs =
     let c6 = c .before .before .before .before .before .before in
     let c9 = c6 .before .before .before in
     let c17 = c9 .before .before .before .before .before .before .before .before in
@@ -1344,34 +1385,34 @@ inner-expression-requires t c κs =
 inner-same-length : (t : ℕ) → inner-lts.Need-same-length (inner-calls t) (inner-at t) inner.Post
 inner-same-length t c =
     let c15 = c .before .before .before .before .before .before .before .before .before .before .before .before .before .before .before in
-    (c .before .before .emit-opcode-without-position .kept .0) ∙ (c15 .expression .kept .1 .1 .1 .1 .1 .1 .1 .0)
+    (c .before .before .emit-opcode-without-position .kept .0) ∙ (c15 .part .kept .1 .1 .1 .1 .1 .1 .1 .0)
 
 inner-same-length-2 : (t : ℕ) → inner-lts.Need-same-length-2 (inner-calls t) (inner-at t) inner.Post
 inner-same-length-2 t c =
     let c15 = c .before .before .before .before .before .before .before .before .before .before .before .before .before .before .before in
-    (c15 .expression .kept .1 .1 .1 .1 .1 .1 .1 .1 .0)
+    (c15 .part .kept .1 .1 .1 .1 .1 .1 .1 .1 .0)
 
 inner-same-length-3 : (t : ℕ) → inner-lts.Need-same-length-3 (inner-calls t) (inner-at t) inner.Post
 inner-same-length-3 t c =
     let c15 = c .before .before .before .before .before .before .before .before .before .before .before .before .before .before .before in
-    (c15 .expression .kept .1 .1 .1 .1 .1 .1 .1 .1 .1 .0)
+    (c15 .part .kept .1 .1 .1 .1 .1 .1 .1 .1 .1 .0)
 
 inner-same-length-4 : (t : ℕ) → inner-lts.Need-same-length-4 (inner-calls t) (inner-at t) inner.Post
 inner-same-length-4 t c =
     let c15 = c .before .before .before .before .before .before .before .before .before .before .before .before .before .before .before in
-    (c15 .expression .kept .1 .1 .1 .1 .1 .1 .1 .1 .1 .1 .0)
+    (c15 .part .kept .1 .1 .1 .1 .1 .1 .1 .1 .1 .1 .0)
 
 inner-same-length-5 : (t : ℕ) → inner-lts.Need-same-length-5 (inner-calls t) (inner-at t) inner.Post
 inner-same-length-5 t c =
     let c15 = c .before .before .before .before .before .before .before .before .before .before .before .before .before .before .before in
-    (c15 .expression .kept .1 .1 .1 .1 .1 .1 .1 .1 .1 .1 .1 .0)
+    (c15 .part .kept .1 .1 .1 .1 .1 .1 .1 .1 .1 .1 .1 .0)
 
 inner-returns : (t : ℕ) → inner-lts.Need-returns (inner-calls t) (inner-at t) inner.Post
 inner-returns t c =
     let c15 = c .before .before .before .before .before .before .before .before .before .before .before .before .before .before .before in
     let c22 = c15 .before .before .before .before .before .before .before in
     let c24 = c22 .before .before in
-    s.inner-expression (c24 .field .ensures) (c22 .if2 .taken) (c15 .expression .ensures) (c .before .before .emit-opcode-without-position .ensures)
+    s.inner-expression (c24 .field .ensures) (c22 .if2 .taken) (c15 .part .ensures) (c .before .before .emit-opcode-without-position .ensures)
 
 inner-variables-requires : (t : ℕ) → inner-lts.Need-variables-requires (inner-calls t) (inner-at t) inner.Post
 inner-variables-requires t c κs =
@@ -1496,6 +1537,57 @@ inner-returns-6 t c =
 
 inner-returns-7 : (t : ℕ) → inner-lts.Need-returns-7 (inner-calls t) (inner-at t) inner.Post
 inner-returns-7 t c = s.inner-past (c .if1 .left)
+
+part-same-length : (t : ℕ) → part-lts.Need-same-length (part-calls t) (part-at t) part.Post
+part-same-length t c = (c .before .before .before .before .leaf .kept .1 .1 .1 .1 .1 .1 .0)
+
+part-same-length-2 : (t : ℕ) → part-lts.Need-same-length-2 (part-calls t) (part-at t) part.Post
+part-same-length-2 t c = (c .before .before .before .before .leaf .kept .1 .1 .1 .1 .1 .1 .1 .0)
+
+part-same-length-3 : (t : ℕ) → part-lts.Need-same-length-3 (part-calls t) (part-at t) part.Post
+part-same-length-3 t c = refl
+
+part-returns : (t : ℕ) → part-lts.Need-returns (part-calls t) (part-at t) part.Post
+part-returns t c =
+    let c9 = c .before .before .before .before .before .before .before .before .before in
+    let c10 = c9 .before in
+    e.part-leaf (c10 .field .ensures) (c9 .if1 .taken) (c .before .before .before .before .leaf .ensures)
+
+part-expression-requires : (t : ℕ) → part-lts.Need-expression-requires (part-calls t) (part-at t) part.Post
+part-expression-requires t c κs =
+    let c6 = c .before .before .before .before .before .before in
+    let c15 = c6 .before .before .before .before .before .before .before .before .before in
+    omega (arith, c6 .if1, c15 .pre)
+
+part-same-length-4 : (t : ℕ) → part-lts.Need-same-length-4 (part-calls t) (part-at t) part.Post
+part-same-length-4 t c =
+    let c10 = c .before .before .before .before .before .before .before .before .before .before in
+    (c10 .expression .kept .1 .1 .1 .1 .1 .1 .1 .0)
+
+part-same-length-5 : (t : ℕ) → part-lts.Need-same-length-5 (part-calls t) (part-at t) part.Post
+part-same-length-5 t c =
+    let c10 = c .before .before .before .before .before .before .before .before .before .before in
+    (c10 .expression .kept .1 .1 .1 .1 .1 .1 .1 .1 .0)
+
+part-same-length-6 : (t : ℕ) → part-lts.Need-same-length-6 (part-calls t) (part-at t) part.Post
+part-same-length-6 t c =
+    let c10 = c .before .before .before .before .before .before .before .before .before .before in
+    (c10 .expression .kept .1 .1 .1 .1 .1 .1 .1 .1 .1 .0)
+
+part-same-length-7 : (t : ℕ) → part-lts.Need-same-length-7 (part-calls t) (part-at t) part.Post
+part-same-length-7 t c =
+    let c10 = c .before .before .before .before .before .before .before .before .before .before in
+    (c10 .expression .kept .1 .1 .1 .1 .1 .1 .1 .1 .1 .1 .0)
+
+part-same-length-8 : (t : ℕ) → part-lts.Need-same-length-8 (part-calls t) (part-at t) part.Post
+part-same-length-8 t c =
+    let c10 = c .before .before .before .before .before .before .before .before .before .before in
+    (c10 .expression .kept .1 .1 .1 .1 .1 .1 .1 .1 .1 .1 .1 .0)
+
+part-returns-2 : (t : ℕ) → part-lts.Need-returns-2 (part-calls t) (part-at t) part.Post
+part-returns-2 t c =
+    let c10 = c .before .before .before .before .before .before .before .before .before .before in
+    c10 .expression .ensures
 
 statement-returns : (t : ℕ) → statement-lts.Need-returns (statement-calls t) (statement-at t) statement′.Post
 statement-returns t c = s.full-meets (rw (c .before .full .ensures) at (c .if1 .taken))
@@ -1724,14 +1816,14 @@ target-returns-5 t c =
 target-returns-6 : (t : ℕ) → target-lts.Need-returns-6 (target-calls t) (target-at t) target.Post
 target-returns-6 t c = i.target-past (c .if2 .left)
 
-two-expression-requires : (t : ℕ) → two-lts.Need-expression-requires (two-calls t) (two-at t) two.Post
-two-expression-requires t c κs =
+two-part-requires : (t : ℕ) → two-lts.Need-part-requires (two-calls t) (two-at t) two.Post
+two-part-requires t c κs =
     let c6 = c .before .before .before .before .before .before in
     let c14 = c6 .before .before .before .before .before .before .before .before in
     let m = skip-within (c14 .args .tree .now) (c14 .args .at) (c14 .args .end) (c6 .skip .ensures) in omega (arith, m, c14 .pre)
 
-two-expression-requires-2 : (t : ℕ) → two-lts.Need-expression-requires-2 (two-calls t) (two-at t) two.Post
-two-expression-requires-2 t c κs =
+two-part-requires-2 : (t : ℕ) → two-lts.Need-part-requires-2 (two-calls t) (two-at t) two.Post
+two-part-requires-2 t c κs =
     let c23 = c .before .before .before .before .before .before .before .before .before .before .before .before .before .before .before .before .before .before .before .before .before .before .before in
     let c31 = c23 .before .before .before .before .before .before .before .before in
     let m = skip-within (c31 .args .tree .now) (c31 .args .at) (c31 .args .end) (c23 .skip .ensures) in omega (arith, m, c31 .pre)
@@ -1740,38 +1832,38 @@ two-same-length : (t : ℕ) → two-lts.Need-same-length (two-calls t) (two-at t
 two-same-length t c =
     let c10 = c .before .before .before .before .before .before .before .before .before .before in
     let c27 = c10 .before .before .before .before .before .before .before .before .before .before .before .before .before .before .before .before .before in
-    omega (arith, c10 .expression2 .kept, c27 .expression .kept)
+    omega (arith, c10 .part2 .kept, c27 .part .kept)
 
 two-same-length-2 : (t : ℕ) → two-lts.Need-same-length-2 (two-calls t) (two-at t) two.Post
 two-same-length-2 t c =
     let c10 = c .before .before .before .before .before .before .before .before .before .before in
     let c27 = c10 .before .before .before .before .before .before .before .before .before .before .before .before .before .before .before .before .before in
-    omega (arith, c10 .expression2 .kept, c27 .expression .kept)
+    omega (arith, c10 .part2 .kept, c27 .part .kept)
 
 two-same-length-3 : (t : ℕ) → two-lts.Need-same-length-3 (two-calls t) (two-at t) two.Post
 two-same-length-3 t c =
     let c10 = c .before .before .before .before .before .before .before .before .before .before in
     let c27 = c10 .before .before .before .before .before .before .before .before .before .before .before .before .before .before .before .before .before in
-    omega (arith, c10 .expression2 .kept, c27 .expression .kept)
+    omega (arith, c10 .part2 .kept, c27 .part .kept)
 
 two-same-length-4 : (t : ℕ) → two-lts.Need-same-length-4 (two-calls t) (two-at t) two.Post
 two-same-length-4 t c =
     let c10 = c .before .before .before .before .before .before .before .before .before .before in
     let c27 = c10 .before .before .before .before .before .before .before .before .before .before .before .before .before .before .before .before .before in
-    omega (arith, c10 .expression2 .kept, c27 .expression .kept)
+    omega (arith, c10 .part2 .kept, c27 .part .kept)
 
 two-same-length-5 : (t : ℕ) → two-lts.Need-same-length-5 (two-calls t) (two-at t) two.Post
 two-same-length-5 t c =
     let c10 = c .before .before .before .before .before .before .before .before .before .before in
     let c27 = c10 .before .before .before .before .before .before .before .before .before .before .before .before .before .before .before .before .before in
-    omega (arith, c10 .expression2 .kept, c27 .expression .kept)
+    omega (arith, c10 .part2 .kept, c27 .part .kept)
 
 two-returns : (t : ℕ) → two-lts.Need-returns (two-calls t) (two-at t) two.Post
 two-returns t c =
     let c10 = c .before .before .before .before .before .before .before .before .before .before in
     let c27 = c10 .before .before .before .before .before .before .before .before .before .before .before .before .before .before .before .before .before in
     let c34 = c27 .before .before .before .before .before .before .before in
-    e.two-meets (c34 .skip .ensures) (c27 .expression .ensures) (c10 .expression2 .ensures)
+    e.two-meets (c34 .skip .ensures) (c27 .part .ensures) (c10 .part2 .ensures)
 
 variable-same-length : (t : ℕ) → variable-lts.Need-same-length (variable-calls t) (variable-at t) variable.Post
 variable-same-length t c =
@@ -1784,8 +1876,8 @@ variable-returns t c =
     let c11 = c7 .before .before .before .before in
     v.variable-bare (c11 .field .ensures) (c7 .define-local .ensures) (c .before .before .before .found .given .1) (c .before .field3 .ensures) (c .if2 .taken)
 
-variable-expression-requires : (t : ℕ) → variable-lts.Need-expression-requires (variable-calls t) (variable-at t) variable.Post
-variable-expression-requires t c κs =
+variable-part-requires : (t : ℕ) → variable-lts.Need-part-requires (variable-calls t) (variable-at t) variable.Post
+variable-part-requires t c κs =
     let c6 = c .before .before .before .before .before .before in
     let c18 = c6 .before .before .before .before .before .before .before .before .before .before .before .before in
     let c26 = c18 .before .before .before .before .before .before .before .before in
@@ -1794,28 +1886,28 @@ variable-expression-requires t c κs =
 variable-same-length-2 : (t : ℕ) → variable-lts.Need-same-length-2 (variable-calls t) (variable-at t) variable.Post
 variable-same-length-2 t c =
     let c16 = c .before .before .before .before .before .before .before .before .before .before .before .before .before .before .before .before in
-    (c .before .before .emit .kept .0) ∙ (c16 .expression .kept .1 .1 .1 .1 .1 .1 .1 .0)
+    (c .before .before .emit .kept .0) ∙ (c16 .part .kept .1 .1 .1 .1 .1 .1 .1 .0)
 
 variable-same-length-3 : (t : ℕ) → variable-lts.Need-same-length-3 (variable-calls t) (variable-at t) variable.Post
 variable-same-length-3 t c =
     let c16 = c .before .before .before .before .before .before .before .before .before .before .before .before .before .before .before .before in
-    (c16 .expression .kept .1 .1 .1 .1 .1 .1 .1 .1 .0)
+    (c16 .part .kept .1 .1 .1 .1 .1 .1 .1 .1 .0)
 
 variable-same-length-4 : (t : ℕ) → variable-lts.Need-same-length-4 (variable-calls t) (variable-at t) variable.Post
 variable-same-length-4 t c =
     let c16 = c .before .before .before .before .before .before .before .before .before .before .before .before .before .before .before .before in
     let c30 = c16 .before .before .before .before .before .before .before .before .before .before .before .before .before .before in
-    (c16 .expression .kept .1 .1 .1 .1 .1 .1 .1 .1 .1 .0) ∙ (c30 .define-local .kept .0)
+    (c16 .part .kept .1 .1 .1 .1 .1 .1 .1 .1 .1 .0) ∙ (c30 .define-local .kept .0)
 
 variable-same-length-5 : (t : ℕ) → variable-lts.Need-same-length-5 (variable-calls t) (variable-at t) variable.Post
 variable-same-length-5 t c =
     let c16 = c .before .before .before .before .before .before .before .before .before .before .before .before .before .before .before .before in
-    (c16 .expression .kept .1 .1 .1 .1 .1 .1 .1 .1 .1 .1 .0)
+    (c16 .part .kept .1 .1 .1 .1 .1 .1 .1 .1 .1 .1 .0)
 
 variable-same-length-6 : (t : ℕ) → variable-lts.Need-same-length-6 (variable-calls t) (variable-at t) variable.Post
 variable-same-length-6 t c =
     let c16 = c .before .before .before .before .before .before .before .before .before .before .before .before .before .before .before .before in
-    (c16 .expression .kept .1 .1 .1 .1 .1 .1 .1 .1 .1 .1 .1 .0)
+    (c16 .part .kept .1 .1 .1 .1 .1 .1 .1 .1 .1 .1 .1 .0)
 
 variable-returns-2 : (t : ℕ) → variable-lts.Need-returns-2 (variable-calls t) (variable-at t) variable.Post
 variable-returns-2 t c =
@@ -1828,7 +1920,7 @@ variable-returns-2 t c =
     let c33 = c30 .before .before .before in
     let c34 = c33 .before in
     v.variable-valued (c34 .field .ensures) (c30 .define-local .ensures) (c26 .found .given .1) (c24 .field3 .ensures) (c33 .field2 .ensures) (c23 .if2 .left)
-    (c16 .expression .ensures)
+    (c16 .part .ensures)
     (c5 .to-instruction .ensures) (c .before .before .emit .ensures)
 
 variable-same-length-7 : (t : ℕ) → variable-lts.Need-same-length-7 (variable-calls t) (variable-at t) variable.Post
@@ -1911,9 +2003,9 @@ variables-same-length-5 t c = omega (arith, c .before .loop .inv)
 variables-returns : (t : ℕ) → variables-lts.Need-returns (variables-calls t) (variables-at t) variables.Post variables-Inv-loop variables-μ-loop
 variables-returns t c = c .before .loop .inv .6 _ (v.list-end (c .loop-test .left))
 
-pub +block+expression+expressions+false-part+for-part+if-part+infix-part+inner+statement+statements+target+two+variable+variables-spec :
+pub +block+expression+expressions+false-part+for-part+if-part+infix-part+inner+part+statement+statements+target+two+variable+variables-spec :
     {M : Type 1} → statement M
-+block+expression+expressions+false-part+for-part+if-part+infix-part+inner+statement+statements+target+two+variable+variables-spec =
++block+expression+expressions+false-part+for-part+if-part+infix-part+inner+part+statement+statements+target+two+variable+variables-spec =
     close
     μ-block
     μ-expression
@@ -1923,6 +2015,7 @@ pub +block+expression+expressions+false-part+for-part+if-part+infix-part+inner+s
     μ-if-part
     μ-infix-part
     μ-inner
+    μ-part
     μ-statement
     μ-statements
     μ-target
@@ -1967,7 +2060,7 @@ pub +block+expression+expressions+false-part+for-part+if-part+infix-part+inner+s
     (expression-same-length-10 t)
     (expression-returns-3 t)
     (λ c. omega arith)
-    (expression-expression-requires t)
+    (expression-part-requires t)
     (λ c κs. tt)
     (expression-same-length-11 t)
     (expression-same-length-12 t)
@@ -1975,8 +2068,6 @@ pub +block+expression+expressions+false-part+for-part+if-part+infix-part+inner+s
     (expression-same-length-14 t)
     (expression-same-length-15 t)
     (expression-returns-4 t)
-    (λ c. omega arith)
-    (λ c κs. tt)
     (λ c. omega arith)
     (expression-expressions-requires t)
     (λ c κs. search needs)
@@ -1989,9 +2080,8 @@ pub +block+expression+expressions+false-part+for-part+if-part+infix-part+inner+s
     (expression-returns-5 t)
     (λ c. omega arith)
     (λ c κs. tt)
-    (λ c κs. tt)
     (λ c. omega arith)
-    (expression-expression-requires-2 t)
+    (expression-part-requires-2 t)
     (expression-expressions-requires-2 t)
     (λ c κs. search needs)
     (λ c κs. tt)
@@ -2032,7 +2122,8 @@ pub +block+expression+expressions+false-part+for-part+if-part+infix-part+inner+s
     expressions-μ-loop
     (expressions-loop-holds t)
     (λ c κs. tt)
-    (expressions-expression-requires t)
+    (expressions-part-requires t)
+    (expressions-add-n t)
     (expressions-loop-less t)
     (expressions-loop-again t)
     (expressions-same-length t)
@@ -2063,7 +2154,7 @@ pub +block+expression+expressions+false-part+for-part+if-part+infix-part+inner+s
     (λ c κs. tt)
     (λ c κs. tt)
     (λ c. omega arith)
-    (for-part-expression-requires t)
+    (for-part-part-requires t)
     (λ c κs. tt)
     (λ c κs. tt)
     (for-part-statements-requires t)
@@ -2083,7 +2174,7 @@ pub +block+expression+expressions+false-part+for-part+if-part+infix-part+inner+s
     (λ c κs. tt)
     (λ c κs. tt)
     (λ c. omega arith)
-    (if-part-expression-requires t)
+    (if-part-part-requires t)
     (λ c κs. tt)
     (λ c κs. tt)
     (if-part-false-part-requires t)
@@ -2110,7 +2201,7 @@ pub +block+expression+expressions+false-part+for-part+if-part+infix-part+inner+s
     (λ c κs. search needs)
     (infix-part-add-skip t)
     (λ c κs. tt)
-    (infix-part-expression-requires t)
+    (infix-part-part-requires t)
     (infix-part-add-target t)
     (infix-part-target-requires t)
     (infix-part-same-length t)
@@ -2122,8 +2213,9 @@ pub +block+expression+expressions+false-part+for-part+if-part+infix-part+inner+s
     (λ c κs. tt)
     (infix-part-same-length-6 t)
     (infix-part-returns-2 t)
-    (infix-part-add-two t)
-    (infix-part-two-requires t)
+    (infix-part-add-part t)
+    (infix-part-part-requires-2 t)
+    (infix-part-part-requires-3 t)
     (λ c κs. tt)
     (infix-part-add-target-2 t)
     (infix-part-target-requires-2 t)
@@ -2152,7 +2244,7 @@ pub +block+expression+expressions+false-part+for-part+if-part+infix-part+inner+s
     (λ c κs. search needs)
     (λ c κs. search needs)
     (λ c. omega arith)
-    (inner-expression-requires t)
+    (inner-part-requires t)
     (λ c κs. tt)
     (inner-same-length t)
     (inner-same-length-2 t)
@@ -2187,6 +2279,22 @@ pub +block+expression+expressions+false-part+for-part+if-part+infix-part+inner+s
     (inner-same-length-20 t)
     (inner-returns-6 t)
     (inner-returns-7 t))
+    (λ t. part-lts.spec (part-calls t)
+    (part-at t)
+    part.Post
+    (λ c κs. search needs)
+    (λ c κs. tt)
+    (part-same-length t)
+    (part-same-length-2 t)
+    (part-same-length-3 t)
+    (part-returns t)
+    (part-expression-requires t)
+    (part-same-length-4 t)
+    (part-same-length-5 t)
+    (part-same-length-6 t)
+    (part-same-length-7 t)
+    (part-same-length-8 t)
+    (part-returns-2 t))
     (λ t. statement-lts.spec (statement-calls t)
     (statement-at t)
     statement′.Post
@@ -2257,8 +2365,8 @@ pub +block+expression+expressions+false-part+for-part+if-part+infix-part+inner+s
     (two-at t)
     two.Post
     (λ c κs. tt)
-    (two-expression-requires t)
-    (two-expression-requires-2 t)
+    (two-part-requires t)
+    (two-part-requires-2 t)
     (two-same-length t)
     (two-same-length-2 t)
     (two-same-length-3 t)
@@ -2277,7 +2385,7 @@ pub +block+expression+expressions+false-part+for-part+if-part+infix-part+inner+s
     (variable-same-length t)
     (variable-returns t)
     (λ c. omega arith)
-    (variable-expression-requires t)
+    (variable-part-requires t)
     (λ c κs. search needs)
     (λ c κs. tt)
     (variable-same-length-2 t)
