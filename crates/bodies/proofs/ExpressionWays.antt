@@ -76,6 +76,33 @@ module _ {tree : List ℕ} {at end start count : ℕ} {locals : List ℕ} where
     counted = count-more tree at end n inside skipped (L .counted);
   }
 
+-- an expression without parts is one record, and the list goes on behind it
+module _ (tree : List ℕ) (at : ℕ) where
+  one : (x : Expression) → ExpressionAt x tree at → kindAt tree at < 37 → sizeE x ≡ 1
+  unfolding ExpressionAt sizeE
+  one (Identifier t) h low = refl
+  one (This t) h low = refl
+  one (Null t) h low = refl
+  one (Integer t) h low = refl
+  one (Float t) h low = refl
+  one (Text t) h low = refl
+  one (Boolean t) h low = refl
+  one (Array t es) h low = absurd (omega (arith, h .0 .head .kind-is))
+  one (Prefix t x) h low = absurd (omega (arith, h .0 .head .kind-is))
+  one (Infix x t y) h low = absurd (omega (arith, h .0 .head .kind-is))
+  one (If x t) h low = absurd (omega (arith, h .0 .kind-is))
+  one (IfElse x t f) h low = absurd (omega (arith, h .0 .kind-is))
+  one (Call t f ps) h low = absurd (omega (arith, h .0 .head .kind-is))
+  one (InstanceGet t x y) h low = absurd (omega (arith, h .0 .head .kind-is))
+  one (IndexGet t x y) h low = absurd (omega (arith, h .0 .head .kind-is))
+
+  behind : (end : ℕ) → at < end → kindAt tree at < 37 → (es : Expressions) → ExpressionsAt es tree at → at + sizeEs es ≡ end
+      → at + 1 ≡ skipC tree at end
+  unfolding ExpressionsAt sizeE
+  behind end inside low ∅ₑ h q = absurd (omega arith)
+  behind end inside low (x ∷ₑ es) h q = ap (λ (i : ℕ). at + i) (sym (one x (h .0) low))
+      ∙ sym (skip-law tree at end (headE x (h .0)) (sizeE-pos x) (omega arith))
+
 module _ {tree : List ℕ} {at end start count : ℕ} {locals : List ℕ} {kind : ℕ} (kind-is : kind ≡ kindAt tree at) where
   -- an expression without parts, by its kind
   pub part-leaf : {s s′ : FunctionState} {c c′ k k′ n b e : List ℕ} → kind < 37 → Leafs tree at start count locals s c k n s′ c′ k′
@@ -105,6 +132,22 @@ module _ {tree : List ℕ} {at end start count : ℕ} {locals : List ℕ} {kind 
       below (Call t f ps) h = absurd (n44 (kind-is ∙ h .0 .head .kind-is))
       below (InstanceGet t x y) h = absurd (n45 (kind-is ∙ h .0 .head .kind-is))
       below (IndexGet t x y) h = absurd (n46 (kind-is ∙ h .0 .head .kind-is))
+
+  pub leaf-more : {s s′ : FunctionState} {c c′ k k′ n b e : List ℕ} {m′ : Machine} {counted total : ℕ} → at < end → kind < 37
+      → Leafs tree at start count locals s c k n s′ c′ k′
+      → MeetsList tree (at + 1) end start count locals (machine s′ c′ k′ n b e) m′ (counted + 1) total
+      → MeetsList tree at end start count locals (machine s c k n b e) m′ counted total
+  leaf-more {s} {s′} {c} {c′} {k} {k′} {n} {b} {e} {counted = counted} inside low L M = record {
+    meets = record {
+      meets = λ es h q. run-more inside (behind tree at end inside (rw (← kind-is) low) es h q) A (M .meets) .meets es h q;
+    };
+    counted = record {
+      counts = λ es h q. count-more tree at end counted inside (behind tree at end inside (rw (← kind-is) low) es h q) (M .counted) .counts es h q;
+    };
+  }
+    where
+      A : MeetsE tree at (at + 1) start count locals (machine s c k n b e) (machine s′ c′ k′ n b e)
+      A = record { meets = λ x hx l. L .leaf x hx (rw (← kind-is) low) .does b e }
 
 -- `infix` and `if_part` by their kind
 module _ {tree : List ℕ} {at end start count : ℕ} {locals : List ℕ} {kind : ℕ} (kind-is : kind ≡ kindAt tree at) {m m′ : Machine} where

@@ -1,5 +1,5 @@
 -- What the members of the cycle promise: of whatever stands at `at` and ends exactly at `end`, they do the definition's step
-use Prim.Native.Nat.{ℕ, _+_}
+use Prim.Native.Nat.{ℕ, _+_, _≤_}
 use mathlib.Core.Path.{_≡_}
 use mathlib.Core.List.{List}
 use Rattle.words.specs.Ast.{Token, Expression, Expressions, Variables, Statement, Statements, Local, Return, For, Break, Rescue, Expr}
@@ -9,7 +9,9 @@ use Rattle.definition.specs.Compiler.{Step, doing, andThen, compileExpression, 
 use Rattle.definition.specs.Compiler.{compileStatement, compileStatements, compileVariables, compileBare, compileValued, compileForStatement}
 use Rattle.definition.specs.Compiler.{compileRescue, compileExpressionStatement}
 use Rattle.tree.specs.At.{Head, Leaf, ExpressionAt, ExpressionsAt, VariablesAt, StatementAt, StatementsAt, kindE, sizeE, sizeEs, sizeVs, sizeS, sizeSs}
-use Rattle.building.specs.Held.{Machine}
+use Rattle.building.specs.declared.function_state.FunctionState.{FunctionState}
+use Rattle.building.specs.Held.{Machine, machine}
+use Rattle.bodies.specs.declared.Run.{Run}
 use Rattle.bodies.specs.Meets.{Does, Counted}
 
 -- `expression` and `part`
@@ -24,6 +26,15 @@ pub record MeetsEs (tree : List ℕ) (at end start count : ℕ) (locals : List �
 pub record MeetsList (tree : List ℕ) (at end start count : ℕ) (locals : List ℕ) (m m′ : Machine) (n r : ℕ) : Type 0 where
   pub meets : MeetsEs tree at end start count locals m m′
   pub counted : Counted tree at end n r
+
+-- `leaf_run`: where it stops is on the way, one further for each that it counted, and whatever finishes the list from there finishes it from here
+pub record Leads (tree : List ℕ) (at end start count : ℕ) (locals names : List ℕ) (n : ℕ) (s : FunctionState) (c k : List ℕ) (r : Run)
+    (s′ : FunctionState) (c′ k′ : List ℕ) : Type 0 where
+  pub on : at ≤ r .at
+  pub even : r .count + at ≡ n + r .at
+  pub leads : (b e : List ℕ) (m′ : Machine) (total : ℕ)
+      → MeetsList tree (r .at) end start count locals (machine s′ c′ k′ names b e) m′ (r .count) total
+      → MeetsList tree at end start count locals (machine s c k names b e) m′ n total
 
 -- `two`: one expression and then another
 pub record MeetsTwo (tree : List ℕ) (at end start count : ℕ) (locals : List ℕ) (m m′ : Machine) : Type 0 where

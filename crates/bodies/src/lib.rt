@@ -1,6 +1,6 @@
 // `backend/compiler.rs`: expressions, statements and function bodies over lent areas. The cycle of compilers has one entry, `body`.
 ghost use mathlib.Core.Path.{_≡_};
-ghost use Prim.Native.Nat.{_<_};
+ghost use Prim.Native.Nat.{_≤_, _<_};
 ghost use Rattle.words.specs.Record.{tokenAt, kindAt, positionAt, valueAt};
 ghost use Rattle.building.specs.Pool.{erring, pushErrorC};
 ghost use Rattle.words.specs.Codes.{numberOf};
@@ -13,6 +13,7 @@ ghost use Rattle.bodies.specs.Meets.{operationOf, Operates};
 ghost use Rattle.bodies.specs.Looping.{LoopStart, LoopHead, LoopName, LoopEnd, foundOrZero};
 ghost use Rattle.bodies.specs.Cells.{stateOf};
 ghost use Rattle.building.specs.Held.{machine};
+ghost use Rattle.bodies.specs.Members.{Leads};
 ghost use Rattle.bodies.specs.Members.{MeetsE, MeetsTwo, MeetsList, MeetsKind, MeetsTarget, MeetsFalse};
 ghost use Rattle.bodies.specs.Members.{MeetsBlock, MeetsSs, MeetsS, MeetsInner, MeetsVariables, MeetsVariable, MeetsFor};
 
@@ -464,6 +465,44 @@ fn loop_end(
     cells::exit_scope(names, cells, around.scope_base);
 }
 
+// How far a run of expressions goes, and how many they are by then.
+struct Run {
+    at: usize,
+    count: u64,
+}
+
+// Expressions without parts one after the other, up to the first that has some, n counted before them: long arrays are made of these.
+fn leaf_run(
+    tree: &[u64],
+    at: usize,
+    end: usize,
+    n: u64,
+    cells: &mut [u64; 15],
+    start: usize,
+    count: usize,
+    locals: &[u64],
+    code: &mut [u64],
+    constants: &mut [u64],
+    names: &[u64],
+) -> Run
+    requires { ⌜ n ≤ at ⌝ }
+    ensures { λ r. ⌜ Leads (now (tree .entry)) at end start count (now (locals .entry)) (now (names .entry)) n (stateOf (now (cells .entry)))
+        (now (code .entry)) (now (constants .entry)) r (stateOf (now (cells .exit))) (now (code .exit)) (now (constants .exit)) ⌝ }
+{
+    let mut i = at;
+    let mut m = n;
+    while i < end {
+        let kind = field(tree, i, record::KIND);
+        if record::ARRAY <= kind {
+            return Run { at: i, count: m };
+        }
+        leaf(tree, i, cells, start, count, locals, code, constants, names);
+        i += 1;
+        m += 1;
+    }
+    Run { at: i, count: m }
+}
+
 // `compile_expression`. Each member of the cycle compiles what stands at `at` and ends exactly at `end`.
 fn expression(
     tree: &[u64],
@@ -768,10 +807,28 @@ fn expressions(
     let mut i = at;
     let mut n: u64 = 0;
     while i < end {
-        let next = skip(tree, i, end);
-        part(
+        let run = leaf_run(
             tree,
             i,
+            end,
+            n,
+            cells,
+            start,
+            count,
+            locals,
+            code,
+            constants,
+            names,
+        );
+        let from = run.at;
+        let before = run.count;
+        if end <= from {
+            return before;
+        }
+        let next = skip(tree, from, end);
+        part(
+            tree,
+            from,
             next,
             cells,
             start,
@@ -784,7 +841,7 @@ fn expressions(
             errors,
         );
         i = next;
-        n += 1;
+        n = before + 1;
     }
     n
 }

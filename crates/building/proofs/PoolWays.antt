@@ -26,6 +26,14 @@ module _ (kind value i : ℕ) (w : List ℕ) {there : ℕ} (read : there ≡ ent
   pub kinds-agree : kind ≡ there → {number : ℕ} → number ≡ entryField 3 i 1 w → eqb value number ≡ isConstant (constantOf kind value) w i
   kinds-agree h n = rw (eq-eqb kind (entryField 3 i 0 w) (h ∙ read), n)
 
+-- `find_within`, which compares the values first
+pub values-differ : (kind value i : ℕ) (w : List ℕ) → (entryField 3 i 1 w ≡ value → ⊥) → isConstant (constantOf kind value) w i ≡ false
+values-differ kind value i w h = rw (ne-eqb value (entryField 3 i 1 w) (λ q. h (sym q))) (go (eqb kind (entryField 3 i 0 w)))
+  where
+    go : (b : Bool) → cond b false false ≡ false
+    go true = refl
+    go false = refl
+
 -- `add_constant_no_check`
 pub no-check-way : (kind value : ℕ) (s : FunctionState) (k : List ℕ) {t : Taken} {after : List ℕ}
     → Took constantsArea (s .full) (s .constants) (kind ∷ value ∷ 0 ∷ []) k t after

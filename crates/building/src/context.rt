@@ -1,5 +1,7 @@
 // `backend/compiler.rs`: context locals, and the functions' records.
 ghost use mathlib.Core.Path.{_≡_};
+ghost use Prim.Native.Nat.{_*_, _≤_};
+ghost use lib.ListN.{length};
 ghost use Rattle.words.specs.Areas.{functionsArea};
 ghost use Rattle.definition.specs.Program.{bit};
 ghost use Rattle.building.specs.Found.{foundOf, findContextLocalC};
@@ -26,10 +28,29 @@ pub struct ContextLocal {
     pub count: usize,
 }
 
-// The first of this book's context locals, from `start` on, with a name: `locals.get`.
+// The same search where the area holds every entry: then no read is tested, and a turn is one compare of a word and one of the counter.
+fn find_within(locals: &[u64], start: usize, end: usize, name: u64) -> Found
+    requires { ⌜ end * 4 ≤ length (now locals) ⌝ }
+    ensures { λ r. ⌜ r ≡ foundOf (findContextLocalC start end name (now (locals .entry))) ⌝ }
+{
+    let mut i = start;
+    while i < end {
+        if locals[i * areas::CONTEXT_LOCAL_WORDS + NAME] == name {
+            return Found::At(i as u64);
+        }
+        i += 1;
+    }
+    Found::Nothing
+}
+
+// The first of this book's context locals, from `start` on, with a name: `locals.get`. A count beyond the area goes the slow way, where a word
+// outside reads as 0.
 pub fn find_context_local(locals: &[u64], start: usize, count: usize, name: u64) -> Found
     ensures { λ r. ⌜ r ≡ foundOf (findContextLocalC start count name (now (locals .entry))) ⌝ }
 {
+    if count <= locals.len() / areas::CONTEXT_LOCAL_WORDS {
+        return find_within(locals, start, count, name);
+    }
     let mut i = start;
     while i < count {
         if areas::entry_word(locals, areas::CONTEXT_LOCAL_WORDS, i, NAME) == name {

@@ -1,5 +1,7 @@
 // `backend/compiler.rs`: the constants' pool with its global marks, and the errors.
 ghost use mathlib.Core.Path.{_≡_};
+ghost use Prim.Native.Nat.{_*_, _≤_};
+ghost use lib.ListN.{length};
 ghost use Rattle.words.specs.Object.{constantOf, isShared};
 ghost use Rattle.building.specs.Found.{foundOf, isConstant, findConstantC};
 ghost use Rattle.building.specs.Pool.{pooling, addNoCheckC, addConstantC, markGlobalC, erring, pushErrorC};
@@ -48,10 +50,32 @@ fn same_constant(constants: &[u64], i: usize, kind: u64, value: u64) -> bool
     value == value_there
 }
 
-// The first of the constants in use that is the same.
+// The same search where the area holds every entry: then no read is tested. Values differ more often than kinds, so they are compared first.
+fn find_within(constants: &[u64], end: usize, kind: u64, value: u64) -> Found
+    requires { ⌜ end * 3 ≤ length (now constants) ⌝ }
+    ensures { λ r. ⌜ r ≡ foundOf (findConstantC end (constantOf kind value) (now (constants .entry))) ⌝ }
+{
+    let mut i: usize = 0;
+    while i < end {
+        if constants[i * areas::CONSTANT_WORDS + VALUE] != value {
+            i += 1;
+            continue;
+        }
+        if constants[i * areas::CONSTANT_WORDS + KIND] == kind {
+            return Found::At(i as u64);
+        }
+        i += 1;
+    }
+    Found::Nothing
+}
+
+// The first of the constants in use that is the same. A count beyond the area goes the slow way, where a word outside reads as 0.
 fn find_constant(constants: &[u64], count: usize, kind: u64, value: u64) -> Found
     ensures { λ r. ⌜ r ≡ foundOf (findConstantC count (constantOf kind value) (now (constants .entry))) ⌝ }
 {
+    if count <= constants.len() / areas::CONSTANT_WORDS {
+        return find_within(constants, count, kind, value);
+    }
     let mut i: usize = 0;
     while i < count {
         if same_constant(constants, i, kind, value) {

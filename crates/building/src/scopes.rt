@@ -1,11 +1,17 @@
 // `backend/function_state.rs`: scopes and locals, flat in area 9.
 ghost use mathlib.Core.Path.{_≡_};
-ghost use Prim.Native.Nat.{_-_};
+ghost use Prim.Native.Nat.{_-_, _*_, _≤_};
+ghost use lib.ListN.{length};
 ghost use Rattle.building.specs.Found.{foundOf, findNewest};
 ghost use Rattle.building.specs.Scopes.{naming, findLocalC, enterScopeC, exitScopeC, endFunctionC, defineAnonymousC, insertC, Defines};
 use crate::function_state::FunctionState;
 use crate::taking;
 use words::areas;
+
+// The words of a name's entry.
+const NAME: usize = 0;
+
+const LOCAL: usize = 1;
 
 // What a search finds.
 pub enum Found {
@@ -19,16 +25,35 @@ pub struct Defined {
     pub state: FunctionState,
 }
 
-// The local of a name among the entries from `from` up to the count, the newest first.
+// The search of `find_newest` where the area holds every entry: then no read is tested.
+fn find_within(names: &[u64], from: usize, end: usize, name: u64) -> Found
+    requires { ⌜ end * 2 ≤ length (now names) ⌝ }
+    ensures { λ r. ⌜ r ≡ foundOf (findNewest (end - from) from name (now (names .entry))) ⌝ }
+{
+    let mut i = end;
+    while from < i {
+        i -= 1;
+        if names[i * areas::SCOPE_NAME_WORDS + NAME] == name {
+            return Found::At(names[i * areas::SCOPE_NAME_WORDS + LOCAL]);
+        }
+    }
+    Found::Nothing
+}
+
+// The local of a name among the entries from `from` up to the count, the newest first. A count beyond the area goes the slow way, where a word
+// outside reads as 0.
 fn find_newest(names: &[u64], from: usize, count: usize, name: u64) -> Found
     ensures { λ r. ⌜ r ≡ foundOf (findNewest (count - from) from name (now (names .entry))) ⌝ }
 {
+    if count <= names.len() / areas::SCOPE_NAME_WORDS {
+        return find_within(names, from, count, name);
+    }
     let mut i = count;
     while from < i {
         i -= 1;
-        let other = areas::entry_word(names, areas::SCOPE_NAME_WORDS, i, 0);
+        let other = areas::entry_word(names, areas::SCOPE_NAME_WORDS, i, NAME);
         if other == name {
-            let local = areas::entry_word(names, areas::SCOPE_NAME_WORDS, i, 1);
+            let local = areas::entry_word(names, areas::SCOPE_NAME_WORDS, i, LOCAL);
             return Found::At(local);
         }
     }

@@ -82,6 +82,7 @@ use Rattle.bodies.proofs.cells.scope_base.Reads as scope-base-reads
 use Rattle.bodies.proofs.cells.with_depth.Reads as with-depth-reads
 use Rattle.bodies.proofs.fault_in.Reads as fault-in-reads
 use Rattle.bodies.proofs.leaf.Reads as leaf-reads
+use Rattle.bodies.proofs.leaf_run.Reads as leaf-run-reads
 use Rattle.bodies.proofs.loop_end.Reads as loop-end-reads
 use Rattle.bodies.proofs.loop_head.Reads as loop-head-reads
 use Rattle.bodies.proofs.loop_name.Reads as loop-name-reads
@@ -308,7 +309,7 @@ expression-calls t = (
 )
 
 abbrev expressions-calls : ℕ → expressions-lts.Claims
-expressions-calls t = (skip-reads.Asked, skip-reads.Learnt, part-below t, part.Post)
+expressions-calls t = (leaf-run-reads.Asked, leaf-run-reads.Learnt, skip-reads.Asked, skip-reads.Learnt, part-below t, part.Post)
 
 abbrev false-part-calls : ℕ → false-part-lts.Claims
 false-part-calls t = (block-below t, block.Post, emit-null-reads.Asked, emit-null-reads.Learnt)
@@ -843,68 +844,115 @@ expression-returns-10 t c = e.past-meets (c .if2 .left)
 expressions-loop-holds : (t : ℕ) → expressions-lts.Need-loop-holds (expressions-calls t) (expressions-at t) expressions.Post expressions-Inv-loop expressions-μ-loop
 expressions-loop-holds t c = (omega arith, refl, refl, refl, refl, refl, λ m r h. h)
 
+expressions-leaf-run-requires : (t : ℕ) → expressions-lts.Need-leaf-run-requires (expressions-calls t) (expressions-at t) expressions.Post expressions-Inv-loop expressions-μ-loop
+expressions-leaf-run-requires t c κs =
+    let c5 = c .before .before .before .before .before in
+    omega (arith, c5 .loop .inv .0)
+
+expressions-same-length : (t : ℕ) → expressions-lts.Need-same-length (expressions-calls t) (expressions-at t) expressions.Post expressions-Inv-loop expressions-μ-loop
+expressions-same-length t c =
+    let c5 = c .before .before .before .before .before in
+    let c11 = c5 .before .before .before .before .before .before in
+    omega (arith, c5 .leaf-run .kept, c11 .loop .inv)
+
+expressions-same-length-2 : (t : ℕ) → expressions-lts.Need-same-length-2 (expressions-calls t) (expressions-at t) expressions.Post expressions-Inv-loop expressions-μ-loop
+expressions-same-length-2 t c =
+    let c5 = c .before .before .before .before .before in
+    let c11 = c5 .before .before .before .before .before .before in
+    omega (arith, c5 .leaf-run .kept, c11 .loop .inv)
+
+expressions-same-length-3 : (t : ℕ) → expressions-lts.Need-same-length-3 (expressions-calls t) (expressions-at t) expressions.Post expressions-Inv-loop expressions-μ-loop
+expressions-same-length-3 t c =
+    let c5 = c .before .before .before .before .before in
+    let c11 = c5 .before .before .before .before .before .before in
+    omega (arith, c5 .leaf-run .kept, c11 .loop .inv)
+
+expressions-same-length-4 : (t : ℕ) → expressions-lts.Need-same-length-4 (expressions-calls t) (expressions-at t) expressions.Post expressions-Inv-loop expressions-μ-loop
+expressions-same-length-4 t c =
+    let c5 = c .before .before .before .before .before in
+    let c11 = c5 .before .before .before .before .before .before in
+    omega (arith, c5 .leaf-run .kept, c11 .loop .inv)
+
+expressions-same-length-5 : (t : ℕ) → expressions-lts.Need-same-length-5 (expressions-calls t) (expressions-at t) expressions.Post expressions-Inv-loop expressions-μ-loop
+expressions-same-length-5 t c =
+    let c5 = c .before .before .before .before .before in
+    let c11 = c5 .before .before .before .before .before .before in
+    omega (arith, c5 .leaf-run .kept, c11 .loop .inv)
+
+expressions-returns : (t : ℕ) → expressions-lts.Need-returns (expressions-calls t) (expressions-at t) expressions.Post expressions-Inv-loop expressions-μ-loop
+expressions-returns t c =
+    let c5 = c .before .before .before .before .before in
+    let c11 = c5 .before .before .before .before .before .before in
+    c11 .loop .inv .6 _ _ (c5 .leaf-run .ensures .leads _ _ _ _ (e.list-end (c .if1 .taken)))
+
 expressions-part-requires : (t : ℕ) → expressions-lts.Need-part-requires (expressions-calls t) (expressions-at t) expressions.Post expressions-Inv-loop expressions-μ-loop
 expressions-part-requires t c κs =
     let c6 = c .before .before .before .before .before .before in
     let c7 = c6 .before in
-    let c8 = c7 .before in
-    let c16 = c8 .before .before .before .before .before .before .before .before in
-    let m = skip-more (c16 .args .tree .now) (c8 .loop .i) (c16 .args .end) (c7 .loop-test .taken) (c6 .skip .ensures) in
-    omega (arith, m, c8 .loop .inv .0, c7 .loop-test .taken, c16 .pre)
+    let c12 = c7 .before .before .before .before .before in
+    let c18 = c12 .before .before .before .before .before .before in
+    let c26 = c18 .before .before .before .before .before .before .before .before in
+    let m = skip-more (c26 .args .tree .now) (c12 .leaf-run .result .at) (c26 .args .end) (omega (arith, c7 .if1 .left)) (c6 .skip .ensures) in
+    omega (arith, m, c18 .loop .inv .0, c12 .leaf-run .ensures .on, c7 .if1 .left, c26 .pre)
 
 expressions-add-n : (t : ℕ) → expressions-lts.Need-add-n (expressions-calls t) (expressions-at t) expressions.Post expressions-Inv-loop expressions-μ-loop
 expressions-add-n t c =
     let c18 = c .before .before .before .before .before .before .before .before .before .before .before .before .before .before .before .before .before .before in
-    let c19 = c18 .before in
-    let c27 = c19 .before .before .before .before .before .before .before .before in
-    omega (arith, c19 .loop .inv .0, c18 .loop-test .taken, c27 .fits)
+    let c23 = c18 .before .before .before .before .before in
+    let c29 = c23 .before .before .before .before .before .before in
+    let c37 = c29 .before .before .before .before .before .before .before .before in
+    omega (arith, c29 .loop .inv .0, c23 .leaf-run .ensures .even, c18 .if1 .left, c37 .fits)
 
 expressions-loop-less : (t : ℕ) → expressions-lts.Need-loop-less (expressions-calls t) (expressions-at t) expressions.Post expressions-Inv-loop expressions-μ-loop
 expressions-loop-less t c =
     let c17 = c .before .before .before .before .before .before .before .before .before .before .before .before .before .before .before .before .before in
     let c18 = c17 .before in
-    let c19 = c18 .before in
-    let c27 = c19 .before .before .before .before .before .before .before .before in
-    let m = skip-more (c27 .args .tree .now) (c19 .loop .i) (c27 .args .end) (c18 .loop-test .taken) (c17 .skip .ensures) in omega (
-      arith,
-      m,
-      c18 .loop-test .taken,
-    )
+    let c23 = c18 .before .before .before .before .before in
+    let c28 = c23 .before .before .before .before .before in
+    let c37 = c28 .before .before .before .before .before .before .before .before .before in
+    let m = skip-more (c37 .args .tree .now) (c23 .leaf-run .result .at) (c37 .args .end) (omega (arith, c18 .if1 .left)) (c17 .skip .ensures) in
+    omega (arith, m, c23 .leaf-run .ensures .on, c28 .loop-test .taken)
 
 expressions-loop-again : (t : ℕ) → expressions-lts.Need-loop-again (expressions-calls t) (expressions-at t) expressions.Post expressions-Inv-loop expressions-μ-loop
 expressions-loop-again t c =
     let c10 = c .before .before .before .before .before .before .before .before .before .before in
     let c17 = c10 .before .before .before .before .before .before .before in
     let c18 = c17 .before in
-    let c19 = c18 .before in
-    let c27 = c19 .before .before .before .before .before .before .before .before in
-    let m = skip-more (c27 .args .tree .now) (c19 .loop .i) (c27 .args .end) (c18 .loop-test .taken) (c17 .skip .ensures) in (
-      omega (arith, m, c19 .loop .inv .0),
-      omega (arith, c19 .loop .inv .1, c10 .part .kept),
-      omega (arith, c19 .loop .inv .2, c10 .part .kept),
-      omega (arith, c19 .loop .inv .3, c10 .part .kept),
-      omega (arith, c19 .loop .inv .4, c10 .part .kept),
-      omega (arith, c19 .loop .inv .5, c10 .part .kept),
-      λ m r h. c19 .loop .inv .6 m r (e.list-more (c18 .loop-test .taken) (c17 .skip .ensures) (c10 .part .ensures) h),
+    let c23 = c18 .before .before .before .before .before in
+    let c29 = c23 .before .before .before .before .before .before in
+    let c37 = c29 .before .before .before .before .before .before .before .before in
+    let m = skip-more (c37 .args .tree .now) (c23 .leaf-run .result .at) (c37 .args .end) (omega (arith, c18 .if1 .left)) (c17 .skip .ensures) in (
+      omega (arith, m, c29 .loop .inv .0, c23 .leaf-run .ensures .even),
+      omega (arith, c29 .loop .inv .1, c23 .leaf-run .kept, c10 .part .kept),
+      omega (arith, c29 .loop .inv .2, c23 .leaf-run .kept, c10 .part .kept),
+      omega (arith, c29 .loop .inv .3, c10 .part .kept),
+      omega (
+        arith,
+        c29 .loop .inv .4,
+        c10 .part .kept,
+      ),
+      omega (arith, c29 .loop .inv .5, c10 .part .kept),
+      λ m r h. c29 .loop .inv .6 m r (c23 .leaf-run .ensures .leads _ _ m r (e.list-more (omega (arith, c18 .if1 .left)) (c17 .skip .ensures)
+          (c10 .part .ensures) h)),
     )
 
-expressions-same-length : (t : ℕ) → expressions-lts.Need-same-length (expressions-calls t) (expressions-at t) expressions.Post expressions-Inv-loop expressions-μ-loop
-expressions-same-length t c = omega (arith, c .before .loop .inv)
+expressions-same-length-6 : (t : ℕ) → expressions-lts.Need-same-length-6 (expressions-calls t) (expressions-at t) expressions.Post expressions-Inv-loop expressions-μ-loop
+expressions-same-length-6 t c = omega (arith, c .before .loop .inv)
 
-expressions-same-length-2 : (t : ℕ) → expressions-lts.Need-same-length-2 (expressions-calls t) (expressions-at t) expressions.Post expressions-Inv-loop expressions-μ-loop
-expressions-same-length-2 t c = omega (arith, c .before .loop .inv)
+expressions-same-length-7 : (t : ℕ) → expressions-lts.Need-same-length-7 (expressions-calls t) (expressions-at t) expressions.Post expressions-Inv-loop expressions-μ-loop
+expressions-same-length-7 t c = omega (arith, c .before .loop .inv)
 
-expressions-same-length-3 : (t : ℕ) → expressions-lts.Need-same-length-3 (expressions-calls t) (expressions-at t) expressions.Post expressions-Inv-loop expressions-μ-loop
-expressions-same-length-3 t c = omega (arith, c .before .loop .inv)
+expressions-same-length-8 : (t : ℕ) → expressions-lts.Need-same-length-8 (expressions-calls t) (expressions-at t) expressions.Post expressions-Inv-loop expressions-μ-loop
+expressions-same-length-8 t c = omega (arith, c .before .loop .inv)
 
-expressions-same-length-4 : (t : ℕ) → expressions-lts.Need-same-length-4 (expressions-calls t) (expressions-at t) expressions.Post expressions-Inv-loop expressions-μ-loop
-expressions-same-length-4 t c = omega (arith, c .before .loop .inv)
+expressions-same-length-9 : (t : ℕ) → expressions-lts.Need-same-length-9 (expressions-calls t) (expressions-at t) expressions.Post expressions-Inv-loop expressions-μ-loop
+expressions-same-length-9 t c = omega (arith, c .before .loop .inv)
 
-expressions-same-length-5 : (t : ℕ) → expressions-lts.Need-same-length-5 (expressions-calls t) (expressions-at t) expressions.Post expressions-Inv-loop expressions-μ-loop
-expressions-same-length-5 t c = omega (arith, c .before .loop .inv)
+expressions-same-length-10 : (t : ℕ) → expressions-lts.Need-same-length-10 (expressions-calls t) (expressions-at t) expressions.Post expressions-Inv-loop expressions-μ-loop
+expressions-same-length-10 t c = omega (arith, c .before .loop .inv)
 
-expressions-returns : (t : ℕ) → expressions-lts.Need-returns (expressions-calls t) (expressions-at t) expressions.Post expressions-Inv-loop expressions-μ-loop
-expressions-returns t c = c .before .loop .inv .6 _ _ (e.list-end (c .loop-test .left))
+expressions-returns-2 : (t : ℕ) → expressions-lts.Need-returns-2 (expressions-calls t) (expressions-at t) expressions.Post expressions-Inv-loop expressions-μ-loop
+expressions-returns-2 t c = c .before .loop .inv .6 _ _ (e.list-end (c .loop-test .left))
 
 false-part-block-requires : (t : ℕ) → false-part-lts.Need-block-requires (false-part-calls t) (false-part-at t) false-part.Post
 false-part-block-requires t c κs =
@@ -2121,17 +2169,24 @@ pub +block+expression+expressions+false-part+for-part+if-part+infix-part+inner+p
     expressions-Inv-loop
     expressions-μ-loop
     (expressions-loop-holds t)
-    (λ c κs. tt)
-    (expressions-part-requires t)
-    (expressions-add-n t)
-    (expressions-loop-less t)
-    (expressions-loop-again t)
+    (expressions-leaf-run-requires t)
     (expressions-same-length t)
     (expressions-same-length-2 t)
     (expressions-same-length-3 t)
     (expressions-same-length-4 t)
     (expressions-same-length-5 t)
-    (expressions-returns t))
+    (expressions-returns t)
+    (λ c κs. tt)
+    (expressions-part-requires t)
+    (expressions-add-n t)
+    (expressions-loop-less t)
+    (expressions-loop-again t)
+    (expressions-same-length-6 t)
+    (expressions-same-length-7 t)
+    (expressions-same-length-8 t)
+    (expressions-same-length-9 t)
+    (expressions-same-length-10 t)
+    (expressions-returns-2 t))
     (λ t. false-part-lts.spec (false-part-calls t)
     (false-part-at t)
     false-part.Post

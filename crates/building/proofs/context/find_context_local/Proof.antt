@@ -1,5 +1,5 @@
 -- `building::context::find_context_local` meets its contract. The invariant: what is found from the book's first on is what is found from here on.
--- The measure is what is left of the count. Assumes nothing.
+-- The measure is what is left of the count. Where the area holds them all, `find_within` answers. Assumes nothing.
 -- Made from Proof.answers by `answers make`: edit that file, and not this one.
 use mathlib.Core.Path.{_≡_, refl, sym, _∙_}
 use Prim.Native.Nat.{_-_}
@@ -18,29 +18,32 @@ Inv-loop locals start count name i₀ i = firstFrom (isNamed name locals) (count
 abbrev μ-loop : tie.MeasureT-loop
 μ-loop locals start count name i₀ i = count - i
 
+returns : tie.Need-returns Inv-loop μ-loop
+returns c = c .find-within .ensures
+
 loop-holds : tie.Need-loop-holds Inv-loop μ-loop
 loop-holds c = refl
 
-returns : tie.Need-returns Inv-loop μ-loop
-returns c =
-    let c5 = c .before .before .before .before .before in
-    first-here (isNamed (c5 .args .name) (c5 .args .locals .now)) (c5 .args .count) (c .before .before .before .loop .i) (c5 .args .count - c5 .args .start)
-    (c5 .args .start)
-    (c .before .before .loop-test .taken) (eq-eqb (entryField 4 (c .before .before .before .loop .i) 1 (c5 .args .locals .now)) (c5 .args .name) (sym
-    (c .before .entry-word .ensures) ∙ c .if1 .taken)) (c .before .before .before .loop .inv)
+returns-2 : tie.Need-returns-2 Inv-loop μ-loop
+returns-2 c =
+    let c6 = c .before .before .before .before .before .before in
+    first-here (isNamed (c6 .args .name) (c6 .args .locals .now)) (c6 .args .count) (c .before .before .before .loop .i) (c6 .args .count - c6 .args .start)
+    (c6 .args .start)
+    (c .before .before .loop-test .taken) (eq-eqb (entryField 4 (c .before .before .before .loop .i) 1 (c6 .args .locals .now)) (c6 .args .name) (sym
+    (c .before .entry-word .ensures) ∙ c .if2 .taken)) (c .before .before .before .loop .inv)
 
 loop-again : tie.Need-loop-again Inv-loop μ-loop
 loop-again c =
-    let c5 = c .before .before .before .before .before in
-    first-next (isNamed (c5 .args .name) (c5 .args .locals .now)) (c5 .args .count) (c .before .before .before .loop .i) (c5 .args .count - c5 .args .start)
-    (c5 .args .start)
-    (c .before .before .loop-test .taken) (ne-eqb (entryField 4 (c .before .before .before .loop .i) 1 (c5 .args .locals .now)) (c5 .args .name)
-    (λ q. c .if1 .left (c .before .entry-word .ensures ∙ q))) (c .before .before .before .loop .inv)
+    let c6 = c .before .before .before .before .before .before in
+    first-next (isNamed (c6 .args .name) (c6 .args .locals .now)) (c6 .args .count) (c .before .before .before .loop .i) (c6 .args .count - c6 .args .start)
+    (c6 .args .start)
+    (c .before .before .loop-test .taken) (ne-eqb (entryField 4 (c .before .before .before .loop .i) 1 (c6 .args .locals .now)) (c6 .args .name)
+    (λ q. c .if2 .left (c .before .entry-word .ensures ∙ q))) (c .before .before .before .loop .inv)
 
-returns-2 : tie.Need-returns-2 Inv-loop μ-loop
-returns-2 c = first-end (isNamed (c .before .before .before .args .name) (c .before .before .before .args .locals .now))
-    (c .before .before .before .args .count) (c .before .loop .i) (c .before .before .before .args .count - c .before .before .before .args .start)
-    (c .before .before .before .args .start)
+returns-3 : tie.Need-returns-3 Inv-loop μ-loop
+returns-3 c = first-end (isNamed (c .before .before .before .before .args .name) (c .before .before .before .before .args .locals .now))
+    (c .before .before .before .before .args .count) (c .before .loop .i)
+    (c .before .before .before .before .args .count - c .before .before .before .before .args .start) (c .before .before .before .before .args .start)
     (c .loop-test .left) (c .before .loop .inv)
 
 pub find-context-local-spec : {M : Type 1} → statement M
@@ -49,10 +52,12 @@ find-context-local-spec =
     (tie.spec
     Inv-loop
     μ-loop
+    (λ c κs. omega arith)
+    returns
     loop-holds
     (λ c κs. search needs)
-    returns
+    returns-2
     (λ c. omega arith)
     (λ c. omega arith)
     loop-again
-    returns-2)
+    returns-3)

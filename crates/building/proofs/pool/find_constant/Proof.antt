@@ -1,5 +1,5 @@
 -- `building::pool::find_constant` meets its contract. The invariant: what is found from the first constant on is what is found from here on.
--- The measure is what is left of the count. Assumes nothing.
+-- The measure is what is left of the count. Where the area holds them all, `find_within` answers. Assumes nothing.
 -- Made from Proof.answers by `answers make`: edit that file, and not this one.
 use mathlib.Core.Path.{_≡_, sym, _∙_}
 use Prim.Native.Nat.{_-_}
@@ -17,26 +17,31 @@ Inv-loop constants count kind value i₀ i = firstFrom (isConstant (constantOf k
 abbrev μ-loop : tie.MeasureT-loop
 μ-loop constants count kind value i₀ i = count - i
 
-loop-holds : tie.Need-loop-holds Inv-loop μ-loop
-loop-holds c = first-start (isConstant (constantOf (c .before .args .kind) (c .before .args .value)) (c .before .args .constants .now)) (c .before .args .count)
-
 returns : tie.Need-returns Inv-loop μ-loop
-returns c =
-    let c5 = c .before .before .before .before .before in
-    first-here (isConstant (constantOf (c5 .args .kind) (c5 .args .value)) (c5 .args .constants .now)) (c5 .args .count) (c .before .before .before .loop .i)
-    (c5 .args .count) 0
-    (c .before .before .loop-test .taken) (sym (c .before .same-constant .ensures) ∙ c .if1 .taken) (c .before .before .before .loop .inv)
+returns c = c .find-within .ensures
+
+loop-holds : tie.Need-loop-holds Inv-loop μ-loop
+loop-holds c = first-start (isConstant (constantOf (c .before .before .args .kind) (c .before .before .args .value)) (c .before .before .args .constants .now))
+    (c .before .before .args .count)
+
+returns-2 : tie.Need-returns-2 Inv-loop μ-loop
+returns-2 c =
+    let c6 = c .before .before .before .before .before .before in
+    first-here (isConstant (constantOf (c6 .args .kind) (c6 .args .value)) (c6 .args .constants .now)) (c6 .args .count) (c .before .before .before .loop .i)
+    (c6 .args .count) 0
+    (c .before .before .loop-test .taken) (sym (c .before .same-constant .ensures) ∙ c .if2 .taken) (c .before .before .before .loop .inv)
 
 loop-again : tie.Need-loop-again Inv-loop μ-loop
 loop-again c =
-    let c5 = c .before .before .before .before .before in
-    first-next (isConstant (constantOf (c5 .args .kind) (c5 .args .value)) (c5 .args .constants .now)) (c5 .args .count) (c .before .before .before .loop .i)
-    (c5 .args .count) 0
-    (c .before .before .loop-test .taken) (sym (c .before .same-constant .ensures) ∙ c .if1 .left) (c .before .before .before .loop .inv)
+    let c6 = c .before .before .before .before .before .before in
+    first-next (isConstant (constantOf (c6 .args .kind) (c6 .args .value)) (c6 .args .constants .now)) (c6 .args .count) (c .before .before .before .loop .i)
+    (c6 .args .count) 0
+    (c .before .before .loop-test .taken) (sym (c .before .same-constant .ensures) ∙ c .if2 .left) (c .before .before .before .loop .inv)
 
-returns-2 : tie.Need-returns-2 Inv-loop μ-loop
-returns-2 c = first-end (isConstant (constantOf (c .before .before .before .args .kind) (c .before .before .before .args .value))
-    (c .before .before .before .args .constants .now)) (c .before .before .before .args .count) (c .before .loop .i) (c .before .before .before .args .count) 0
+returns-3 : tie.Need-returns-3 Inv-loop μ-loop
+returns-3 c = first-end (isConstant (constantOf (c .before .before .before .before .args .kind) (c .before .before .before .before .args .value))
+    (c .before .before .before .before .args .constants .now)) (c .before .before .before .before .args .count) (c .before .loop .i)
+    (c .before .before .before .before .args .count) 0
     (c .loop-test .left) (c .before .loop .inv)
 
 pub find-constant-spec : {M : Type 1} → statement M
@@ -45,10 +50,12 @@ find-constant-spec =
     (tie.spec
     Inv-loop
     μ-loop
+    (λ c κs. omega arith)
+    returns
     loop-holds
     (λ c κs. tt)
-    returns
+    returns-2
     (λ c. omega arith)
     (λ c. omega arith)
     loop-again
-    returns-2)
+    returns-3)

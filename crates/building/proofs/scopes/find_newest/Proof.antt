@@ -1,5 +1,5 @@
 -- `building::scopes::find_newest` meets its contract. The invariant: what is left to search answers what was asked. The measure is how much is left.
--- Assumes nothing.
+-- Where the area holds every entry, `find_within` answers. Assumes nothing.
 -- Made from Proof.answers by `answers make`: edit that file, and not this one.
 use mathlib.Core.Path.{_≡_, refl}
 use Prim.Native.Nat.{_-_}
@@ -16,25 +16,28 @@ Inv-loop names from count name i₀ i = findNewest (count - from) from name name
 abbrev μ-loop : tie.MeasureT-loop
 μ-loop names from count name i₀ i = i
 
+returns : tie.Need-returns Inv-loop μ-loop
+returns c = c .find-within .ensures
+
 loop-holds : tie.Need-loop-holds Inv-loop μ-loop
 loop-holds c = refl
 
-returns : tie.Need-returns Inv-loop μ-loop
-returns c =
-    let c6 = c .before .before .before .before .before .before in
-    newest-here _ (c6 .args .from) (c .before .before .before .before .loop .i) (c6 .args .name) (c6 .args .names .now)
+returns-2 : tie.Need-returns-2 Inv-loop μ-loop
+returns-2 c =
+    let c7 = c .before .before .before .before .before .before .before in
+    newest-here _ (c7 .args .from) (c .before .before .before .before .loop .i) (c7 .args .name) (c7 .args .names .now)
     (c .before .before .before .before .loop .inv) _ _
-    (c .before .before .before .loop-test .taken) (c .before .before .entry-word .ensures) (c .before .if1 .taken) (c .entry-word2 .ensures)
+    (c .before .before .before .loop-test .taken) (c .before .before .entry-word .ensures) (c .before .if2 .taken) (c .entry-word2 .ensures)
 
 loop-again : tie.Need-loop-again Inv-loop μ-loop
 loop-again c =
-    let c5 = c .before .before .before .before .before in
-    newest-next _ (c5 .args .from) (c .before .before .before .loop .i) (c5 .args .name) (c5 .args .names .now) (c .before .before .before .loop .inv) _
-    (c .before .before .loop-test .taken) (c .before .entry-word .ensures) (c .if1 .left)
+    let c6 = c .before .before .before .before .before .before in
+    newest-next _ (c6 .args .from) (c .before .before .before .loop .i) (c6 .args .name) (c6 .args .names .now) (c .before .before .before .loop .inv) _
+    (c .before .before .loop-test .taken) (c .before .entry-word .ensures) (c .if2 .left)
 
-returns-2 : tie.Need-returns-2 Inv-loop μ-loop
-returns-2 c = newest-none _ (c .before .before .before .args .from) (c .before .loop .i) (c .before .before .before .args .name)
-    (c .before .before .before .args .names .now) (c .before .loop .inv) (c .loop-test .left)
+returns-3 : tie.Need-returns-3 Inv-loop μ-loop
+returns-3 c = newest-none _ (c .before .before .before .before .args .from) (c .before .loop .i) (c .before .before .before .before .args .name)
+    (c .before .before .before .before .args .names .now) (c .before .loop .inv) (c .loop-test .left)
 
 pub find-newest-spec : {M : Type 1} → statement M
 find-newest-spec =
@@ -42,11 +45,13 @@ find-newest-spec =
     (tie.spec
     Inv-loop
     μ-loop
+    (λ c κs. omega arith)
+    returns
     loop-holds
     (λ c. omega arith)
     (λ c κs. search needs)
     (λ c κs. search needs)
-    returns
+    returns-2
     (λ c. omega arith)
     loop-again
-    returns-2)
+    returns-3)
