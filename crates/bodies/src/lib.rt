@@ -4,7 +4,7 @@ ghost use Prim.Native.Nat.{_≤_, _<_};
 ghost use Rattle.words.specs.Record.{tokenAt, kindAt, positionAt, valueAt};
 ghost use Rattle.building.specs.Pool.{erring, pushErrorC};
 ghost use Rattle.words.specs.Codes.{numberOf};
-ghost use Rattle.words.specs.Object.{constantOf};
+ghost use Rattle.words.specs.Object.{constantOf, floatKind};
 ghost use Rattle.words.specs.Opcode.{PushConstant};
 ghost use Rattle.definition.specs.Compiler.{emitConstant, emitGlobal, emitName, compileAssignName, compilePrefixExpression, compileRescue};
 ghost use Rattle.definition.specs.Compiler.{skip};
@@ -75,6 +75,16 @@ fn constant(
         (emitConstant PushConstant (constantOf kind value) position) ⌝ }
 {
     let index = cells::add_constant(constants, cells, kind, value);
+    let instruction = OpCode::PushConstant.to_instruction(index);
+    cells::emit(code, cells, instruction, position);
+}
+
+// An instruction over a new float.
+fn float(code: &mut [u64], constants: &mut [u64], cells: &mut [u64; 15], value: u64, position: u64)
+    ensures { λ _. ⌜ OnPool (stateOf (now (cells .entry))) (now (code .entry)) (now (constants .entry)) (stateOf (now (cells .exit)))
+        (now (code .exit)) (now (constants .exit)) (emitConstant PushConstant (constantOf floatKind value) position) ⌝ }
+{
+    let index = cells::add_float(constants, cells, value);
     let instruction = OpCode::PushConstant.to_instruction(index);
     cells::emit(code, cells, instruction, position);
 }
@@ -256,7 +266,7 @@ fn leaf(
         return;
     }
     if kind == record::FLOAT {
-        constant(code, constants, cells, FLOAT_KIND, value, position);
+        float(code, constants, cells, value, position);
         return;
     }
     if kind == record::STRING {

@@ -87,7 +87,7 @@ fn find_constant(constants: &[u64], count: usize, kind: u64, value: u64) -> Foun
 }
 
 // `add_constant_no_check`
-fn add_constant_no_check(
+pub fn add_constant_no_check(
     constants: &mut [u64],
     state: FunctionState,
     kind: u64,
