@@ -299,7 +299,11 @@ pub fn run(side: &mut dyn Side, runs: usize, longest: f64) {
     let all = |wanted: fn(&Shape) -> bool| {
         median(ratios.iter().filter(|&&(name, _, _)| wanted(Shape::named(name))).map(|&(_, _, ratio)| ratio).collect())
     };
-    println!("Median of the ratios: {:.2}; of the shapes where nothing is searched: {:.2}", all(|_| true), all(|shape| shape.squared.is_none()));
+    println!(
+        "Median of the ratios: {:.2}; of the shapes where nothing is searched: {:.2}",
+        all(|_| true),
+        all(|shape| shape.squared.is_none())
+    );
     println!();
     plot(&ratios);
     println!();

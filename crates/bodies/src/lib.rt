@@ -71,7 +71,8 @@ fn constant(
     value: u64,
     position: u64,
 )
-    ensures { λ _. ⌜ OnPool (stateOf (now (cells .entry))) (now (code .entry)) (now (constants .entry)) (stateOf (now (cells .exit))) (now (code .exit)) (now (constants .exit))
+    ensures { λ _. ⌜ OnPool (stateOf (now (cells .entry))) (now (code .entry)) (now (constants .entry))
+        (stateOf (now (cells .exit))) (now (code .exit)) (now (constants .exit))
         (emitConstant PushConstant (constantOf kind value) position) ⌝ }
 {
     let index = cells::add_constant(constants, cells, kind, value);
@@ -98,7 +99,8 @@ fn global(
     name: u64,
     position: u64,
 )
-    ensures { λ _. ⌜ OnPool (stateOf (now (cells .entry))) (now (code .entry)) (now (constants .entry)) (stateOf (now (cells .exit))) (now (code .exit)) (now (constants .exit))
+    ensures { λ _. ⌜ OnPool (stateOf (now (cells .entry))) (now (code .entry)) (now (constants .entry))
+        (stateOf (now (cells .exit))) (now (code .exit)) (now (constants .exit))
         (emitGlobal (numberOf opcode) name position) ⌝ }
 {
     let index = cells::add_constant(constants, cells, TEXT_KIND, name);
@@ -147,7 +149,8 @@ fn name(
     text: u64,
     position: u64,
 )
-    ensures { λ _. ⌜ OnNames start count (now (locals .entry)) (stateOf (now (cells .entry))) (now (code .entry)) (now (constants .entry)) (now (names .entry)) (stateOf (now (cells .exit))) (now (code .exit))
+    ensures { λ _. ⌜ OnNames start count (now (locals .entry)) (stateOf (now (cells .entry))) (now (code .entry)) (now (constants .entry)) (now (names .entry))
+        (stateOf (now (cells .exit))) (now (code .exit))
         (now (constants .exit)) (emitName (numberOf local) (numberOf outer) (numberOf other) text position) ⌝ }
 {
     let full = cells::full(cells);
@@ -187,7 +190,8 @@ fn set_name(
     constants: &mut [u64],
     names: &[u64],
 )
-    ensures { λ _. ⌜ OnNames start count (now (locals .entry)) (stateOf (now (cells .entry))) (now (code .entry)) (now (constants .entry)) (now (names .entry)) (stateOf (now (cells .exit))) (now (code .exit))
+    ensures { λ _. ⌜ OnNames start count (now (locals .entry)) (stateOf (now (cells .entry))) (now (code .entry)) (now (constants .entry)) (now (names .entry))
+        (stateOf (now (cells .exit))) (now (code .exit))
         (now (constants .exit)) (compileAssignName (tokenAt (now (tree .entry)) at) (tokenAt (now (tree .entry)) token)) ⌝ }
 {
     let text = field(tree, at, record::VALUE);
@@ -280,7 +284,8 @@ fn leaf(
 
 // What a prefix does when its expression is there.
 fn prefix(tree: &[u64], at: usize, code: &mut [u64], errors: &mut [u64], cells: &mut [u64; 15])
-    ensures { λ _. ⌜ OnFaults (stateOf (now (cells .entry))) (now (code .entry)) (now (errors .entry)) (stateOf (now (cells .exit))) (now (code .exit)) (now (errors .exit))
+    ensures { λ _. ⌜ OnFaults (stateOf (now (cells .entry))) (now (code .entry)) (now (errors .entry))
+        (stateOf (now (cells .exit))) (now (code .exit)) (now (errors .exit))
         (compilePrefixExpression (tokenAt (now (tree .entry)) at) skip) ⌝ }
 {
     let value = field(tree, at, record::VALUE);
@@ -298,7 +303,8 @@ fn prefix(tree: &[u64], at: usize, code: &mut [u64], errors: &mut [u64], cells: 
 
 // A rescue part: only where a statement is not inside another.
 fn rescue(tree: &[u64], at: usize, code: &mut [u64], errors: &mut [u64], cells: &mut [u64; 15])
-    ensures { λ _. ⌜ OnFaults (stateOf (now (cells .entry))) (now (code .entry)) (now (errors .entry)) (stateOf (now (cells .exit))) (now (code .exit)) (now (errors .exit))
+    ensures { λ _. ⌜ OnFaults (stateOf (now (cells .entry))) (now (code .entry)) (now (errors .entry))
+        (stateOf (now (cells .exit))) (now (code .exit)) (now (errors .exit))
         (compileRescue (tokenAt (now (tree .entry)) at)) ⌝ }
 {
     let full = cells::full(cells);
