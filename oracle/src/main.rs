@@ -32,8 +32,9 @@ oracle convert [--seed S] [--count N] [--large] [--limits]
     or over those at the limits
 oracle bench [--runs R]
     the library's converters and shape check beside plain Rust on 1,000,000 records
-oracle speed [--runs R] [--longest SECONDS]
-    the library's compile call beside the original's compile_document and to_program, as a table
+oracle speed [--runs R] [--longest SECONDS] [--small]
+    the library's compile call beside the original's compile_document and to_program, as a table;
+    --small for bundles of hundreds of records
 oracle shapes
     the names of that table's shapes
 oracle once --shape NAME --records N [--original]
@@ -195,7 +196,8 @@ fn run_bench(_: &[String]) -> ExitCode {
 
 fn run_speed(arguments: &[String]) -> ExitCode {
     let (runs, longest) = (number(arguments, "--runs", 15), number(arguments, "--longest", 60));
-    speed::run(&mut *library(), runs as usize, longest as f64);
+    let sizes: &[usize] = if has(arguments, "--small") { &speed::SMALL } else { &speed::SIZES };
+    speed::run(&mut *library(), runs as usize, longest as f64, sizes);
     ExitCode::SUCCESS
 }
 

@@ -255,11 +255,14 @@ pub fn measure(side: &mut dyn Side, words: &[u64], runs: usize) -> Measured {
     }
 }
 
-const SIZES: [usize; 3] = [10_000, 100_000, 1_000_000];
+/// Records of the bundles of a table.
+pub const SIZES: [usize; 3] = [10_000, 100_000, 1_000_000];
+/// Those of a rule book as one writes it.
+pub const SMALL: [usize; 2] = [100, 1_000];
 
 /// A table of every shape at each size; a size that would take longer than `longest` seconds a call
 /// is left out.
-pub fn run(side: &mut dyn Side, runs: usize, longest: f64) {
+pub fn run(side: &mut dyn Side, runs: usize, longest: f64, sizes: &[usize]) {
     println!("Processor time, medians of {runs} runs ({} at 1,000,000 records). Ratios: the library's time by the original's.", least(runs));
     println!();
     println!("| Shape | Records | Library, ns a record | Growth | Ratio | Ratio, areas 4 times as long | Ratio, the original with its solver |");
@@ -267,7 +270,7 @@ pub fn run(side: &mut dyn Side, runs: usize, longest: f64) {
     let mut ratios = Vec::new();
     for shape in &SHAPES {
         let mut before: Option<(usize, f64)> = None;
-        for count in SIZES {
+        for &count in sizes {
             if let Some((size, seconds)) = before {
                 let times = (count / size) as f64;
                 let factor = if shape.squared.is_some() { times * times } else { times };

@@ -1,18 +1,22 @@
--- The state and its fifteen words: what is stored is what is loaded, and which words change where a routine changes two fields. Assumes nothing.
-use Prim.Native.Nat.{ℕ}
+-- The state and its fifteen words: what is stored is what is loaded, and which words change where a routine changes one field or two. Assumes nothing.
+use Prim.Native.Nat.{ℕ, min}
 use mathlib.Core.Path.{_≡_, refl, sym, ap, _∙_}
 use mathlib.Core.Bool.{Bool, true, false, not, cond}
 use mathlib.Core.Option.{Option, none, some}
 use mathlib.Core.List.{List, [], _∷_}
+use lib.ListN.{length}
 use lib.Dec.{eqb}
 use Rattle.building.specs.declared.function_state.FunctionState.{FunctionState}
 use Rattle.building.specs.declared.taking.Taken.{Taken}
-use Rattle.building.specs.State.{withCode, withConstants}
-use Rattle.building.specs.Taking.{taken}
+use Rattle.building.specs.State.{withCode, withConstants, withScope, withDepth}
+use Rattle.building.specs.Taking.{taken, takenOf, givenUp}
 use Rattle.building.specs.Found.{findConstantC}
-use Rattle.building.specs.Emission.{Coded, coded, emitC}
+use Rattle.building.specs.Emission.{Coded, coded, lastOpcodeC, emitC, emitNullC, popC, removePopC, emitReturnC, depthC}
+use Rattle.building.specs.Scopes.{Naming, naming, enterScopeC, exitScopeC}
 use Rattle.building.specs.Pool.{Pooling, pooling, addBy, addNoCheckC, addConstantC}
+use Rattle.words.specs.Areas.{codeArea}
 use Rattle.words.specs.Object.{constantOf, isShared, floatKind}
+use Rattle.words.specs.Opcode.{word, toInstruction, Pop, ReturnOp}
 use borrow.Author.Tests.{eq-eqb, ne-eqb}
 use Rattle.bodies.specs.Cells.{stateOf, wordsOf, flagWord}
 
@@ -58,14 +62,65 @@ pub words-are : (s : FunctionState) {a b : ℕ} → a ≡ flagWord (s .«in_loop
 unfolding wordsOf
 words-are s p q = rw p (rw q refl)
 
--- an instruction more changes the mark and the code's count alone
-pub emit-words : (w p : ℕ) (s : FunctionState) (c : List ℕ) {a : FunctionState} {c′ : List ℕ} (t : FunctionState)
-    → a ≡ withCode (taken (t .full) (t .code)) s → coded t c′ ≡ emitC w p (coded s c)
-    → coded a c′ ≡ emitC w p (coded s c)
-unfolding emitC
-emit-words w p s c t kept q =
+-- a routine that changes the mark and the code's count alone: these two words are enough
+pub kept-code : (m : Coded) (s : FunctionState) {a : FunctionState} {c′ : List ℕ} (t : FunctionState)
+    → m .state ≡ withCode (taken (m .state .full) (m .state .code)) s
+    → a ≡ withCode (taken (t .full) (t .code)) s → coded t c′ ≡ m → coded a c′ ≡ m
+kept-code m s t keeps kept q =
     let is = ap (λ (m : Coded). m .state) q in
-    rw (kept ∙ ap (λ (t : FunctionState). withCode (taken (t .full) (t .code)) s) is ∙ sym is) q
+    rw (kept ∙ ap (λ (t : FunctionState). withCode (taken (t .full) (t .code)) s) is ∙ sym keeps ∙ sym is) q
+
+pub emit-keeps : (w p : ℕ) (m : Coded) → let g = emitC w p m in g .state ≡ withCode (taken (g .state .full) (g .state .code)) (m .state)
+unfolding emitC
+emit-keeps w p m = refl
+
+pub remove-keeps : (m : Coded) → let g = removePopC m in g .state ≡ withCode (taken (g .state .full) (g .state .code)) (m .state)
+unfolding removePopC emitC
+remove-keeps m = go (eqb (m .state .full) 0) (eqb (lastOpcodeC m) Pop) (eqb (lastOpcodeC m) ReturnOp)
+  where
+    go : (free pop return : Bool) → let g = cond free (cond pop (popC m) (cond return m (emitNullC m))) m in
+        g .state ≡ withCode (taken (g .state .full) (g .state .code)) (m .state)
+    go true true return = refl
+    go true false true = refl
+    go true false false = refl
+    go false pop return = refl
+
+pub return-keeps : (p : ℕ) (m : Coded) → let g = emitReturnC p m in g .state ≡ withCode (taken (g .state .full) (g .state .code)) (m .state)
+unfolding emitReturnC emitC
+return-keeps p m = go (eqb (lastOpcodeC (removePopC m)) ReturnOp)
+  where
+    go : (return : Bool) → let g = cond return (removePopC m) (emitC (word (toInstruction ReturnOp 0)) p (removePopC m)) in
+        g .state ≡ withCode (taken (g .state .full) (g .state .code)) (m .state)
+    go true = remove-keeps m
+    go false = ap (λ (s : FunctionState). withCode (takenOf codeArea 2 (removePopC m .state .full) (removePopC m .state .code) (length (removePopC m .code))) s) (remove-keeps m)
+
+-- the same of the names' count and the scope's start, and of the depth
+pub kept-scope : (start : ℕ) (s : FunctionState) (n : List ℕ) {a : FunctionState} {n′ : List ℕ} (t : FunctionState)
+    → a ≡ withScope (t .names) (t .«scope_base») s → naming t n′ ≡ exitScopeC start (naming s n) → naming a n′ ≡ exitScopeC start (naming s n)
+unfolding exitScopeC
+kept-scope start s n t kept q =
+    let is = ap (λ (m : Naming). m .state) q in
+    rw (kept ∙ ap (λ (t : FunctionState). withScope (t .names) (t .«scope_base») s) is ∙ go (eqb (s .full) 0) ∙ sym is) q
+  where
+    go : (free : Bool) → let g = cond free
+        (naming (withScope (min (s .«scope_base») (s .names)) start s) (givenUp 2 (s .«scope_base») (s .names) n)) (naming s n) in
+        withScope (g .state .names) (g .state .«scope_base») s ≡ g .state
+    go true = refl
+    go false = refl
+
+pub entered : (s : FunctionState) → withScope (enterScopeC s .names) (enterScopeC s .«scope_base») s ≡ enterScopeC s
+entered s = go (eqb (s .full) 0)
+  where
+    go : (free : Bool) → let g = cond free (withScope (s .names) (s .names) s) s in withScope (g .names) (g .«scope_base») s ≡ g
+    go true = refl
+    go false = refl
+
+pub depth-kept : (n : ℕ) (s : FunctionState) → withDepth (depthC n s .depth) s ≡ depthC n s
+depth-kept n s = go (eqb (s .full) 0)
+  where
+    go : (free : Bool) → let g = cond free (withDepth n s) s in withDepth (g .depth) s ≡ g
+    go true = refl
+    go false = refl
 
 -- a constant more changes the mark and the constants' count alone
 adds : (shared free : Bool) (o : Option ℕ) (kind value : ℕ) (s : FunctionState) (k : List ℕ)

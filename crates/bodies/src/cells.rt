@@ -10,7 +10,7 @@ ghost use Rattle.building.specs.Scopes.{naming, findLocalC, enterScopeC, exitSc
 ghost use Rattle.building.specs.Pool.{pooling, addConstantC, markGlobalC, erring, pushErrorC};
 ghost use Rattle.words.specs.Object.{floatKind};
 ghost use Rattle.building.specs.Taking.{taken};
-ghost use Rattle.building.specs.State.{withCode, withConstants};
+ghost use Rattle.building.specs.State.{withCode, withConstants, withScope, withDepth};
 ghost use Rattle.bodies.specs.Cells.{stateOf, wordsOf, defined, flagWord};
 use crate::FLOAT_KIND;
 use building::function_state;
@@ -78,7 +78,7 @@ pub(crate) fn store(cells: &mut [u64; 15], state: FunctionState)
     ];
 }
 
-// The words with a new mark and a new count of the code; the others are read again, not carried over a call.
+// The words with some of them new: the others are read again, not carried over a call. Here the mark and the count of the code.
 fn keep_code(cells: &mut [u64; 15], full: u64, code: usize)
     ensures { λ _. ⌜ stateOf (now (cells .exit)) ≡ withCode (taken full code) (stateOf (now (cells .entry))) ⌝ }
 {
@@ -101,7 +101,7 @@ fn keep_code(cells: &mut [u64; 15], full: u64, code: usize)
     ];
 }
 
-// The words with a new mark and a new count of the constants; the others are read again, not carried over a call.
+// The mark and the count of the constants.
 fn keep_constants(cells: &mut [u64; 15], full: u64, constants: usize)
     ensures { λ _. ⌜ stateOf (now (cells .exit)) ≡ withConstants (taken full constants) (stateOf (now (cells .entry))) ⌝ }
 {
@@ -124,6 +124,52 @@ fn keep_constants(cells: &mut [u64; 15], full: u64, constants: usize)
     ];
 }
 
+// The count of the scopes' names, and where the innermost scope's start.
+fn keep_scope(cells: &mut [u64; 15], names: usize, scope_base: usize)
+    ensures { λ _. ⌜ stateOf (now (cells .exit)) ≡ withScope names «scope_base» (stateOf (now (cells .entry))) ⌝ }
+{
+    *cells = [
+        cells[0],
+        cells[1],
+        cells[2],
+        names as u64,
+        cells[4],
+        cells[5],
+        cells[6],
+        scope_base as u64,
+        cells[8],
+        cells[9],
+        cells[10],
+        cells[11],
+        cells[12],
+        cells[13],
+        cells[14],
+    ];
+}
+
+// The depth.
+fn keep_depth(cells: &mut [u64; 15], depth: usize)
+    ensures { λ _. ⌜ stateOf (now (cells .exit)) ≡ withDepth depth (stateOf (now (cells .entry))) ⌝ }
+{
+    *cells = [
+        cells[0],
+        cells[1],
+        cells[2],
+        cells[3],
+        cells[4],
+        cells[5],
+        cells[6],
+        cells[7],
+        cells[8],
+        cells[9],
+        depth as u64,
+        cells[11],
+        cells[12],
+        cells[13],
+        cells[14],
+    ];
+}
+
 pub(crate) fn get_last_position(code: &[u64], cells: &[u64; 15]) -> u64
     ensures { λ r. ⌜ r ≡ lastPositionC (coded (stateOf (now (cells .entry))) (now (code .entry))) ⌝ }
 {
@@ -138,7 +184,6 @@ pub(crate) fn get_next_instruction_index(cells: &[u64; 15]) -> usize
     function_state::get_next_instruction_index(s)
 }
 
-// Of the words only the mark and the count of the code change.
 pub(crate) fn emit(code: &mut [u64], cells: &mut [u64; 15], instruction: Instruction, position: u64)
     ensures { λ _. ⌜ coded (stateOf (now (cells .exit))) (now (code .exit))
         ≡ emitC (codeWord instruction) position (coded (stateOf (now (cells .entry))) (now (code .entry))) ⌝ }
@@ -169,7 +214,7 @@ pub(crate) fn emit_null(code: &mut [u64], cells: &mut [u64; 15])
 {
     let s = load(cells);
     let t = function_state::emit_null(code, s);
-    store(cells, t);
+    keep_code(cells, t.full, t.code);
 }
 
 pub(crate) fn remove_pop_or_push_null(code: &mut [u64], cells: &mut [u64; 15])
@@ -177,7 +222,7 @@ pub(crate) fn remove_pop_or_push_null(code: &mut [u64], cells: &mut [u64; 15])
 {
     let s = load(cells);
     let t = function_state::remove_pop_or_push_null(code, s);
-    store(cells, t);
+    keep_code(cells, t.full, t.code);
 }
 
 pub(crate) fn emit_return(code: &mut [u64], cells: &mut [u64; 15], position: u64)
@@ -186,7 +231,7 @@ pub(crate) fn emit_return(code: &mut [u64], cells: &mut [u64; 15], position: u64
 {
     let s = load(cells);
     let t = function_state::emit_return(code, s, position);
-    store(cells, t);
+    keep_code(cells, t.full, t.code);
 }
 
 pub(crate) fn replace_instruction(
@@ -239,7 +284,7 @@ pub(crate) fn deeper(cells: &mut [u64; 15])
 {
     let s = load(cells);
     let t = function_state::deeper(s);
-    store(cells, t);
+    keep_depth(cells, t.depth);
 }
 
 pub(crate) fn with_depth(cells: &mut [u64; 15], depth: usize)
@@ -247,7 +292,7 @@ pub(crate) fn with_depth(cells: &mut [u64; 15], depth: usize)
 {
     let s = load(cells);
     let t = function_state::with_depth(s, depth);
-    store(cells, t);
+    keep_depth(cells, t.depth);
 }
 
 pub(crate) fn set_rescue(cells: &mut [u64; 15])
@@ -270,7 +315,7 @@ pub(crate) fn enter_scope(cells: &mut [u64; 15])
 {
     let s = load(cells);
     let t = scopes::enter_scope(s);
-    store(cells, t);
+    keep_scope(cells, t.names, t.scope_base);
 }
 
 pub(crate) fn exit_scope(names: &mut [u64], cells: &mut [u64; 15], start: usize)
@@ -279,7 +324,7 @@ pub(crate) fn exit_scope(names: &mut [u64], cells: &mut [u64; 15], start: usize)
 {
     let s = load(cells);
     let t = scopes::exit_scope(names, s, start);
-    store(cells, t);
+    keep_scope(cells, t.names, t.scope_base);
 }
 
 pub(crate) fn define_anonymous_local(cells: &mut [u64; 15])
@@ -302,7 +347,6 @@ pub(crate) fn define_local(names: &mut [u64], cells: &mut [u64; 15], name: u64) 
     found
 }
 
-// Of the words only the mark and the count of the constants change.
 pub(crate) fn add_constant(
     constants: &mut [u64],
     cells: &mut [u64; 15],

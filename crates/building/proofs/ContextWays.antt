@@ -1,21 +1,30 @@
 -- The ways through the routines of `context.rt`: each gives what the definition over memory gives. By the tests on the way. Assumes nothing.
-use Prim.Native.Nat.{ℕ, _≤_, _<_}
+use Prim.Native.Nat.{ℕ, _-_, _≤_, _<_}
 use native.Mathlib.Omega.{arith}
 use mathlib.Core.Path.{_≡_, refl, sym, ap, _∙_}
 use mathlib.Core.Bool.{Bool}
 use mathlib.Core.Option.{Option, none, some}
 use mathlib.Core.List.{List, [], _∷_}
 use borrow.Author.Tests.{eq-eqb, ne-eqb, lt-ltb, le-ltb}
-use Rattle.words.specs.Areas.{writeWord, Patched, contextLocalsArea, functionsArea}
+use Rattle.words.specs.Areas.{entryField, writeWord, Patched, contextLocalsArea, functionsArea}
+use Rattle.words.proofs.Entries.{field-in}
 use Rattle.definition.specs.Program.{bit}
 use Rattle.building.specs.declared.function_state.FunctionState.{FunctionState}
 use Rattle.building.specs.declared.scopes.Found.{Found}
 use Rattle.building.specs.declared.scopes.Found.the-variants.{At, Nothing}
 use Rattle.building.specs.declared.taking.Taken.{Taken}
 use Rattle.building.specs.Taking.{Took, taken}
-use Rattle.building.specs.Found.{foundOf, findContextLocalC}
+use Rattle.building.specs.Found.{foundOf, firstFrom, isNamed, findContextLocalC, Passes}
+use Rattle.building.proofs.Passing.{passed-over}
 use Rattle.building.specs.Emission.{nextC}
 use Rattle.building.specs.Context.{localing, defineContextBy, defineContextC, setValueC, functionWords}
+
+-- `find_within`
+pub names-passed : (name : ℕ) (w : List ℕ) {from end r : ℕ} → Passes w 4 1 name from end r
+    → firstFrom (isNamed name w) (end - r) r ≡ findContextLocalC from end name w
+names-passed name w {from} {end} p =
+    passed-over (isNamed name w) (end - from) from p
+    (λ j ne. ne-eqb (entryField 4 j 1 w) name (λ q. ne (field-in w 4 j 1 (omega arith) (omega arith) ∙ q))) refl
 
 -- `define_context_local`
 module _ (full start count file name : ℕ) (w : List ℕ) where

@@ -1,6 +1,7 @@
 pub mod Filling
 pub mod Room
 pub mod OldestFirst
+pub mod Passing
 pub mod PoolWays
 pub mod PoolLaws
 pub mod ContextWays

@@ -1,5 +1,5 @@
 -- The ways through the routines of `pool.rt`: each gives what the definition over memory gives. By the tests on the way. Assumes nothing.
-use Prim.Native.Nat.{ℕ, _≤_, _<_}
+use Prim.Native.Nat.{ℕ, _-_, _≤_, _<_}
 use mathlib.Core.Path.{_≡_, refl, sym, _∙_}
 use native.Mathlib.Omega.{arith}
 use mathlib.Core.Bool.{Bool, true, false, cond}
@@ -9,13 +9,15 @@ use lib.Dec.{eqb}
 use borrow.Author.Tests.{eq-eqb, ne-eqb, lt-ltb, le-ltb}
 use Rattle.words.specs.Areas.{entryField, Patched, constantsArea, errorsArea}
 use Rattle.words.specs.Object.{constantOf, isShared}
+use Rattle.words.proofs.Entries.{field-in}
 use Rattle.building.specs.declared.function_state.FunctionState.{FunctionState}
 use Rattle.building.specs.declared.scopes.Found.{Found}
 use Rattle.building.specs.declared.scopes.Found.the-variants.{At, Nothing}
 use Rattle.building.specs.declared.taking.Taken.{Taken}
 use Rattle.building.specs.State.{withConstants, withErrors}
 use Rattle.building.specs.Taking.{Took}
-use Rattle.building.specs.Found.{foundOf, isConstant, findConstantC}
+use Rattle.building.specs.Found.{foundOf, firstFrom, isConstant, findConstantC, Passes}
+use Rattle.building.proofs.Passing.{passed-over}
 use Rattle.building.specs.Pool.{Pooling, pooling, addNoCheckC, addBy, addConstantC, markGlobalC, erring, pushErrorC}
 
 -- `same_constant`
@@ -26,13 +28,20 @@ module _ (kind value i : ℕ) (w : List ℕ) {there : ℕ} (read : there ≡ ent
   pub kinds-agree : kind ≡ there → {number : ℕ} → number ≡ entryField 3 i 1 w → eqb value number ≡ isConstant (constantOf kind value) w i
   kinds-agree h n = rw (eq-eqb kind (entryField 3 i 0 w) (h ∙ read), n)
 
--- `find_within`, which compares the values first
-pub values-differ : (kind value i : ℕ) (w : List ℕ) → (entryField 3 i 1 w ≡ value → ⊥) → isConstant (constantOf kind value) w i ≡ false
+-- `find_within`, which searches by the values
+values-differ : (kind value i : ℕ) (w : List ℕ) → (entryField 3 i 1 w ≡ value → ⊥) → isConstant (constantOf kind value) w i ≡ false
 values-differ kind value i w h = rw (ne-eqb value (entryField 3 i 1 w) (λ q. h (sym q))) (go (eqb kind (entryField 3 i 0 w)))
   where
     go : (b : Bool) → cond b false false ≡ false
     go true = refl
     go false = refl
+
+pub values-passed : (kind value : ℕ) (w : List ℕ) (k s : ℕ) {from end r : ℕ} → Passes w 3 1 value from end r
+    → firstFrom (isConstant (constantOf kind value) w) (end - from) from ≡ firstFrom (isConstant (constantOf kind value) w) k s
+    → firstFrom (isConstant (constantOf kind value) w) (end - r) r ≡ firstFrom (isConstant (constantOf kind value) w) k s
+values-passed kind value w k s p e =
+    passed-over (isConstant (constantOf kind value) w) k s p
+    (λ j ne. values-differ kind value j w (λ q. ne (field-in w 3 j 1 (omega arith) (omega arith) ∙ q))) e
 
 -- `add_constant_no_check`
 pub no-check-way : (kind value : ℕ) (s : FunctionState) (k : List ℕ) {t : Taken} {after : List ℕ}

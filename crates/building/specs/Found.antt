@@ -1,10 +1,11 @@
 -- Searches: an answer of the code is `Found`, one of the definitions an option
-use Prim.Native.Nat.{ℕ, zero, suc, _+_, _-_, _%_, _^_}
+use Prim.Native.Nat.{ℕ, zero, suc, _+_, _-_, _%_, _^_, _≤_, _<_}
+use mathlib.Core.Path.{_≡_}
 use mathlib.Core.Bool.{Bool, cond}
 use mathlib.Core.Option.{Option, none, some}
 use mathlib.Core.List.{List}
 use lib.Dec.{eqb}
-use Rattle.words.specs.Areas.{entryField}
+use Rattle.words.specs.Areas.{entryWord, entryField}
 use Rattle.words.specs.Object.{Constant, constantOf, sameConstant}
 use Rattle.building.specs.declared.scopes.Found.{Found}
 use Rattle.building.specs.declared.scopes.Found.the-variants.{At, Nothing}
@@ -43,3 +44,14 @@ isNamed name w i = eqb (entryField 4 i 1 w) name
 -- the first of a book's context locals, from entry `start` up to the count, with a name
 abbrev pub findContextLocalC : ℕ → ℕ → ℕ → List ℕ → Option ℕ
 findContextLocalC start count name w = firstFrom (isNamed name w) (count - start) start
+
+-- `pass`: an entry from a place up to the end, before which none from there on has a value in one of its words
+pub record Passes (w : List ℕ) (width word value from end r : ℕ) : Type 0 where
+  pub on : from ≤ r
+  pub last : r ≤ end
+  pub others : (i : ℕ) → from ≤ i → i < r → entryWord width i word w ≡ value → ⊥
+
+-- `find_word`: the first that has it, else the end
+pub record FindsWord (w : List ℕ) (width word value from end r : ℕ) : Type 0 where
+  pub passes : Passes w width word value from end r
+  pub here : r < end → entryWord width r word w ≡ value

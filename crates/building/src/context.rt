@@ -10,6 +10,7 @@ ghost use Rattle.building.specs.Context.{localing, defineContextC, setVa
 use crate::function_state;
 use crate::function_state::FunctionState;
 use crate::scopes::Found;
+use crate::search;
 use crate::taking;
 use crate::taking::Taken;
 use words::areas;
@@ -28,19 +29,19 @@ pub struct ContextLocal {
     pub count: usize,
 }
 
-// The same search where the area holds every entry: then no read is tested, and a turn is one compare of a word and one of the counter.
+// The same search where the area holds every entry.
 fn find_within(locals: &[u64], start: usize, end: usize, name: u64) -> Found
     requires { ⌜ end * 4 ≤ length (now locals) ⌝ }
     ensures { λ r. ⌜ r ≡ foundOf (findContextLocalC start end name (now (locals .entry))) ⌝ }
 {
-    let mut i = start;
-    while i < end {
-        if locals[i * areas::CONTEXT_LOCAL_WORDS + NAME] == name {
-            return Found::At(i as u64);
-        }
-        i += 1;
+    if end <= start {
+        return Found::Nothing;
     }
-    Found::Nothing
+    let there = search::find_word(locals, areas::CONTEXT_LOCAL_WORDS, NAME, start, end, name);
+    if end <= there {
+        return Found::Nothing;
+    }
+    Found::At(there as u64)
 }
 
 // The first of this book's context locals, from `start` on, with a name: `locals.get`. A count beyond the area goes the slow way, where a word

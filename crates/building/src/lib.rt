@@ -4,4 +4,5 @@ pub mod context;
 pub mod function_state;
 pub mod pool;
 pub mod scopes;
+mod search;
 pub mod taking;

@@ -7,6 +7,7 @@ ghost use Rattle.building.specs.Found.{foundOf, isConstant, findConstant
 ghost use Rattle.building.specs.Pool.{pooling, addNoCheckC, addConstantC, markGlobalC, erring, pushErrorC};
 use crate::function_state::FunctionState;
 use crate::scopes::Found;
+use crate::search;
 use crate::taking;
 use words::areas;
 
@@ -50,21 +51,21 @@ fn same_constant(constants: &[u64], i: usize, kind: u64, value: u64) -> bool
     value == value_there
 }
 
-// The same search where the area holds every entry: then no read is tested. Values differ more often than kinds, so they are compared first.
+// The same search where the area holds every entry. Values differ more often than kinds, so it is by the values.
 fn find_within(constants: &[u64], end: usize, kind: u64, value: u64) -> Found
     requires { ⌜ end * 3 ≤ length (now constants) ⌝ }
     ensures { λ r. ⌜ r ≡ foundOf (findConstantC end (constantOf kind value) (now (constants .entry))) ⌝ }
 {
     let mut i: usize = 0;
     while i < end {
-        if constants[i * areas::CONSTANT_WORDS + VALUE] != value {
-            i += 1;
-            continue;
+        let there = search::find_word(constants, areas::CONSTANT_WORDS, VALUE, i, end, value);
+        if end <= there {
+            return Found::Nothing;
         }
-        if constants[i * areas::CONSTANT_WORDS + KIND] == kind {
-            return Found::At(i as u64);
+        if constants[there * areas::CONSTANT_WORDS + KIND] == kind {
+            return Found::At(there as u64);
         }
-        i += 1;
+        i = there + 1;
     }
     Found::Nothing
 }

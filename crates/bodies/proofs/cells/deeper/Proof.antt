@@ -1,13 +1,21 @@
--- `bodies::cells::deeper` meets its contract: the state is loaded and stored. Assumes nothing.
+-- `bodies::cells::deeper` meets its contract: one word is new. Assumes nothing.
 -- Made from Proof.answers by `answers make`: edit that file, and not this one.
-use Rattle.bodies.proofs.StateWords.{stored}
+use mathlib.Core.Path.{ap, _∙_}
+use Prim.Native.Nat.{_+_, min}
+use Rattle.building.specs.State.{withDepth, mostDepth}
+use Rattle.building.specs.declared.function_state.FunctionState.{FunctionState}
+use Rattle.bodies.specs.Cells.{stateOf}
+use Rattle.bodies.proofs.StateWords.{depth-kept}
 use Rattle.bodies.proofs.cells.deeper.Statement.{statement}
 use Rattle.bodies.proofs.cells.deeper.Tie as tie
 use borrow.Author.Needs.{needs}
 
 returns : tie.Need-returns
-returns c = rw (stored (c .before .before .deeper .result) (c .store .ensures)) (rw (c .before .before .before .load .ensures) at
-    (c .before .before .deeper .ensures))
+returns c =
+    let c5 = c .before .before .before .before .before in
+    let s = stateOf (c5 .args .cells .now) in
+    c .keep-depth .ensures ∙ ap (λ (t : FunctionState). withDepth (t .depth) s) (rw (c .before .before .before .load .ensures) at
+    (c .before .before .deeper .ensures)) ∙ depth-kept (min mostDepth (s .depth + 1)) s
 
 pub deeper-spec : {M : Type 1} → statement M
 deeper-spec =

@@ -1,8 +1,9 @@
 -- `bodies::cells::emit` meets its contract: two words are new. Assumes nothing.
 -- Made from Proof.answers by `answers make`: edit that file, and not this one.
 use Rattle.words.specs.Codes.{codeWord}
+use Rattle.building.specs.Emission.{coded, emitC}
 use Rattle.bodies.specs.Cells.{stateOf}
-use Rattle.bodies.proofs.StateWords.{emit-words}
+use Rattle.bodies.proofs.StateWords.{kept-code, emit-keeps}
 use Rattle.bodies.proofs.cells.emit.Statement.{statement}
 use Rattle.bodies.proofs.cells.emit.Tie as tie
 use borrow.Author.Needs.{needs}
@@ -11,9 +12,11 @@ returns : tie.Need-returns
 returns c =
     let c6 = c .before .before .before .before .before .before in
     let c9 = c6 .before .before .before in
-    emit-words (codeWord (c9 .args .instruction)) (c9 .args .position) (stateOf (c9 .args .cells .now)) (c9 .args .code .now)
+    let m = coded (stateOf (c9 .args .cells .now)) (c9 .args .code .now) in
+    kept-code (emitC (codeWord (c9 .args .instruction)) (c9 .args .position) m) (stateOf (c9 .args .cells .now))
     (c .before .before .before .before .emit .result)
-    (c .keep-code .ensures) (rw (c6 .load .ensures) at (c .before .before .before .before .emit .ensures))
+    (emit-keeps (codeWord (c9 .args .instruction)) (c9 .args .position) m) (c .keep-code .ensures) (rw (c6 .load .ensures) at
+    (c .before .before .before .before .emit .ensures))
 
 pub emit-spec : {M : Type 1} → statement M
 emit-spec =

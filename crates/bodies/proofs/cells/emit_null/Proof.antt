@@ -1,6 +1,10 @@
--- `bodies::cells::emit_null` meets its contract: the state is loaded and stored. Assumes nothing.
+-- `bodies::cells::emit_null` meets its contract: two words are new. Assumes nothing.
 -- Made from Proof.answers by `answers make`: edit that file, and not this one.
-use Rattle.bodies.proofs.StateWords.{stored}
+use Rattle.words.specs.Object.{NULL}
+use Rattle.words.specs.Opcode.{word, toInstruction, PushConstant}
+use Rattle.building.specs.Emission.{coded, lastPositionC, emitNullC}
+use Rattle.bodies.specs.Cells.{stateOf}
+use Rattle.bodies.proofs.StateWords.{kept-code, emit-keeps}
 use Rattle.bodies.proofs.cells.emit_null.Statement.{statement}
 use Rattle.bodies.proofs.cells.emit_null.Tie as tie
 use borrow.Author.Needs.{needs}
@@ -8,7 +12,10 @@ use borrow.Author.Needs.{needs}
 returns : tie.Need-returns
 returns c =
     let c6 = c .before .before .before .before .before .before in
-    rw (stored (c .before .before .before .before .emit-null .result) (c .store .ensures)) (rw (c6 .load .ensures) at
+    let c9 = c6 .before .before .before in
+    let m = coded (stateOf (c9 .args .cells .now)) (c9 .args .code .now) in
+    kept-code (emitNullC m) (stateOf (c9 .args .cells .now)) (c .before .before .before .before .emit-null .result)
+    (emit-keeps (word (toInstruction PushConstant NULL)) (lastPositionC m) m) (c .keep-code .ensures) (rw (c6 .load .ensures) at
     (c .before .before .before .before .emit-null .ensures))
 
 pub emit-null-spec : {M : Type 1} → statement M

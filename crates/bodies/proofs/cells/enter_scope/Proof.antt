@@ -1,13 +1,20 @@
--- `bodies::cells::enter_scope` meets its contract: the state is loaded and stored. Assumes nothing.
+-- `bodies::cells::enter_scope` meets its contract: two words are new. Assumes nothing.
 -- Made from Proof.answers by `answers make`: edit that file, and not this one.
-use Rattle.bodies.proofs.StateWords.{stored}
+use mathlib.Core.Path.{ap, _∙_}
+use Rattle.building.specs.State.{withScope}
+use Rattle.building.specs.declared.function_state.FunctionState.{FunctionState}
+use Rattle.bodies.specs.Cells.{stateOf}
+use Rattle.bodies.proofs.StateWords.{entered}
 use Rattle.bodies.proofs.cells.enter_scope.Statement.{statement}
 use Rattle.bodies.proofs.cells.enter_scope.Tie as tie
 use borrow.Author.Needs.{needs}
 
 returns : tie.Need-returns
-returns c = rw (stored (c .before .before .enter-scope .result) (c .store .ensures)) (rw (c .before .before .before .load .ensures) at
-    (c .before .before .enter-scope .ensures))
+returns c =
+    let c5 = c .before .before .before .before .before in
+    let s = stateOf (c5 .args .cells .now) in
+    c .keep-scope .ensures ∙ ap (λ (t : FunctionState). withScope (t .names) (t .«scope_base») s) (rw (c .before .before .before .load .ensures) at
+    (c .before .before .enter-scope .ensures)) ∙ entered s
 
 pub enter-scope-spec : {M : Type 1} → statement M
 enter-scope-spec =

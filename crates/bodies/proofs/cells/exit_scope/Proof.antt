@@ -1,6 +1,7 @@
--- `bodies::cells::exit_scope` meets its contract: the state is loaded and stored. Assumes nothing.
+-- `bodies::cells::exit_scope` meets its contract: two words are new. Assumes nothing.
 -- Made from Proof.answers by `answers make`: edit that file, and not this one.
-use Rattle.bodies.proofs.StateWords.{stored}
+use Rattle.bodies.specs.Cells.{stateOf}
+use Rattle.bodies.proofs.StateWords.{kept-scope}
 use Rattle.bodies.proofs.cells.exit_scope.Statement.{statement}
 use Rattle.bodies.proofs.cells.exit_scope.Tie as tie
 use borrow.Author.Needs.{needs}
@@ -8,8 +9,9 @@ use borrow.Author.Needs.{needs}
 returns : tie.Need-returns
 returns c =
     let c6 = c .before .before .before .before .before .before in
-    rw (stored (c .before .before .before .before .exit-scope .result) (c .store .ensures)) (rw (c6 .load .ensures) at
-    (c .before .before .before .before .exit-scope .ensures))
+    let c9 = c6 .before .before .before in
+    kept-scope (c9 .args .start) (stateOf (c9 .args .cells .now)) (c9 .args .names .now) (c .before .before .before .before .exit-scope .result)
+    (c .keep-scope .ensures) (rw (c6 .load .ensures) at (c .before .before .before .before .exit-scope .ensures))
 
 pub exit-scope-spec : {M : Type 1} → statement M
 exit-scope-spec =

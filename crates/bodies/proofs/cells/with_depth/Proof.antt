@@ -1,13 +1,20 @@
--- `bodies::cells::with_depth` meets its contract: the state is loaded and stored. Assumes nothing.
+-- `bodies::cells::with_depth` meets its contract: one word is new. Assumes nothing.
 -- Made from Proof.answers by `answers make`: edit that file, and not this one.
-use Rattle.bodies.proofs.StateWords.{stored}
+use mathlib.Core.Path.{ap, _∙_}
+use Rattle.building.specs.State.{withDepth}
+use Rattle.building.specs.declared.function_state.FunctionState.{FunctionState}
+use Rattle.bodies.specs.Cells.{stateOf}
+use Rattle.bodies.proofs.StateWords.{depth-kept}
 use Rattle.bodies.proofs.cells.with_depth.Statement.{statement}
 use Rattle.bodies.proofs.cells.with_depth.Tie as tie
 use borrow.Author.Needs.{needs}
 
 returns : tie.Need-returns
-returns c = rw (stored (c .before .before .with-depth .result) (c .store .ensures)) (rw (c .before .before .before .load .ensures) at
-    (c .before .before .with-depth .ensures))
+returns c =
+    let c5 = c .before .before .before .before .before in
+    let s = stateOf (c5 .args .cells .now) in
+    c .keep-depth .ensures ∙ ap (λ (t : FunctionState). withDepth (t .depth) s) (rw (c .before .before .before .load .ensures) at
+    (c .before .before .with-depth .ensures)) ∙ depth-kept (c5 .args .depth) s
 
 pub with-depth-spec : {M : Type 1} → statement M
 with-depth-spec =
