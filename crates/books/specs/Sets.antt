@@ -1,4 +1,4 @@
--- Sets of file numbers in words: one bit for each number below 2^20, 64 to a word
+-- Sets of file numbers in words: one bit for each number, 64 to a word
 use Prim.Native.Nat.{ℕ, _+_, _/_, _%_, _^_, _≤_, _<_}
 use mathlib.Core.Path.{_≡_}
 use mathlib.Core.Bool.{Bool, true, false, cond, not}
@@ -12,7 +12,7 @@ use Rattle.definition.specs.Book.{hasText}
 abbrev pub setSize : ℕ
 setSize = 1048576
 
--- most file numbers are below this: a set of 64 words has a bit for each
+-- a set of 64 words has a bit for every number below this
 abbrev pub narrowSize : ℕ
 narrowSize = 4096
 

@@ -471,8 +471,8 @@ fn run_in(
     )
 }
 
-// The call from areas of zeros. Its sets of file numbers are as short as the numbers of the bundle let them be: clearing and scanning the long ones takes
-// longer than compiling a small bundle.
+// The call from areas of zeros. Its sets of file numbers are short where the bundle's numbers are small: clearing and scanning long ones takes longer than
+// compiling a small bundle.
 pub(crate) fn run(
     tree: &[u64],
     code: &mut [u64],

@@ -19,7 +19,7 @@ const SET_SIZE: u64 = 1048576;
 
 const SET_WORDS: usize = 16384;
 
-// Most file numbers are below this: sets of 64 words have bits for these.
+// A set of 64 words has a bit for every number below this.
 const NARROW: u64 = 4096;
 
 // A book that waits in area 12 is its file number times this and the place of its document.
