@@ -406,13 +406,12 @@ fn finish(
     Reply::delivered(totals)
 }
 
-// The call from areas of zeros and four empty sets: rows 2 to 6, the work, its end.
+// The call from areas of zeros and three empty sets: rows 2 to 6, the work, its end. The third set, cleared, is that of the books compiled.
 fn run_in(
     tree: &[u64],
     chosen: &mut [u64],
     present: &mut [u64],
     next: &mut [u64],
-    compiled: &mut [u64],
     code: &mut [u64],
     constants: &mut [u64],
     functions: &mut [u64],
@@ -426,7 +425,7 @@ fn run_in(
     errors: &mut [u64],
     books: &mut [u64],
 ) -> Reply
-    requires { ⌜ Fresh (now tree) (now chosen) × (now present ≡ now chosen) × (now next ≡ now chosen) × (now compiled ≡ now chosen) ⌝ }
+    requires { ⌜ Fresh (now tree) (now chosen) × (now present ≡ now chosen) × (now next ≡ now chosen) ⌝ }
     ensures { λ r. ⌜ Runs (now (tree .entry))
         (now (code .entry)) (now (constants .entry)) (now (functions .entry)) (now (models .entry)) (now (properties .entry)) (now (methods .entry))
         (now (locals .entry)) (now (publics .entry)) (now (names .entry)) (now (breaks .entry)) (now (errors .entry)) (now (books .entry))
@@ -437,6 +436,7 @@ fn run_in(
     if row.number != 0 {
         return Reply::refused(row.number, row.place);
     }
+    areas::clear_from(next, 0);
     let ended = work(
         tree,
         chosen,
@@ -452,7 +452,7 @@ fn run_in(
         breaks,
         errors,
         books,
-        compiled,
+        next,
     );
     finish(
         ended,
@@ -499,13 +499,11 @@ pub(crate) fn run(
         let mut chosen = [0; 64];
         let mut present = [0; 64];
         let mut next = [0; 64];
-        let mut compiled = [0; 64];
         return run_in(
             tree,
             &mut chosen,
             &mut present,
             &mut next,
-            &mut compiled,
             code,
             constants,
             functions,
@@ -523,13 +521,11 @@ pub(crate) fn run(
     let mut chosen = [0; 16384];
     let mut present = [0; 16384];
     let mut next = [0; 16384];
-    let mut compiled = [0; 16384];
     run_in(
         tree,
         &mut chosen,
         &mut present,
         &mut next,
-        &mut compiled,
         code,
         constants,
         functions,

@@ -2,7 +2,8 @@
 -- Made from Proof.answers by `answers make`: edit that file, and not this one.
 use Rattle.books.proofs.Ending.{run-row, run-finished}
 use Prim.Native.Nat.{ℕ}
-use lib.ListN.{replicate}
+use native.Mathlib.Nat.{sub-zero}
+use lib.ListN.{length, replicate}
 use mathlib.Core.Path.{sym, ap, _∙_}
 use Rattle.books.proofs.driver.run_in.Statement.{statement}
 use Rattle.books.proofs.driver.run_in.Tie as tie
@@ -10,8 +11,8 @@ use borrow.Author.Needs.{needs}
 
 front-requires : tie.Need-front-requires
 front-requires c κs =
-    let c20 = c .before .before .before .before .before .before .before .before .before .before .before .before .before .before .before .before .before .before .before .before in
-    (c20 .pre .0, c20 .pre .1, c20 .pre .2)
+    let c19 = c .before .before .before .before .before .before .before .before .before .before .before .before .before .before .before .before .before .before .before in
+    c19 .pre
 
 same-length : tie.Need-same-length
 same-length c =
@@ -35,98 +36,97 @@ returns c =
 
 work-requires : tie.Need-work-requires
 work-requires c κs =
-    let c22 = c .before .before .before .before .before .before .before .before .before .before .before .before .before .before .before .before .before .before .before .before .before .before in
-    let c43 = c22 .before .before .before .before .before .before .before .before .before .before .before .before .before .before .before .before .before .before .before .before .before in
-    c43 .pre .3 ∙ c43 .pre .0 .empty ∙ ap (λ (n : ℕ). replicate n 0) (sym (c22 .front .kept .1 .0))
+    let c16 = c .before .before .before .before .before .before .before .before .before .before .before .before .before .before .before .before in
+    let c26 = c16 .before .before .before .before .before .before .before .before .before .before in
+    let c46 = c26 .before .before .before .before .before .before .before .before .before .before .before .before .before .before .before .before .before .before .before .before in
+    c16 .clear-from .ensures ∙ ap (λ (n : ℕ). replicate n 0)
+    (sub-zero _ ∙ c26 .front .kept .1 .1 .1 .0 ∙ ap length (c46 .pre .2) ∙ sym (c26 .front .kept .1 .0))
 
 same-length-4 : tie.Need-same-length-4
 same-length-4 c =
-    let c86 = c .before .before .before .before .before .before .before .before .before .before .before .before .before .before .before .before .before .before .before .before .before .before .before .before .before .before .before .before .before .before .before .before .before .before .before .before .before .before .before .before .before .before .before .before .before .before .before .before .before .before .before .before .before .before .before .before .before .before .before .before .before .before .before .before .before .before .before .before .before .before .before .before .before .before .before .before .before .before .before .before .before .before .before .before .before .before in
-    (c86 .front .kept .1 .0)
+    let c90 = c .before .before .before .before .before .before .before .before .before .before .before .before .before .before .before .before .before .before .before .before .before .before .before .before .before .before .before .before .before .before .before .before .before .before .before .before .before .before .before .before .before .before .before .before .before .before .before .before .before .before .before .before .before .before .before .before .before .before .before .before .before .before .before .before .before .before .before .before .before .before .before .before .before .before .before .before .before .before .before .before .before .before .before .before .before .before .before .before .before .before in
+    (c90 .front .kept .1 .0)
 
 same-length-5 : tie.Need-same-length-5
 same-length-5 c =
-    let c86 = c .before .before .before .before .before .before .before .before .before .before .before .before .before .before .before .before .before .before .before .before .before .before .before .before .before .before .before .before .before .before .before .before .before .before .before .before .before .before .before .before .before .before .before .before .before .before .before .before .before .before .before .before .before .before .before .before .before .before .before .before .before .before .before .before .before .before .before .before .before .before .before .before .before .before .before .before .before .before .before .before .before .before .before .before .before .before in
-    (c86 .front .kept .1 .1 .0)
+    let c90 = c .before .before .before .before .before .before .before .before .before .before .before .before .before .before .before .before .before .before .before .before .before .before .before .before .before .before .before .before .before .before .before .before .before .before .before .before .before .before .before .before .before .before .before .before .before .before .before .before .before .before .before .before .before .before .before .before .before .before .before .before .before .before .before .before .before .before .before .before .before .before .before .before .before .before .before .before .before .before .before .before .before .before .before .before .before .before .before .before .before .before in
+    (c90 .front .kept .1 .1 .0)
 
 same-length-6 : tie.Need-same-length-6
 same-length-6 c =
-    let c86 = c .before .before .before .before .before .before .before .before .before .before .before .before .before .before .before .before .before .before .before .before .before .before .before .before .before .before .before .before .before .before .before .before .before .before .before .before .before .before .before .before .before .before .before .before .before .before .before .before .before .before .before .before .before .before .before .before .before .before .before .before .before .before .before .before .before .before .before .before .before .before .before .before .before .before .before .before .before .before .before .before .before .before .before .before .before .before in
-    (c86 .front .kept .1 .1 .1 .0)
+    let c63 = c .before .before .before .before .before .before .before .before .before .before .before .before .before .before .before .before .before .before .before .before .before .before .before .before .before .before .before .before .before .before .before .before .before .before .before .before .before .before .before .before .before .before .before .before .before .before .before .before .before .before .before .before .before .before .before .before .before .before .before .before .before .before .before in
+    let c80 = c63 .before .before .before .before .before .before .before .before .before .before .before .before .before .before .before .before .before in
+    let c90 = c80 .before .before .before .before .before .before .before .before .before .before in
+    (c63 .work .kept .1 .1 .1 .1 .1 .1 .1 .1 .1 .1 .1 .1 .1 .1 .0) ∙ (c80 .clear-from .kept .0) ∙ (c90 .front .kept .1 .1 .1 .0)
 
 same-length-7 : tie.Need-same-length-7
 same-length-7 c =
-    let c63 = c .before .before .before .before .before .before .before .before .before .before .before .before .before .before .before .before .before .before .before .before .before .before .before .before .before .before .before .before .before .before .before .before .before .before .before .before .before .before .before .before .before .before .before .before .before .before .before .before .before .before .before .before .before .before .before .before .before .before .before .before .before .before .before in
-    (c63 .work .kept .1 .1 .1 .1 .1 .1 .1 .1 .1 .1 .1 .1 .1 .1 .0)
+    let c24 = c .before .before .before .before .before .before .before .before .before .before .before .before .before .before .before .before .before .before .before .before .before .before .before .before in
+    let c63 = c24 .before .before .before .before .before .before .before .before .before .before .before .before .before .before .before .before .before .before .before .before .before .before .before .before .before .before .before .before .before .before .before .before .before .before .before .before .before .before .before in
+    (c24 .finish .kept .1 .0) ∙ (c63 .work .kept .1 .1 .0)
 
 same-length-8 : tie.Need-same-length-8
 same-length-8 c =
     let c24 = c .before .before .before .before .before .before .before .before .before .before .before .before .before .before .before .before .before .before .before .before .before .before .before .before in
     let c63 = c24 .before .before .before .before .before .before .before .before .before .before .before .before .before .before .before .before .before .before .before .before .before .before .before .before .before .before .before .before .before .before .before .before .before .before .before .before .before .before .before in
-    (c24 .finish .kept .1 .0) ∙ (c63 .work .kept .1 .1 .0)
+    (c24 .finish .kept .1 .1 .0) ∙ (c63 .work .kept .1 .1 .1 .0)
 
 same-length-9 : tie.Need-same-length-9
 same-length-9 c =
     let c24 = c .before .before .before .before .before .before .before .before .before .before .before .before .before .before .before .before .before .before .before .before .before .before .before .before in
     let c63 = c24 .before .before .before .before .before .before .before .before .before .before .before .before .before .before .before .before .before .before .before .before .before .before .before .before .before .before .before .before .before .before .before .before .before .before .before .before .before .before .before in
-    (c24 .finish .kept .1 .1 .0) ∙ (c63 .work .kept .1 .1 .1 .0)
+    (c24 .finish .kept .1 .1 .1 .0) ∙ (c63 .work .kept .1 .1 .1 .1 .0)
 
 same-length-10 : tie.Need-same-length-10
 same-length-10 c =
     let c24 = c .before .before .before .before .before .before .before .before .before .before .before .before .before .before .before .before .before .before .before .before .before .before .before .before in
     let c63 = c24 .before .before .before .before .before .before .before .before .before .before .before .before .before .before .before .before .before .before .before .before .before .before .before .before .before .before .before .before .before .before .before .before .before .before .before .before .before .before .before in
-    (c24 .finish .kept .1 .1 .1 .0) ∙ (c63 .work .kept .1 .1 .1 .1 .0)
+    (c24 .finish .kept .1 .1 .1 .1 .0) ∙ (c63 .work .kept .1 .1 .1 .1 .1 .0)
 
 same-length-11 : tie.Need-same-length-11
 same-length-11 c =
     let c24 = c .before .before .before .before .before .before .before .before .before .before .before .before .before .before .before .before .before .before .before .before .before .before .before .before in
     let c63 = c24 .before .before .before .before .before .before .before .before .before .before .before .before .before .before .before .before .before .before .before .before .before .before .before .before .before .before .before .before .before .before .before .before .before .before .before .before .before .before .before in
-    (c24 .finish .kept .1 .1 .1 .1 .0) ∙ (c63 .work .kept .1 .1 .1 .1 .1 .0)
+    (c24 .finish .kept .1 .1 .1 .1 .1 .0) ∙ (c63 .work .kept .1 .1 .1 .1 .1 .1 .0)
 
 same-length-12 : tie.Need-same-length-12
 same-length-12 c =
     let c24 = c .before .before .before .before .before .before .before .before .before .before .before .before .before .before .before .before .before .before .before .before .before .before .before .before in
     let c63 = c24 .before .before .before .before .before .before .before .before .before .before .before .before .before .before .before .before .before .before .before .before .before .before .before .before .before .before .before .before .before .before .before .before .before .before .before .before .before .before .before in
-    (c24 .finish .kept .1 .1 .1 .1 .1 .0) ∙ (c63 .work .kept .1 .1 .1 .1 .1 .1 .0)
+    (c24 .finish .kept .1 .1 .1 .1 .1 .1 .0) ∙ (c63 .work .kept .1 .1 .1 .1 .1 .1 .1 .0)
 
 same-length-13 : tie.Need-same-length-13
 same-length-13 c =
     let c24 = c .before .before .before .before .before .before .before .before .before .before .before .before .before .before .before .before .before .before .before .before .before .before .before .before in
     let c63 = c24 .before .before .before .before .before .before .before .before .before .before .before .before .before .before .before .before .before .before .before .before .before .before .before .before .before .before .before .before .before .before .before .before .before .before .before .before .before .before .before in
-    (c24 .finish .kept .1 .1 .1 .1 .1 .1 .0) ∙ (c63 .work .kept .1 .1 .1 .1 .1 .1 .1 .0)
+    (c24 .finish .kept .1 .1 .1 .1 .1 .1 .1 .0) ∙ (c63 .work .kept .1 .1 .1 .1 .1 .1 .1 .1 .0)
 
 same-length-14 : tie.Need-same-length-14
 same-length-14 c =
     let c24 = c .before .before .before .before .before .before .before .before .before .before .before .before .before .before .before .before .before .before .before .before .before .before .before .before in
     let c63 = c24 .before .before .before .before .before .before .before .before .before .before .before .before .before .before .before .before .before .before .before .before .before .before .before .before .before .before .before .before .before .before .before .before .before .before .before .before .before .before .before in
-    (c24 .finish .kept .1 .1 .1 .1 .1 .1 .1 .0) ∙ (c63 .work .kept .1 .1 .1 .1 .1 .1 .1 .1 .0)
+    (c24 .finish .kept .1 .1 .1 .1 .1 .1 .1 .1 .0) ∙ (c63 .work .kept .1 .1 .1 .1 .1 .1 .1 .1 .1 .0)
 
 same-length-15 : tie.Need-same-length-15
 same-length-15 c =
     let c24 = c .before .before .before .before .before .before .before .before .before .before .before .before .before .before .before .before .before .before .before .before .before .before .before .before in
     let c63 = c24 .before .before .before .before .before .before .before .before .before .before .before .before .before .before .before .before .before .before .before .before .before .before .before .before .before .before .before .before .before .before .before .before .before .before .before .before .before .before .before in
-    (c24 .finish .kept .1 .1 .1 .1 .1 .1 .1 .1 .0) ∙ (c63 .work .kept .1 .1 .1 .1 .1 .1 .1 .1 .1 .0)
+    (c24 .finish .kept .1 .1 .1 .1 .1 .1 .1 .1 .1 .0) ∙ (c63 .work .kept .1 .1 .1 .1 .1 .1 .1 .1 .1 .1 .0)
 
 same-length-16 : tie.Need-same-length-16
 same-length-16 c =
     let c24 = c .before .before .before .before .before .before .before .before .before .before .before .before .before .before .before .before .before .before .before .before .before .before .before .before in
     let c63 = c24 .before .before .before .before .before .before .before .before .before .before .before .before .before .before .before .before .before .before .before .before .before .before .before .before .before .before .before .before .before .before .before .before .before .before .before .before .before .before .before in
-    (c24 .finish .kept .1 .1 .1 .1 .1 .1 .1 .1 .1 .0) ∙ (c63 .work .kept .1 .1 .1 .1 .1 .1 .1 .1 .1 .1 .0)
+    (c24 .finish .kept .1 .1 .1 .1 .1 .1 .1 .1 .1 .1 .0) ∙ (c63 .work .kept .1 .1 .1 .1 .1 .1 .1 .1 .1 .1 .1 .0)
 
 same-length-17 : tie.Need-same-length-17
 same-length-17 c =
     let c24 = c .before .before .before .before .before .before .before .before .before .before .before .before .before .before .before .before .before .before .before .before .before .before .before .before in
     let c63 = c24 .before .before .before .before .before .before .before .before .before .before .before .before .before .before .before .before .before .before .before .before .before .before .before .before .before .before .before .before .before .before .before .before .before .before .before .before .before .before .before in
-    (c24 .finish .kept .1 .1 .1 .1 .1 .1 .1 .1 .1 .1 .0) ∙ (c63 .work .kept .1 .1 .1 .1 .1 .1 .1 .1 .1 .1 .1 .0)
+    (c24 .finish .kept .1 .1 .1 .1 .1 .1 .1 .1 .1 .1 .1 .0) ∙ (c63 .work .kept .1 .1 .1 .1 .1 .1 .1 .1 .1 .1 .1 .1 .0)
 
 same-length-18 : tie.Need-same-length-18
 same-length-18 c =
-    let c24 = c .before .before .before .before .before .before .before .before .before .before .before .before .before .before .before .before .before .before .before .before .before .before .before .before in
-    let c63 = c24 .before .before .before .before .before .before .before .before .before .before .before .before .before .before .before .before .before .before .before .before .before .before .before .before .before .before .before .before .before .before .before .before .before .before .before .before .before .before .before in
-    (c24 .finish .kept .1 .1 .1 .1 .1 .1 .1 .1 .1 .1 .1 .0) ∙ (c63 .work .kept .1 .1 .1 .1 .1 .1 .1 .1 .1 .1 .1 .1 .0)
-
-same-length-19 : tie.Need-same-length-19
-same-length-19 c =
     let c24 = c .before .before .before .before .before .before .before .before .before .before .before .before .before .before .before .before .before .before .before .before .before .before .before .before in
     let c63 = c24 .before .before .before .before .before .before .before .before .before .before .before .before .before .before .before .before .before .before .before .before .before .before .before .before .before .before .before .before .before .before .before .before .before .before .before .before .before .before .before in
     (c24 .finish .kept .1 .1 .1 .1 .1 .1 .1 .1 .1 .1 .1 .1 .0) ∙ (c63 .work .kept .1 .1 .1 .1 .1 .1 .1 .1 .1 .1 .1 .1 .1 .0)
@@ -135,9 +135,9 @@ returns-2 : tie.Need-returns-2
 returns-2 c =
     let c24 = c .before .before .before .before .before .before .before .before .before .before .before .before .before .before .before .before .before .before .before .before .before .before .before .before in
     let c63 = c24 .before .before .before .before .before .before .before .before .before .before .before .before .before .before .before .before .before .before .before .before .before .before .before .before .before .before .before .before .before .before .before .before .before .before .before .before .before .before .before in
-    let c78 = c63 .before .before .before .before .before .before .before .before .before .before .before .before .before .before .before in
-    let c86 = c78 .before .before .before .before .before .before .before .before in
-    run-finished (c86 .front .ensures) (c78 .if1 .left) (c63 .work .ensures) (c24 .finish .ensures) (record {
+    let c82 = c63 .before .before .before .before .before .before .before .before .before .before .before .before .before .before .before .before .before .before .before in
+    let c90 = c82 .before .before .before .before .before .before .before .before in
+    run-finished (c90 .front .ensures) (c82 .if1 .left) (c63 .work .ensures) (c24 .finish .ensures) (record {
       code = (c24 .finish .kept .1 .0) ∙ (c63 .work .kept .1 .1 .0);
       constants = (c24 .finish .kept .1 .1 .0) ∙ (c63 .work .kept .1 .1 .1 .0);
       functions = (c24 .finish .kept .1 .1 .1 .0) ∙ (c63 .work .kept .1 .1 .1 .1 .0);
@@ -162,6 +162,7 @@ run-in-spec =
     same-length-2
     same-length-3
     returns
+    (λ c κs. search needs)
     work-requires
     (λ c κs. search needs)
     same-length-4
@@ -179,5 +180,4 @@ run-in-spec =
     same-length-16
     same-length-17
     same-length-18
-    same-length-19
     returns-2)
