@@ -23,7 +23,7 @@ use Rattle.building.specs.Taking.{Took, taken}
 use Rattle.building.specs.Held.{Filled, Marks, unmarked, Sized}
 use Rattle.building.proofs.Filling.{over-fits, over-here, over-stays, drop-zeros}
 use Rattle.building.proofs.Notes.{over-longer}
-use Rattle.books.specs.Sets.{SetIs, Ascends, Below}
+use Rattle.books.specs.Sets.{setSize, SetIs, Ascends, Below}
 use Rattle.books.specs.Solving.{Bundle, booksOf, TakesBooks}
 use Rattle.building.proofs.ContextLaws.{Grown, grown, over, took-law, took-full}
 use Rattle.documents.specs.declared.book.Book as struct
@@ -104,7 +104,7 @@ mark-constants κ {k} {k₁} {t} z sized C = go (decLe 3 (entriesIn 3 (length k)
     go (no h) = rw (C .over z (omega arith)) (over-here κ (using′ constantsArea 3) [] nothing refl (omega (arith, sized)) (omega arith))
 
 module _ {tree set : List ℕ} {end full : ℕ} {o o₁ : List ℕ} {r : Taken} (B : TakesBooks tree end set full o r o₁) (ds : List Document) (numbers : List ℕ)
-    (bundle : Bundle ds tree 0 end) (ascends : Ascends 0 numbers) (below : Below numbers) (chosen : SetIs set numbers) where
+    (bundle : Bundle ds tree 0 end) (ascends : Ascends 0 numbers) (below : Below setSize numbers) (chosen : SetIs set numbers) where
   mark-books : (κ : Limits) (us : List Use) → Sized κ booksArea o → Marks (firstOver κ us) full
       → Marks (firstOver κ (using′ booksArea (length numbers) ∷ us)) (r .full)
   mark-books κ us sized M = go (eqb full 0) refl
@@ -219,7 +219,7 @@ module _ {tree set : List ℕ} {c k f m p t l u n b e o : List ℕ} {x r : Taken
       };
     }
 
-    driving : r .full ≡ 0 → {set₀ : List ℕ} → set₀ ≡ replicate 16384 0
+    driving : r .full ≡ 0 → {set₀ : List ℕ} → set₀ ≡ replicate (length set) 0
         → Driving (root ∷ others) tree (length tree / 4) 0 (r .count) numbers (drop (length numbers) o) [] set₀ o₁ κ (begunBook r (x .count)) c k₁ f
         m p t l u n b
         e newContext (begunUses (length numbers))
@@ -232,7 +232,8 @@ module _ {tree set : List ℕ} {c k f m p t l u n b e o : List ℕ} {x r : Taken
         limit = fine-limit tree (A .fine);
         there = A .there;
         words = books-there z .1;
-        held = rw empty (set-empty 16384 refl);
+        held = rw empty (set-empty (length set));
+        room = rw (empty, length-replicate {A = ℕ} (length set) 0) (A .room);
       };
       so-many = refl;
       in-all = ap (λ (y : Taken). y .count) (books-there z .0) ∙ omega arith;
@@ -262,7 +263,7 @@ module _ {tree set : List ℕ} {c k f m p t l u n b e o : List ℕ} {x r : Taken
         → Works tree set c k f m p t l u n b e o s c k₁ f m p t l u n b e o₁ row place
     work-full s-is ne row place = rw s-is (not-begun ne row place)
 
-    pub work-on : {s : struct.Book} → s ≡ begunBook r (x .count) → r .full ≡ 0 → {set₀ : List ℕ} → set₀ ≡ replicate 16384 0
+    pub work-on : {s : struct.Book} → s ≡ begunBook r (x .count) → r .full ≡ 0 → {set₀ : List ℕ} → set₀ ≡ replicate (length set) 0
         → {s′ : struct.Book} {c′ k′ f′ m′ p′ t′ l′ u′ n′ b′ e′ o′ : List ℕ} {row place : ℕ}
         → Drives tree (length tree / 4) 0 (r .count) set₀ o₁ s c k₁ f m p t l u n b e s′ c′ k′ f′ m′ p′ t′ l′ u′ n′ b′ e′ o′ row place
         → Works tree set c k f m p t l u n b e o s′ c′ k′ f′ m′ p′ t′ l′ u′ n′ b′ e′ o′ row place

@@ -259,7 +259,7 @@ pub record First (ds : List Document) (tree : List ℕ) (end n : ℕ) (ns : List
   pub file : entry / bookUnit ≡ book .filename
   pub document : DocumentAt book tree (entry % bookUnit)
   pub inside : entry % bookUnit + sizeDoc book ≤ end
-  pub below : Below (dependencies (book .definitions))
+  pub below : Below setSize (dependencies (book .definitions))
 
 entry-is : (k : ℕ) (files : List ℕ) (x : ℕ) (ws books : List ℕ) → books ≡ files ++ (x ∷ ws) → k ≡ length files → entryField 1 k 0 books ≡ x
 unfolding entryField
@@ -283,7 +283,7 @@ first {ds} {tree} {end} {files} {n} {ns} {rest} {books} {set} {compiled} {k} S e
       file = ap (λ (x : ℕ). x / bookUnit) w ∙ high n 20 small ∙ sym (p .file);
       document = rw down (p .document);
       inside = rw down (p .inside);
-      below = subst (λ (o : Option Document). Below (dependenciesOf o)) (f .1) (found-below n ds (S .bundle .numbers));
+      below = subst (λ (o : Option Document). Below setSize (dependenciesOf o)) (f .1) (found-below n ds (S .bundle .numbers));
     }
 
 module _ (tree : List ℕ) (end k count : ℕ) (set books : List ℕ) where
@@ -337,6 +337,7 @@ module _ (tree : List ℕ) (end k count : ℕ) (set books : List ℕ) where
           there = first S d .left;
           words = S .words ∙ sym (append-assoc files (bookWord ds n ∷ []) (waiting ds ns ++ rest));
           held = S .held;
+          room = S .room;
         }
 
         longer : (files : List ℕ) (x : ℕ) → k ≡ length files → k + 1 ≡ length (files ++ (x ∷ []))

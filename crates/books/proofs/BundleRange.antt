@@ -39,7 +39,7 @@ module _ (w : List ℕ) (end : ℕ) (ranges : (j : ℕ) → j < end → inRange 
       let y : valueAt w j ≤ mostText = subst (λ (n : ℕ). valueAt w j ≤ n) m x in
       omega arith
 
-  includes-range : (defs : List Definition) (i : ℕ) → RunAt DefinitionAt sizeD defs w i → i + runSize sizeD defs ≤ end → Below (dependencies defs)
+  includes-range : (defs : List Definition) (i : ℕ) → RunAt DefinitionAt sizeD defs w i → i + runSize sizeD defs ≤ end → Below setSize (dependencies defs)
   unfolding RunAt runSize DefinitionAt
   includes-range [] i a f = tt
   includes-range (IncludeDefinition t l ∷ ds) i a f =
@@ -55,7 +55,7 @@ module _ (w : List ℕ) (end : ℕ) (ranges : (j : ℕ) → j < end → inRange 
   includes-range (ImplementDefinition x y ∷ ds) i a f = tt
   includes-range (ApplyDefinition x y ∷ ds) i a f = tt
 
-  in-sets : (ds : List Document) (i : ℕ) → DocumentsAt ds w i → i + runSize sizeDoc ds ≡ end → InSets ds
+  in-sets : (ds : List Document) (i : ℕ) → DocumentsAt ds w i → i + runSize sizeDoc ds ≡ end → InSets setSize ds
   unfolding RunAt runSize
   in-sets [] i a f = tt
   in-sets (d ∷ ds) i a f = (

@@ -1,6 +1,6 @@
 -- One lemma for each way through the routines that read the documents one after the other. Whatever is answered from here is answered from the start.
 -- Assumes nothing.
-use Prim.Native.Nat.{ℕ, zero, suc, _+_, _/_, _≤_, _<_}
+use Prim.Native.Nat.{ℕ, zero, suc, _+_, _*_, _/_, _≤_, _<_}
 use native.Mathlib.Omega.{arith}
 use native.Mathlib.Decide.{ℕ-discrete}
 use mathlib.Core.Path.{_≡_, refl, sym, ap, subst, _∙_}
@@ -24,11 +24,12 @@ use Rattle.building.specs.declared.scopes.Found.{Found}
 use Rattle.building.specs.declared.scopes.Found.the-variants.{At, Nothing}
 use Rattle.building.specs.Found.{foundOf}
 use Rattle.bodies.specs.Meets.{skipC}
-use Rattle.books.specs.Sets.{setSize, bitOf, addBit, addBits, Added, SetIs, NextIn, Below, Ascends}
-use Rattle.books.specs.Solving.{Bundle, Distinct, files, FindsTwice, Includes, Reaches, reachBits, Needs, Misses}
+use Rattle.books.specs.Sets.{setSize, narrowSize, bitOf, addBit, addBits, Added, SetIs, NextIn, Below, Ascends}
+use Rattle.books.specs.Solving.{Bundle, Room, Distinct, files, FindsTwice, Includes, Reaches, reachBits, Needs, Misses}
+use Rattle.books.specs.Solving.{InSets, NarrowIncludes, Narrows}
 use Rattle.bodies.proofs.Tokens.{skip-law}
-use Rattle.books.proofs.FileLists.{join, never, has-head, has-tail, set-add, set-reached, reached-ascends, reached-below, same-members, needed-still}
-use Rattle.books.proofs.FileLists.{SetFrom, set-from, Split, next-some, next-none, missing-by}
+use Rattle.books.proofs.FileLists.{join, never, has-head, has-tail, addBit-length, reach-length, set-add, set-reached, reached-ascends, reached-below}
+use Rattle.books.proofs.FileLists.{same-members, needed-still, SetFrom, set-from, Split, next-some, next-none, missing-by}
 
 -- the document at a place and those after it
 pub bundle-first : {d : Document} {ds : List Document} {tree : List ℕ} {i end : ℕ} → Bundle (d ∷ ds) tree i end → DocumentAt d tree i
@@ -81,7 +82,7 @@ pub record TwiceOf (tree : List ℕ) (i : ℕ) (seen : List ℕ) (ds : List Docu
   pub present : r ≡ Nothing → (l : List ℕ) → ((m : ℕ) → m < setSize → hasText m l ≡ cond (hasText m seen) true (hasText m (files ds))) → SetIs after l
 
 pub record TwiceFrom (tree : List ℕ) (i end : ℕ) (before : List ℕ) (r : Found) (after : List ℕ) : Type 0 where
-  pub finds : (ds : List Document) (seen : List ℕ) → Bundle ds tree i end → SetIs before seen → TwiceOf tree i seen ds r after
+  pub finds : (ds : List Document) (seen : List ℕ) → Bundle ds tree i end → Room before ds → SetIs before seen → TwiceOf tree i seen ds r after
 
 is-there : {A : Type 0} {i : ℕ} → At i ≡ Nothing → A
 is-there h = let z : _≡_ {A = ℕ} 0 1 = cc in absurd (omega arith)
@@ -93,22 +94,22 @@ twice-end tree i end before past = record { finds = go }
     or-false true = refl
     or-false false = refl
 
-    go : (ds : List Document) (seen : List ℕ) → Bundle ds tree i end → SetIs before seen → TwiceOf tree i seen ds Nothing before
-    go [] seen b s = record {
+    go : (ds : List Document) (seen : List ℕ) → Bundle ds tree i end → Room before ds → SetIs before seen → TwiceOf tree i seen ds Nothing before
+    go [] seen b w s = record {
       answer = refl;
       distinct = λ h. tt;
       apart = λ h n m. refl;
-      present = λ h l q. record { sized = s .sized; has = λ m g. s .has m g ∙ sym (q m g ∙ or-false (hasText m seen)) };
+      present = λ h l q. record { has = λ m g. s .has m g ∙ sym (q m g ∙ or-false (hasText m seen)) };
     }
-    go (d ∷ ds) seen b s = absurd (omega (arith, bundle-past b))
+    go (d ∷ ds) seen b w s = absurd (omega (arith, bundle-past b))
 
 pub twice-here : (tree : List ℕ) (i end : ℕ) (before : List ℕ) {file : ℕ} {after : List ℕ} {fresh : Bool} → i < end → file ≡ valueAt tree i
     → Added before file after fresh → not fresh ≡ true → TwiceFrom tree i end before (At i) after
 twice-here tree i end before {file} {after} {fresh} inside f a known = record { finds = go }
   where
-    go : (ds : List Document) (seen : List ℕ) → Bundle ds tree i end → SetIs before seen → TwiceOf tree i seen ds (At i) after
-    go [] seen b s = absurd (omega (arith, bundle-none b))
-    go (d ∷ ds) seen b s =
+    go : (ds : List Document) (seen : List ℕ) → Bundle ds tree i end → Room before ds → SetIs before seen → TwiceOf tree i seen ds (At i) after
+    go [] seen b w s = absurd (omega (arith, bundle-none b))
+    go (d ∷ ds) seen b w s =
         let e : d .filename ≡ valueAt tree i = bundle-first b .file in
         let bit : bitOf before file ≡ true = not-false (bitOf before file) (sym (a .is-new) ∙ not-true fresh known) in
         let has : hasText (valueAt tree i) seen ≡ true = ap (λ (n : ℕ). hasText n seen) (sym f)
@@ -125,16 +126,17 @@ pub twice-more : (tree : List ℕ) (i end : ℕ) (before : List ℕ) {file next 
     → TwiceFrom tree i end before r after
 twice-more tree i end before {file} {next} {mid} {after} {fresh} {r} inside f a new q T = record { finds = go }
   where
-    go : (ds : List Document) (seen : List ℕ) → Bundle ds tree i end → SetIs before seen → TwiceOf tree i seen ds r after
-    go [] seen b s = absurd (omega (arith, bundle-none b))
-    go (d ∷ ds) seen b s =
+    go : (ds : List Document) (seen : List ℕ) → Bundle ds tree i end → Room before ds → SetIs before seen → TwiceOf tree i seen ds r after
+    go [] seen b w s = absurd (omega (arith, bundle-none b))
+    go (d ∷ ds) seen b w s =
         let e : d .filename ≡ file = bundle-first b .file ∙ sym f in
         let small : file < setSize = subst (λ (n : ℕ). n < setSize) e (b .numbers .0) in
         let bit : bitOf before file ≡ false = not-true (bitOf before file) (sym (a .is-new) ∙ not-false fresh new) in
         let has : hasText file seen ≡ false = sym (s .has file small) ∙ bit in
         let nx = bundle-next b q in
         let t : TwiceOf tree next (file ∷ seen) ds r after
-        = T .finds ds (file ∷ seen) (nx .1) (rw (a .words) (set-add before seen file s small)) in
+        = T .finds ds (file ∷ seen) (nx .1) (rw (a .words, addBit-length before file) (w .2))
+        (rw (a .words) (set-add before seen file s (rw (← e) (w .0)))) in
         record {
           answer = rw (← f, has, ← nx .0) (t .answer);
           distinct = λ h. (rw e (t .apart h file (has-head file seen)), t .distinct h);
@@ -151,8 +153,8 @@ twice-more tree i end before {file} {next} {mid} {after} {fresh} {r} inside f a 
 pub twice-whole : (tree : List ℕ) (end : ℕ) (before : List ℕ) {r : Found} {after : List ℕ} → TwiceFrom tree 0 end before r after
     → FindsTwice tree end before r after
 twice-whole tree end before {r} {after} T = record {
-  finds = λ ds b s.
-      let t = T .finds ds [] b s in
+  finds = λ ds b w s.
+      let t = T .finds ds [] b w s in
       record {
         answer = λ e. t .answer
             ∙ ap (λ (l : List ℕ). foundOf (twice [] tree l))
@@ -260,29 +262,72 @@ module _ (tree : List ℕ) (i end : ℕ) (set : List ℕ) (any : Bool) (next : L
             let m : mid ≡ addBits next (dependencies (d .definitions)) = I .adds (d .definitions) (bundle-first b .definitions) (omega (arith, nx .0)) in
             R .adds ds (nx .1) ∙ rw (bundle-first b .file, ← v, ← has, m)
 
+-- `narrow_includes`
+module _ (tree : List ℕ) (j end : ℕ) where
+  pub narrow-defs-end : end ≤ j → NarrowIncludes tree j end true
+  narrow-defs-end past = record { below = λ h. defs-end tree j end (λ ns. Below narrowSize ns) past tt }
+
+  pub narrow-defs-other : {kind : ℕ} → kind ≡ kindAt tree j → (kind ≡ 11 → ⊥) → NarrowIncludes tree j end true
+  narrow-defs-other k ne = record { below = λ h. defs-other tree j end (λ ns. Below narrowSize ns) k ne tt }
+
+  pub narrow-defs-more : {kind file next : ℕ} {r : Bool} → j < end → kind ≡ kindAt tree j → kind ≡ 11 → file ≡ valueAt tree j → file < narrowSize
+      → next ≡ skipC tree j end → NarrowIncludes tree next end r → NarrowIncludes tree j end r
+  narrow-defs-more inside k eleven v small q N = record {
+    below = λ h. defs-more tree j end (λ ns. Below narrowSize ns) inside k eleven v q (λ ds u f. (small, N .below h ds u f));
+  }
+
+  pub narrow-defs-not : NarrowIncludes tree j end false
+  narrow-defs-not = record { below = λ h. never (sym h) }
+
+-- `narrow`
+module _ (tree : List ℕ) (i end : ℕ) where
+  pub narrow-end : end ≤ i → Narrows tree i end true
+  narrow-end past = record { below = λ h. go }
+    where
+      go : (ds : List Document) → Bundle ds tree i end → InSets narrowSize ds
+      go [] b = tt
+      go (d ∷ ds) b = absurd (omega (arith, bundle-past b))
+
+  pub narrow-more : {last file : ℕ} {here r : Bool} → i < end → last ≡ skipC tree i end → file ≡ valueAt tree i → file < narrowSize
+      → NarrowIncludes tree (i + 1) last here → here ≡ true → Narrows tree last end r → Narrows tree i end r
+  narrow-more {last} {file} {here} {r} inside l v small I yes′ N = record { below = go }
+    where
+      go : r ≡ true → (ds : List Document) → Bundle ds tree i end → InSets narrowSize ds
+      go h [] b = absurd (omega (arith, bundle-none b))
+      go h (d ∷ ds) b =
+          let nx = bundle-next b l in (
+            rw (bundle-first b .file, ← v) small,
+            I .below yes′ (d .definitions) (bundle-first b .definitions) (omega (arith, nx .0)),
+            N .below h ds (nx .1),
+          )
+
+  pub narrow-not : Narrows tree i end false
+  narrow-not = record { below = λ h. never (sym h) }
+
 -- `needed`
 pub record NeededFrom (tree : List ℕ) (i end : ℕ) (set next after : List ℕ) : Type 0 where
-  pub needs : (ds rest : List Document) (l : List ℕ) → Bundle ds tree 0 end → Distinct ds → Bundle rest tree i end → Ascends 0 l → Below l → SetIs set l
-      → next ≡ set → SetIs after (neededIn (length rest) [] ds l)
+  pub needs : (ds rest : List Document) (l : List ℕ) → Bundle ds tree 0 end → Distinct ds → Bundle rest tree i end → Room set ds → Ascends 0 l → Below setSize l
+      → SetIs set l → next ≡ set → SetIs after (neededIn (length rest) [] ds l)
 
 pub needed-end : (tree : List ℕ) (i end : ℕ) (set next : List ℕ) → end ≤ i → NeededFrom tree i end set next set
 unfolding neededIn
 needed-end tree i end set next past = record { needs = go }
   where
-    go : (ds rest : List Document) (l : List ℕ) → Bundle ds tree 0 end → Distinct ds → Bundle rest tree i end → Ascends 0 l → Below l → SetIs set l
-        → next ≡ set → SetIs set (neededIn (length rest) [] ds l)
-    go ds [] l b u r a w s q = s
-    go ds (d ∷ rest) l b u r a w s q = absurd (omega (arith, bundle-past r))
+    go : (ds rest : List Document) (l : List ℕ) → Bundle ds tree 0 end → Distinct ds → Bundle rest tree i end → Room set ds → Ascends 0 l → Below setSize l
+        → SetIs set l → next ≡ set → SetIs set (neededIn (length rest) [] ds l)
+    go ds [] l b u r room a w s q = s
+    go ds (d ∷ rest) l b u r room a w s q = absurd (omega (arith, bundle-past r))
 
 module _ (tree : List ℕ) (i end : ℕ) (set next : List ℕ) {mid : List ℕ} {grew : Bool} (R : Reaches tree 0 end set false next mid grew) where
-  reached : (ds : List Document) (l : List ℕ) → Bundle ds tree 0 end → Distinct ds → SetIs set l → next ≡ set → SetIs mid (reachedFrom [] ds l l)
-  reached ds l b u s q = rw (R .adds ds b) (set-reached set l next l ds s (rw q s) u (b .numbers))
+  reached : (ds : List Document) (l : List ℕ) → Bundle ds tree 0 end → Distinct ds → Room set ds → SetIs set l → next ≡ set
+      → SetIs mid (reachedFrom [] ds l l)
+  reached ds l b u room s q = rw (R .adds ds b) (set-reached set l next l ds s (rw q s) u (b .numbers) (rw q room))
 
   pub needed-stop : not grew ≡ true → NeededFrom tree i end set next set
   needed-stop g = record {
-    needs = λ ds rest l b u r a w s q.
+    needs = λ ds rest l b u r room a w s q.
         let still : mid ≡ set = R .still (not-true grew g) .1 ∙ q in
-        let m : SetIs set (reachedFrom [] ds l l) = subst (λ (x : List ℕ). SetIs x (reachedFrom [] ds l l)) still (reached ds l b u s q) in
+        let m : SetIs set (reachedFrom [] ds l l) = subst (λ (x : List ℕ). SetIs x (reachedFrom [] ds l l)) still (reached ds l b u room s q) in
         let same : reachedFrom [] ds l l ≡ l
         = same-members 0 (reachedFrom [] ds l l) l (reached-ascends ds l l a) a (reached-below ds l l (b .numbers) w) w
         (λ k h. sym (m .has k h) ∙ s .has k h) in
@@ -294,20 +339,21 @@ module _ (tree : List ℕ) (i end : ℕ) (set next : List ℕ) {mid : List ℕ} 
   unfolding neededIn
   needed-more {last} {copied} {after} inside l c N = record { needs = go }
     where
-      go : (ds rest : List Document) (n : List ℕ) → Bundle ds tree 0 end → Distinct ds → Bundle rest tree i end → Ascends 0 n → Below n → SetIs set n
-          → next ≡ set → SetIs after (neededIn (length rest) [] ds n)
-      go ds [] n b u r a w s q = absurd (omega (arith, bundle-none r))
-      go ds (d ∷ rest) n b u r a w s q =
-          N .needs ds rest (reachedFrom [] ds n n) b u (bundle-next r l .1) (reached-ascends ds n n a) (reached-below ds n n (b .numbers) w)
-          (rw c (reached ds n b u s q)) (sym c)
+      go : (ds rest : List Document) (n : List ℕ) → Bundle ds tree 0 end → Distinct ds → Bundle rest tree i end → Room set ds → Ascends 0 n
+          → Below setSize n → SetIs set n → next ≡ set → SetIs after (neededIn (length rest) [] ds n)
+      go ds [] n b u r room a w s q = absurd (omega (arith, bundle-none r))
+      go ds (d ∷ rest) n b u r room a w s q =
+          N .needs ds rest (reachedFrom [] ds n n) b u (bundle-next r l .1) (rw (c, R .adds ds b, reach-length set ds next, q) room)
+          (reached-ascends ds n n a) (reached-below ds n n (b .numbers) w)
+          (rw c (reached ds n b u room s q)) (sym c)
 
 pub needed-start : (tree : List ℕ) (end : ℕ) (set next : List ℕ) {root : ℕ} {set′ next′ after : List ℕ} {f g : Bool} → root ≡ valueAt tree 0 → next ≡ set
     → Added set root set′ f → Added next root next′ g → NeededFrom tree 0 end set′ next′ after → Needs tree end set after
 needed-start tree end set next {root} {set′} {next′} {after} v q a b N = record {
-  needs = λ d ds w u s.
+  needs = λ d ds w u room s.
       let e : d .filename ≡ root = bundle-first w .file ∙ sym v in
-      N .needs (d ∷ ds) (d ∷ ds) (d .filename ∷ []) w u w (omega arith, tt) (w .numbers .0, tt)
-      (rw (a .words, ← e) (set-add set [] (d .filename) s (w .numbers .0))) (b .words ∙ rw (q, ← a .words));
+      N .needs (d ∷ ds) (d ∷ ds) (d .filename ∷ []) w u w (rw (a .words, addBit-length set root) room) (omega arith, tt) (w .numbers .0, tt)
+      (rw (a .words, ← e) (set-add set [] (d .filename) s (room .0))) (b .words ∙ rw (q, ← a .words));
 }
 
 -- `missing`

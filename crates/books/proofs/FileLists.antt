@@ -1,6 +1,6 @@
 -- Ascending lists of file numbers: their members, that members determine them, and what is inserted and reached. Then the same by the bits of sets.
 -- Assumes nothing.
-use Prim.Native.Nat.{ℕ, zero, suc, _+_, _/_, _≤_, _<_}
+use Prim.Native.Nat.{ℕ, zero, suc, _+_, _*_, _/_, _≤_, _<_}
 use native.Mathlib.Omega.{arith}
 use native.Mathlib.Decide.{decLt, ℕ-discrete}
 use native.Mathlib.Nat.{div-add-mod'}
@@ -15,8 +15,8 @@ use Rattle.words.specs.Ast.{Document}
 use Rattle.definition.specs.Book.{hasText}
 use Rattle.definition.specs.DependencySolver.{dependencies, dependenciesOf, findDocument, insertNumber, insertNumbers, reachedFrom, neededIn}
 use Rattle.definition.specs.DependencySolver.{missingBy, allIn}
-use Rattle.books.specs.Sets.{setSize, setWords, bitOf, addBit, addBits, allBits, SetIs, NextIn, Below, Ascends}
-use Rattle.books.specs.Solving.{InSets, Distinct, files, reachBits}
+use Rattle.books.specs.Sets.{setSize, bitOf, addBit, addBits, allBits, SetIs, NextIn, Below, Ascends}
+use Rattle.books.specs.Solving.{InSets, Room, Distinct, files, reachBits}
 use Rattle.books.proofs.SetBits.{add-bit}
 
 -- three cases of two numbers
@@ -96,33 +96,33 @@ reached-ascends ds [] l a = a
 reached-ascends ds (n ∷ ns) l a = reached-ascends ds ns _ (inserts-ascend (dependenciesOf (findDocument n ds)) l a)
 
 -- and the range
-pub insert-below : (n : ℕ) (l : List ℕ) → Below l → n < setSize → Below (insertNumber n l)
+pub insert-below : (n : ℕ) (l : List ℕ) → Below setSize l → n < setSize → Below setSize (insertNumber n l)
 insert-below n [] b h = (h, tt)
 insert-below n (x ∷ xs) b h = go (order n x) (insert-below n xs (b .1) h)
   where
-    go : Order n x → Below (insertNumber n xs) → Below (insertNumber n (x ∷ xs))
+    go : Order n x → Below setSize (insertNumber n xs) → Below setSize (insertNumber n (x ∷ xs))
     go (less l) ih = rw (lt-ltb n x l) (h, b)
     go (same q) ih = rw (le-ltb n x (omega arith), eq-eqb n x q) b
     go (more l) ih = rw (le-ltb n x (omega arith), ne-eqb n x (λ q. omega arith)) (b .0, ih)
 
-pub inserts-below : (ns l : List ℕ) → Below l → Below ns → Below (insertNumbers [] ns l)
+pub inserts-below : (ns l : List ℕ) → Below setSize l → Below setSize ns → Below setSize (insertNumbers [] ns l)
 inserts-below [] l b h = b
 inserts-below (n ∷ ns) l b h = inserts-below ns (insertNumber n l) (insert-below n l b (h .0)) (h .1)
 
-pub found-below : (n : ℕ) (ds : List Document) → InSets ds → Below (dependenciesOf (findDocument n ds))
+pub found-below : (n : ℕ) (ds : List Document) → InSets setSize ds → Below setSize (dependenciesOf (findDocument n ds))
 found-below n [] s = tt
 found-below n (d ∷ ds) s = go (eqb (d .filename) n) refl (found-below n ds (s .2))
   where
-    go : (t : Bool) → eqb (d .filename) n ≡ t → Below (dependenciesOf (findDocument n ds)) → Below (dependenciesOf (findDocument n (d ∷ ds)))
+    go : (t : Bool) → eqb (d .filename) n ≡ t → Below setSize (dependenciesOf (findDocument n ds)) → Below setSize (dependenciesOf (findDocument n (d ∷ ds)))
     go true q ih = rw q (s .1)
     go false q ih = rw q ih
 
-pub reached-below : (ds : List Document) (ns l : List ℕ) → InSets ds → Below l → Below (reachedFrom [] ds ns l)
+pub reached-below : (ds : List Document) (ns l : List ℕ) → InSets setSize ds → Below setSize l → Below setSize (reachedFrom [] ds ns l)
 reached-below ds [] l s b = b
 reached-below ds (n ∷ ns) l s b = reached-below ds ns _ s (inserts-below (dependenciesOf (findDocument n ds)) l b (found-below n ds s))
 
 -- ascending lists with the same members are the same
-pub same-members : (k : ℕ) (a b : List ℕ) → Ascends k a → Ascends k b → Below a → Below b
+pub same-members : (k : ℕ) (a b : List ℕ) → Ascends k a → Ascends k b → Below setSize a → Below setSize b
     → ((m : ℕ) → m < setSize → hasText m a ≡ hasText m b) → a ≡ b
 same-members k [] [] p q s t h = refl
 same-members k [] (y ∷ ys) p q s t h = never (sym (has-head y ys) ∙ sym (h y (t .0)))
@@ -130,7 +130,7 @@ same-members k (x ∷ xs) [] p q s t h = never (sym (has-head x xs) ∙ h x (s .
 same-members k (x ∷ xs) (y ∷ ys) p q s t h = go (order x y) (same-members (x + 1) xs ys (p .1))
   where
     Rest : Type 0
-    Rest = Ascends (x + 1) ys → Below xs → Below ys → ((m : ℕ) → m < setSize → hasText m xs ≡ hasText m ys) → xs ≡ ys
+    Rest = Ascends (x + 1) ys → Below setSize xs → Below setSize ys → ((m : ℕ) → m < setSize → hasText m xs ≡ hasText m ys) → xs ≡ ys
 
     tails : x ≡ y → (m : ℕ) → m < setSize → Dec (x ≡ m) → hasText m xs ≡ hasText m ys
     tails e m l (yes r) =
@@ -211,8 +211,8 @@ asks-asked [] l n u = asks-none l n
 asks-asked (d ∷ ds) l n u = asks-one d ds l n (u .0) ∙ rw (asks-asked ds l n (u .1))
 
 -- numbers into sets
-word-in : (bits : List ℕ) (n : ℕ) → length bits ≡ setWords → n < setSize → n / 64 < length bits
-word-in bits n s h = omega (arith, div-add-mod' n 64)
+word-in : (bits : List ℕ) (n : ℕ) → n < length bits * 64 → n / 64 < length bits
+word-in bits n h = omega (arith, div-add-mod' n 64)
 
 pub addBit-length : (bits : List ℕ) (n : ℕ) → length (addBit bits n) ≡ length bits
 unfolding addBit
@@ -226,14 +226,14 @@ pub addBits-length : (bits ns : List ℕ) → length (addBits bits ns) ≡ lengt
 addBits-length bits [] = refl
 addBits-length bits (n ∷ ns) = addBits-length (addBit bits n) ns ∙ addBit-length bits n
 
-add-bits : (bits ns : List ℕ) (m : ℕ) → length bits ≡ setWords → Below ns → bitOf (addBits bits ns) m ≡ cond (hasText m ns) true (bitOf bits m)
-add-bits bits [] m s b = refl
-add-bits bits (n ∷ ns) m s b =
-    add-bits (addBit bits n) ns m (addBit-length bits n ∙ s) (b .1)
-    ∙ ap (λ (t : Bool). cond (hasText m ns) true t) (add-bit bits n m (word-in bits n s (b .0)))
+add-bits : (bits ns : List ℕ) (m : ℕ) → Below (length bits * 64) ns → bitOf (addBits bits ns) m ≡ cond (hasText m ns) true (bitOf bits m)
+add-bits bits [] m b = refl
+add-bits bits (n ∷ ns) m b =
+    add-bits (addBit bits n) ns m (rw (addBit-length bits n) (b .1))
+    ∙ ap (λ (t : Bool). cond (hasText m ns) true t) (add-bit bits n m (word-in bits n (b .0)))
     ∙ join (eqb n m) (hasText m ns) (bitOf bits m)
 
-reach-length : (set : List ℕ) (ds : List Document) (next : List ℕ) → length (reachBits set ds next) ≡ length next
+pub reach-length : (set : List ℕ) (ds : List Document) (next : List ℕ) → length (reachBits set ds next) ≡ length next
 reach-length set [] next = refl
 reach-length set (d ∷ ds) next = reach-length set ds _ ∙ go (bitOf set (d .filename))
   where
@@ -241,13 +241,13 @@ reach-length set (d ∷ ds) next = reach-length set ds _ ∙ go (bitOf set (d .f
     go true = addBits-length next (dependencies (d .definitions))
     go false = refl
 
-reach-bits : (set l : List ℕ) (ds : List Document) (next : List ℕ) (m : ℕ) → SetIs set l → length next ≡ setWords → InSets ds
+reach-bits : (set l : List ℕ) (ds : List Document) (next : List ℕ) (m : ℕ) → SetIs set l → InSets setSize ds → Room next ds
     → bitOf (reachBits set ds next) m ≡ cond (asked ds l m) true (bitOf next m)
 unfolding asked
-reach-bits set l [] next m i s r = refl
-reach-bits set l (d ∷ ds) next m i s r =
-    go (bitOf set (d .filename)) refl (reach-bits set l ds (addBits next deps) m i (addBits-length next deps ∙ s) (r .2))
-    (reach-bits set l ds next m i s (r .2))
+reach-bits set l [] next m i r w = refl
+reach-bits set l (d ∷ ds) next m i r w =
+    go (bitOf set (d .filename)) refl (reach-bits set l ds (addBits next deps) m i (r .2) (rw (addBits-length next deps) (w .2)))
+    (reach-bits set l ds next m i (r .2) (w .2))
   where
     deps : List ℕ
     deps = dependencies (d .definitions)
@@ -259,21 +259,17 @@ reach-bits set l (d ∷ ds) next m i s r =
         ≡ cond (cond (hasText (d .filename) l) (cond (hasText m deps) true (asked ds l m)) (asked ds l m)) true (bitOf next m)
     go true q a b =
         rw (q, sym (i .has (d .filename) (r .0)) ∙ q)
-        (a ∙ ap (λ (t : Bool). cond (asked ds l m) true t) (add-bits next deps m s (r .1)) ∙ join (hasText m deps) (asked ds l m) (bitOf next m))
+        (a ∙ ap (λ (t : Bool). cond (asked ds l m) true t) (add-bits next deps m (w .1)) ∙ join (hasText m deps) (asked ds l m) (bitOf next m))
     go false q a b = rw (q, sym (i .has (d .filename) (r .0)) ∙ q) b
 
 -- `add`, `add_includes` and `reach` on sets
-pub set-add : (bits l : List ℕ) (n : ℕ) → SetIs bits l → n < setSize → SetIs (addBit bits n) (n ∷ l)
-set-add bits l n i h = record {
-  sized = addBit-length bits n ∙ i .sized;
-  has = λ m g. add-bit bits n m (word-in bits n (i .sized) h) ∙ rw (i .has m g);
-}
+pub set-add : (bits l : List ℕ) (n : ℕ) → SetIs bits l → n < length bits * 64 → SetIs (addBit bits n) (n ∷ l)
+set-add bits l n i h = record { has = λ m g. add-bit bits n m (word-in bits n h) ∙ rw (i .has m g) }
 
-pub set-reached : (set l next l′ : List ℕ) (ds : List Document) → SetIs set l → SetIs next l′ → Distinct ds → InSets ds
-    → SetIs (reachBits set ds next) (reachedFrom [] ds l l′)
-set-reached set l next l′ ds i j u r = record {
-  sized = reach-length set ds next ∙ j .sized;
-  has = λ m g. reach-bits set l ds next m i (j .sized) r ∙ rw (j .has m g, ← asks-asked ds l m u) (sym (has-reached ds l l′ m));
+pub set-reached : (set l next l′ : List ℕ) (ds : List Document) → SetIs set l → SetIs next l′ → Distinct ds → InSets setSize ds
+    → Room next ds → SetIs (reachBits set ds next) (reachedFrom [] ds l l′)
+set-reached set l next l′ ds i j u r w = record {
+  has = λ m g. reach-bits set l ds next m i r w ∙ rw (j .has m g, ← asks-asked ds l m u) (sym (has-reached ds l l′ m));
 }
 
 -- nothing new is reached: no further round finds more
@@ -283,7 +279,7 @@ needed-still zero ds l h = refl
 needed-still (suc k) ds l h = ap (λ (x : List ℕ). neededIn k [] ds x) h ∙ needed-still k ds l h
 
 -- `all_in`
-pub all-bits : (bits l ns : List ℕ) → SetIs bits l → Below ns → allBits bits ns ≡ allIn ns l
+pub all-bits : (bits l ns : List ℕ) → SetIs bits l → Below setSize ns → allBits bits ns ≡ allIn ns l
 all-bits bits l [] i b = refl
 all-bits bits l (n ∷ ns) i b = rw (i .has n (b .0), all-bits bits l ns i (b .1))
 
@@ -300,10 +296,10 @@ missing-by n (d ∷ ds) o = go (eqb (d .filename) n) refl (missing-by n ds o)
 -- the numbers of a set from one on
 pub record SetFrom (bits : List ℕ) (k : ℕ) (l : List ℕ) : Type 0 where
   pub ascends : Ascends k l
-  pub below : Below l
+  pub below : Below setSize l
   pub has : (m : ℕ) → k ≤ m → m < setSize → bitOf bits m ≡ hasText m l
 
-pub set-from : {bits l : List ℕ} → Ascends 0 l → Below l → SetIs bits l → SetFrom bits 0 l
+pub set-from : {bits l : List ℕ} → Ascends 0 l → Below setSize l → SetIs bits l → SetFrom bits 0 l
 set-from a b i = record { ascends = a; below = b; has = λ m h g. i .has m g }
 
 pub next-none : {bits : List ℕ} {k r : ℕ} (l : List ℕ) → SetFrom bits k l → NextIn bits k r → setSize ≤ r → l ≡ []

@@ -1,10 +1,10 @@
 -- Rows 2 to 6, one lemma for each way: what the routines found is what the definition's `answer` asks, one after the other. Assumes nothing.
-use Prim.Native.Nat.{ℕ, zero, suc, _+_, _/_, _<_}
+use Prim.Native.Nat.{ℕ, zero, suc, _+_, _*_, _/_, _<_}
 use native.Mathlib.Omega.{arith}
 use mathlib.Core.Path.{_≡_, refl, sym, ap, subst, _∙_}
 use mathlib.Core.Option.{Option, none, some}
 use mathlib.Core.List.{List, [], _∷_}
-use lib.ListN.{length, replicate}
+use lib.ListN.{length, replicate, length-replicate}
 use Rattle.words.specs.Ast.{Document}
 use Rattle.tree.specs.Check.{shapeOf}
 use Rattle.tree.specs.Reading.{documentsOf}
@@ -19,8 +19,8 @@ use Rattle.building.specs.declared.scopes.Found.{Found}
 use Rattle.building.specs.declared.scopes.Found.the-variants.{At, Nothing}
 use Rattle.building.specs.Found.{foundOf}
 use Rattle.books.specs.Sets.{SetIs}
-use Rattle.books.specs.Solving.{Bundle, Distinct, FindsTwice, Needs, Misses}
-use Rattle.books.specs.Driving.{Accepted, Fronts}
+use Rattle.books.specs.Solving.{InSets, Bundle, Room, Distinct, Twice, FindsTwice, Needs, Misses}
+use Rattle.books.specs.Driving.{Fresh, Accepted, Fronts}
 use Rattle.definition.proofs.Answer.{ShapeRow, fine, refused, shape-row}
 use Rattle.books.proofs.BundleRange.{fine-bundle, fine-root}
 use Rattle.books.proofs.StandsLaws.{set-empty, needed-ascends, needed-below}
@@ -46,33 +46,44 @@ front-shape tree set {row} {place} q h = record {
   accepted = λ z. absurd (shape-number (shape-row tree) row place (sym q ∙ h) z);
 }
 
+-- zeros with a bit for each number
+pub fresh-zeros : (tree : List ℕ) (k : ℕ) → ((ds : List Document) → Bundle ds tree 0 (length tree / 4) → InSets (k * 64) ds) → Fresh tree (replicate k 0)
+fresh-zeros tree k h =
+    let long : length (replicate {A = ℕ} k 0) ≡ k = length-replicate {A = ℕ} k 0 in
+    record { empty = ap (λ (n : ℕ). replicate n 0) (sym long); room = λ ds b. rw long (h ds b) }
+
 -- fine words
 module _ (tree : List ℕ) {x : Shape} (shape-is : x ≡ shapeOf tree) (fine-is : x ≡ Fine) {end : ℕ} (end-is : end ≡ length tree / 4)
-    {present present′ : List ℕ} {r : Found} (empty : present ≡ replicate 16384 0) (F : FindsTwice tree end present r present′) where
+    {chosen₀ present present′ : List ℕ} {r : Found} (fresh : Fresh tree chosen₀) (same : present ≡ chosen₀) (F : FindsTwice tree end present r present′) where
   is-fine : shapeOf tree ≡ Fine
   is-fine = sym shape-is ∙ fine-is
 
   bundle : Bundle (documentsOf tree) tree 0 end
   bundle = rw end-is (fine-bundle tree is-fine)
 
-  none-yet : SetIs present []
-  none-yet = rw empty (set-empty 16384 refl)
+  empty : SetIs chosen₀ []
+  empty = rw (fresh .empty) (set-empty (length chosen₀))
+
+  room : (ds : List Document) → Bundle ds tree 0 end → Room chosen₀ ds
+  room ds b = fresh .room ds (rw end-is at b)
+
+  finds : (ds : List Document) → Bundle ds tree 0 end → Twice tree end ds r present′
+  finds ds b = F .finds ds b (rw same (room ds b)) (rw same empty)
 
   pub front-twice : (set : List ℕ) {i : ℕ} → r ≡ At i → Fronts tree 5 i set
   unfolding answer answerFrom
   front-twice set {i} at = record {
     refused = λ ne lengths. rw (
       is-fine,
-      found-some (twice [] tree (documentPlaces tree)) i (sym at ∙ F .finds (documentsOf tree) bundle none-yet
-          .answer end-is),
+      found-some (twice [] tree (documentPlaces tree)) i (sym at ∙ finds (documentsOf tree) bundle .answer end-is),
     );
     accepted = λ z. absurd (omega arith);
   }
 
-  module _ (none-twice : r ≡ Nothing) {chosen₀ set : List ℕ} (empty₂ : chosen₀ ≡ replicate 16384 0) (N : Needs tree end chosen₀ set) {m : Found}
+  module _ (none-twice : r ≡ Nothing) {set : List ℕ} (N : Needs tree end chosen₀ set) (kept : length set ≡ length chosen₀) {m : Found}
       (M : Misses set present′ m) where
     once : twice [] tree (documentPlaces tree) ≡ none
-    once = found-none (twice [] tree (documentPlaces tree)) (sym none-twice ∙ F .finds (documentsOf tree) bundle none-yet .answer end-is)
+    once = found-none (twice [] tree (documentPlaces tree)) (sym none-twice ∙ finds (documentsOf tree) bundle .answer end-is)
 
     module _ (root : Document) (others : List Document) (documents : documentsOf tree ≡ root ∷ others) where
       abbrev numbers : List ℕ
@@ -82,15 +93,15 @@ module _ (tree : List ℕ) {x : Shape} (shape-is : x ≡ shapeOf tree) (fine-is 
       bundled = rw documents at bundle
 
       distinct : Distinct (root ∷ others)
-      distinct = F .finds (root ∷ others) bundled none-yet .distinct none-twice
+      distinct = finds (root ∷ others) bundled .distinct none-twice
 
       chosen : SetIs set numbers
-      chosen = N .needs root others bundled distinct (rw empty₂ (set-empty 16384 refl))
+      chosen = N .needs root others bundled distinct (room (root ∷ others) bundled) empty
 
       absent : m ≡ foundOf (missing (root ∷ others) numbers)
       absent =
           M .misses (root ∷ others) numbers (needed-ascends root others) (needed-below root others (bundled .numbers)) chosen
-          (F .finds (root ∷ others) bundled none-yet .present none-twice)
+          (finds (root ∷ others) bundled .present none-twice)
 
       so-far : (lengths : List ℕ) → answer tree lengths ≡ answerNeeded (missing (root ∷ others) numbers) numbers (root ∷ others) (limitsOf lengths) newContext
       unfolding answer answerFrom answerBundle
@@ -117,6 +128,7 @@ module _ (tree : List ℕ) {x : Shape} (shape-is : x ≡ shapeOf tree) (fine-is 
                   bundle = rw (← end-is) bundled;
                   distinct = distinct;
                   chosen = chosen;
+                  room = rw kept (room (root ∷ others) bundled);
                   there = there;
                   answers = λ lengths. so-far lengths ∙ rw there;
                 },

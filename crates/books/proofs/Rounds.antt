@@ -25,7 +25,7 @@ use Rattle.building.proofs.Filling.{over-fits, over-here}
 use Rattle.building.proofs.Notes.{over-longer}
 use Rattle.documents.specs.declared.book.Book as struct
 use Rattle.bodies.specs.Meets.{skipC}
-use Rattle.books.specs.Sets.{addBit, SetIs, Ascends, setSize}
+use Rattle.books.specs.Sets.{addBit, SetIs, Ascends}
 use Rattle.books.specs.Solving.{InSets, bookUnit, booksOf, Stands, Ready, FindsReady, Brings}
 use Rattle.documents.specs.Shelf.{shelf, Keeping, Shelved}
 use Rattle.documents.specs.Documents.{Resting, MeetsDocument}
@@ -35,7 +35,7 @@ use Rattle.books.proofs.Steadfast.{calm-definitions, drive-longer, afte
 use Rattle.documents.proofs.PuttingAway.{putAway, put-away}
 use Rattle.books.proofs.Lefts.{all-ready, files-length, files-at, leaves-are}
 use Rattle.books.proofs.StandsLaws.{without-length, without-ascends, without-missing}
-use Rattle.books.proofs.FileLists.{set-add}
+use Rattle.books.proofs.FileLists.{addBit-length, set-add}
 use Rattle.bodies.proofs.Tokens.{skip-law}
 
 module _ (calm : (d : Definition) → Calms (compileDefinition d)) {tree : List ℕ} {end done count : ℕ} {set books : List ℕ} {s : struct.Book}
@@ -66,19 +66,19 @@ module _ (calm : (d : Definition) → Calms (compileDefinition d)) {tree : List 
 same-files : {as′ bs : List Assembly} {x y : ℕ} → as′ ≡ bs → x ≡ y → filesOf as′ ++ (x ∷ []) ≡ filesOf bs ++ (y ∷ [])
 same-files p q = rw (p, q)
 
-in-sets : (ds : List Document) → InSets ds → All (λ (d : Document). d .filename < setSize) ds
-in-sets [] h = none
-in-sets (d ∷ ds) h = h .0 & in-sets ds (h .2)
+in-sets : (size : ℕ) (ds : List Document) → InSets size ds → All (λ (d : Document). d .filename < size) ds
+in-sets size [] h = none
+in-sets size (d ∷ ds) h = h .0 & in-sets size ds (h .2)
 
 -- what is known after a book was compiled
-record Round (ds : List Document) (tree : List ℕ) (file : ℕ) (left rest compiled books₁ : List ℕ) (κ : Limits) (s₁ : struct.Book)
+record Round (ds : List Document) (tree : List ℕ) (file : ℕ) (left rest compiled set books₁ : List ℕ) (κ : Limits) (s₁ : struct.Book)
     (c₁ k₁ f₁ m₁ p₁ t₁ l₁ u₁ n₁ b₁ e₁ : List ℕ) (context : Context) (uses : List Use) : Type 0 where
   book : Document
   is : ready ds compiled left ≡ some book
   same : file ≡ book .filename
   one-less : length left ≡ suc (length (without file left))
   words : books₁ ≡ booksOf ds (filesOf (context .assemblies) ++ (file ∷ [])) (without file left) rest
-  small : file < setSize
+  small : file < length set * 64
   kept : Keeping κ [] (shelf s₁ c₁ k₁ f₁ m₁ p₁ t₁ l₁ u₁ n₁ b₁ e₁) (compileDefinitions (book .definitions) (opened book context uses))
 
 module _ {tree : List ℕ} {end done count : ℕ} {set books : List ℕ} {s : struct.Book} {c k f m p t l u n b e : List ℕ} {r entry file at last : ℕ}
@@ -88,7 +88,7 @@ module _ {tree : List ℕ} {end done count : ℕ} {set books : List ℕ} {s : st
     (M : MeetsDocument tree at last done books₁ s c k f m p t l u n b e (shelf s₁ c₁ k₁ f₁ m₁ p₁ t₁ l₁ u₁ n₁ b₁ e₁)) where
   round : (ds : List Document) (left rest compiled : List ℕ) (κ : Limits) (context : Context) (uses : List Use)
       → Driving ds tree end done count left rest compiled set books κ s c k f m p t l u n b e context uses
-      → Round ds tree file left rest compiled books₁ κ s₁ c₁ k₁ f₁ m₁ p₁ t₁ l₁ u₁ n₁ b₁ e₁ context uses
+      → Round ds tree file left rest compiled set books₁ κ s₁ c₁ k₁ f₁ m₁ p₁ t₁ l₁ u₁ n₁ b₁ e₁ context uses
   round ds left rest compiled κ context uses D =
       let files = filesOf (context .assemblies) in
       let many : done ≡ length files = D .so-many ∙ sym (files-length (context .assemblies)) in
@@ -108,7 +108,7 @@ module _ {tree : List ℕ} {end done count : ℕ} {set books : List ℕ} {s : st
         same = same;
         one-less = rw split (let h = without-length file (Q .before) (Q .later) in omega arith);
         words = words;
-        small = rw same (all-ready ds compiled left (in-sets ds (D .stands .bundle .numbers)) (Q .is));
+        small = rw same (all-ready ds compiled left (in-sets (length set * 64) ds (D .stands .room)) (Q .is));
         kept = M .meets d D′ (sym ends) (all-ready ds compiled left (D .limited) (Q .is)) κ context uses (D .so-many) shelved (D .resting);
       }
     where
@@ -121,7 +121,7 @@ module _ {tree : List ℕ} {end done count : ℕ} {set books : List ℕ} {s : st
   module _ (calm : (d : Definition) → Calms (compileDefinition d)) where
     -- what comes after the book: by its errors
     follows : {ds : List Document} {left rest compiled : List ℕ} {κ : Limits} {context : Context} {uses : List Use}
-        (R : Round ds tree file left rest compiled books₁ κ s₁ c₁ k₁ f₁ m₁ p₁ t₁ l₁ u₁ n₁ b₁ e₁ context uses)
+        (R : Round ds tree file left rest compiled set books₁ κ s₁ c₁ k₁ f₁ m₁ p₁ t₁ l₁ u₁ n₁ b₁ e₁ context uses)
         → drive (length left) ds compiled left context uses
         ≡ (let x = compileDefinitions (R .book .definitions) (opened (R .book) context uses) in afterBook (x .compiler .errors) file (putAway x) (x .uses)
         (λ c′ uses′. drive (length (without file left)) ds (file ∷ compiled) (without file left) c′ uses′))
@@ -179,6 +179,7 @@ module _ {tree : List ℕ} {end done count : ℕ} {set books : List ℕ} {s : st
                 there = without-missing ds file left (D .stands .there);
                 words = rw files (R .words);
                 held = rw set-is (set-add set compiled file (D .stands .held) (R .small));
+                room = rw (set-is, addBit-length set file) (D .stands .room);
               };
               so-many = rw (length-append (x .context .assemblies) (x .assembly ∷ []), C .assemblies) (omega (arith, D .so-many));
               in-all = omega (arith, D .in-all, R .one-less);

@@ -120,17 +120,29 @@ zeros-more bits at k z s = record { zero-word = λ i a b. go i a b (ℕ-discrete
 pub after-one : (bits : List ℕ) (n : ℕ) → n < setSize → Passes bits n (n + 1)
 after-one bits n l = record { on = omega arith; last = omega arith; between = λ m a b. absurd (omega arith) }
 
-pub after-zeros : (bits : List ℕ) (n r : ℕ) {end : ℕ} → Zeros bits (n / 64) end → n < r → r ≤ end * 64 → r ≤ setSize → Passes bits n r
+-- a number further on whose word is in the run of zero words
+zero-bit : (bits : List ℕ) (n m : ℕ) {end : ℕ} → Zeros bits (n / 64) end → n < m → m / 64 < end → bitOf bits m ≡ false
 unfolding bitOf
-after-zeros bits n r {end} s on far last = record { on = on; last = last; between = clear }
+zero-bit bits n m s on inside =
+    let w : m < m / 64 * 64 + 64 = lt-div-mul-add (omega arith) in
+    let from = div-add-mod' n 64 in
+    ap (λ (y : ℕ). eqb (y / 2 ^ (m % 64) % 2) 1) (s .zero-word (m / 64) (omega arith) inside)
+    ∙ ap (λ (y : ℕ). eqb (y % 2) 1) (zero-div (2 ^ (m % 64)))
+
+pub after-zeros : (bits : List ℕ) (n r : ℕ) {end : ℕ} → Zeros bits (n / 64) end → n < r → r ≤ end * 64 → r ≤ setSize → Passes bits n r
+after-zeros bits n r {end} s on far last = record {
+  on = on;
+  last = last;
+  between = λ m a b. zero-bit bits n m s a (omega (arith, a, b, far, div-add-mod' m 64));
+}
+
+-- past the words no bit is set
+pub after-out : (bits : List ℕ) (n : ℕ) {end : ℕ} → Zeros bits (n / 64) end → length bits ≤ end → n < setSize → Passes bits n setSize
+after-out bits n {end} s short on = record { on = on; last = omega arith; between = λ m a b. clear m a (decLt (m / 64) end) }
   where
-    clear : (m : ℕ) → n < m → m < r → bitOf bits m ≡ false
-    clear m a b =
-        let w : m < m / 64 * 64 + 64 = lt-div-mul-add (omega arith) in
-        let from = div-add-mod' n 64 in
-        let at = div-add-mod' m 64 in
-        ap (λ (y : ℕ). eqb (y / 2 ^ (m % 64) % 2) 1) (s .zero-word (m / 64) (omega arith) (omega arith))
-        ∙ ap (λ (y : ℕ). eqb (y % 2) 1) (zero-div (2 ^ (m % 64)))
+    clear : (m : ℕ) → n < m → Dec (m / 64 < end) → bitOf bits m ≡ false
+    clear m a (yes h) = zero-bit bits n m s a h
+    clear m a (no h) = sym (bit-out bits m (omega arith))
 
 -- the end of a run of zero words that has the number's word is further on than the number
 pub word-past : (n : ℕ) {end : ℕ} → n / 64 < end → n < end * 64

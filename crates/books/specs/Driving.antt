@@ -24,9 +24,13 @@ use Rattle.building.specs.declared.taking.Taken.{Taken}
 use Rattle.building.specs.Held.{Filled, Marks, Sized}
 use Rattle.documents.specs.declared.book.Book as struct
 use Rattle.books.specs.Sets.{SetIs, Ascends}
-use Rattle.books.specs.Solving.{bookUnit, Bundle, Distinct, Stands}
+use Rattle.books.specs.Solving.{bookUnit, Bundle, Room, Distinct, Stands}
 use Rattle.documents.specs.Documents.{Resting}
 use Rattle.documents.specs.Shelf.{shelf, Fitted}
+
+-- nothing but zeros
+abbrev pub Zero : List ℕ → Type 0
+Zero l = l ≡ replicate (length l) 0
 
 -- the books that are left stand behind those compiled, each in an entry of area 12 that begins with its file number
 abbrev pub Leaves : List ℕ → ℕ → List ℕ → Type 0
@@ -46,6 +50,11 @@ pub record Rings (i count : ℕ) (o : List ℕ) (t : Taken) (e : List ℕ) (r : 
       → Filled 4 e (entriesFrom errorEntry 0 es) (t .count) → Rung es left e r e′
   pub stays : (t .full ≡ 0 → ⊥) → (r .full ≡ t .full) × (length e′ ≡ length e)
 
+-- an empty set with a bit for every file number, and every number that is included, of the documents that the words spell
+pub record Fresh (tree set : List ℕ) : Type 0 where
+  pub empty : Zero set
+  pub room : (ds : List Document) → Bundle ds tree 0 (length tree / 4) → Room set ds
+
 -- the work that is left after rows 2 to 6: the documents, their order's numbers, and the answer by them
 pub record Accepted (tree set : List ℕ) (root : Document) (others : List Document) : Type 0 where
   pub fine : shapeOf tree ≡ Fine
@@ -53,6 +62,7 @@ pub record Accepted (tree set : List ℕ) (root : Document) (others : List Docum
   pub bundle : Bundle (root ∷ others) tree 0 (length tree / 4)
   pub distinct : Distinct (root ∷ others)
   pub chosen : SetIs set (needed [] root others)
+  pub room : Room set (root ∷ others)
   pub there : missing (root ∷ others) (needed [] root others) ≡ none
   pub answers : (lengths : List ℕ)
       → answer tree lengths ≡ answerWorked (limitsOf lengths) (compileNeeded (needed [] root others) (root ∷ others) newContext)
@@ -94,10 +104,6 @@ pub record Drives (tree : List ℕ) (end done count : ℕ) (set books : List ℕ
   pub drives : (ds : List Document) (left rest compiled : List ℕ) (κ : Limits) (context : Context) (uses : List Use)
       → Driving ds tree end done count left rest compiled set books κ s c k f m p t l u n b e context uses
       → Outcome κ s′ c′ k′ f′ m′ p′ t′ l′ u′ n′ b′ e′ books′ rest row place (drive (length left) ds compiled left context uses)
-
--- nothing but zeros
-abbrev pub Zero : List ℕ → Type 0
-Zero l = l ≡ replicate (length l) 0
 
 -- `first_constants`: null, true and false
 pub record FirstConstants (k : List ℕ) (r : Taken) (k′ : List ℕ) : Type 0 where

@@ -1,9 +1,9 @@
--- Sets of file numbers in words: one bit for each number below 2^20, 64 to a word
+-- Sets of file numbers in words: one bit for each number, 64 to a word
 use Prim.Native.Nat.{ℕ, _+_, _/_, _%_, _^_, _≤_, _<_}
 use mathlib.Core.Path.{_≡_}
 use mathlib.Core.Bool.{Bool, true, false, cond, not}
 use mathlib.Core.List.{List, [], _∷_}
-use lib.ListN.{length, getD, set}
+use lib.ListN.{getD, set}
 use lib.Dec.{eqb}
 use lib.Bits.{bitOr}
 use Rattle.definition.specs.Book.{hasText}
@@ -12,8 +12,9 @@ use Rattle.definition.specs.Book.{hasText}
 abbrev pub setSize : ℕ
 setSize = 1048576
 
-abbrev pub setWords : ℕ
-setWords = 16384
+-- a set of 64 words has a bit for every number below this
+abbrev pub narrowSize : ℕ
+narrowSize = 4096
 
 -- `has`
 unfoldable pub bitOf : List ℕ → ℕ → Bool
@@ -27,9 +28,8 @@ pub record Added (bits : List ℕ) (n : ℕ) (after : List ℕ) (fresh : Bool) :
   pub words : after ≡ addBit bits n
   pub is-new : fresh ≡ not (bitOf bits n)
 
--- words hold the set of a list's numbers
+-- words hold the set of a list's numbers; a number past the words is not in it
 pub record SetIs (bits l : List ℕ) : Type 0 where
-  pub sized : length bits ≡ setWords
   pub has : (n : ℕ) → n < setSize → bitOf bits n ≡ hasText n l
 
 -- `zeros_end`: the words from a place up to another are 0
@@ -49,10 +49,10 @@ pub record NextIn (bits : List ℕ) (from r : ℕ) : Type 0 where
   pub between : (n : ℕ) → from ≤ n → n < r → bitOf bits n ≡ false
   pub here : r < setSize → bitOf bits r ≡ true
 
--- numbers that a set has a bit for
-abbrev pub Below : List ℕ → Type 0
-Below [] = Unit {0}
-Below (n ∷ ns) = (n < setSize) × Below ns
+-- numbers below a size
+abbrev pub Below : ℕ → List ℕ → Type 0
+Below size [] = Unit {0}
+Below size (n ∷ ns) = (n < size) × Below size ns
 
 -- numbers that ascend from one on, without repeats
 abbrev pub Ascends : ℕ → List ℕ → Type 0

@@ -2,7 +2,7 @@
 -- no book stands before (a fresh call)
 use Prim.Native.Nat.{ℕ, _+_, _*_, _/_, _%_, _≤_, _<_}
 use mathlib.Core.Path.{_≡_}
-use mathlib.Core.Bool.{Bool, false, cond}
+use mathlib.Core.Bool.{Bool, true, false, cond}
 use mathlib.Core.Option.{none, some}
 use mathlib.Core.List.{List, [], _∷_, _++_}
 use lib.ListN.{length, drop}
@@ -18,18 +18,22 @@ use Rattle.building.specs.declared.scopes.Found.the-variants.{Nothing}
 use Rattle.building.specs.declared.taking.Taken.{Taken}
 use Rattle.building.specs.Taking.{taken}
 use Rattle.building.specs.Found.{foundOf}
-use Rattle.books.specs.Sets.{setSize, bitOf, addBits, allBits, SetIs, Below, Ascends}
+use Rattle.books.specs.Sets.{setSize, narrowSize, bitOf, addBits, allBits, SetIs, Below, Ascends}
 
--- every file number, and every number that is included, has a bit
-abbrev pub InSets : List Document → Type 0
-InSets [] = Unit {0}
-InSets (d ∷ ds) = (d .filename < setSize) × Below (dependencies (d .definitions)) × InSets ds
+-- every file number, and every number that is included, is below a size
+abbrev pub InSets : ℕ → List Document → Type 0
+InSets size [] = Unit {0}
+InSets size (d ∷ ds) = (d .filename < size) × Below size (dependencies (d .definitions)) × InSets size ds
+
+-- a set has a bit for each of these numbers
+abbrev pub Room : List ℕ → List Document → Type 0
+Room set ds = InSets (length set * 64) ds
 
 -- the documents that stand from a place up to the end
 pub record Bundle (ds : List Document) (tree : List ℕ) (at end : ℕ) : Type 0 where
   pub documents : DocumentsAt ds tree at
   pub fills : at + runSize sizeDoc ds ≡ end
-  pub numbers : InSets ds
+  pub numbers : InSets setSize ds
 
 -- no two documents have the same file number
 abbrev pub Distinct : List Document → Type 0
@@ -46,9 +50,9 @@ pub record Twice (tree : List ℕ) (end : ℕ) (ds : List Document) (r : Found) 
   pub distinct : r ≡ Nothing → Distinct ds
   pub present : r ≡ Nothing → SetIs after (files ds)
 
--- with an empty set to begin with
+-- with an empty set to begin with that has room
 pub record FindsTwice (tree : List ℕ) (end : ℕ) (before : List ℕ) (r : Found) (after : List ℕ) : Type 0 where
-  pub finds : (ds : List Document) → Bundle ds tree 0 end → SetIs before [] → Twice tree end ds r after
+  pub finds : (ds : List Document) → Bundle ds tree 0 end → Room before ds → SetIs before [] → Twice tree end ds r after
 
 -- `add_includes`: the includes ahead of the first other definition, from a place up to the end, into a set. Where the answer is no, none was new
 pub record Includes (tree : List ℕ) (at end : ℕ) (any : Bool) (set after : List ℕ) (r : Bool) : Type 0 where
@@ -64,14 +68,14 @@ pub record Reaches (tree : List ℕ) (at end : ℕ) (set : List ℕ) (any : Bool
   pub adds : (ds : List Document) → Bundle ds tree at end → after ≡ reachBits set ds next
   pub still : r ≡ false → (any ≡ false) × (after ≡ next)
 
--- `needed`: an empty set becomes that of the books needed
+-- `needed`: an empty set that has room becomes that of the books needed
 pub record Needs (tree : List ℕ) (end : ℕ) (set after : List ℕ) : Type 0 where
-  pub needs : (root : Document) (others : List Document) → Bundle (root ∷ others) tree 0 end → Distinct (root ∷ others) → SetIs set []
-      → SetIs after (needed [] root others)
+  pub needs : (root : Document) (others : List Document) → Bundle (root ∷ others) tree 0 end → Distinct (root ∷ others)
+      → Room set (root ∷ others) → SetIs set [] → SetIs after (needed [] root others)
 
 -- `missing`: row 6, by the sets of the books needed and of those there
 pub record Misses (set present : List ℕ) (r : Found) : Type 0 where
-  pub misses : (ds : List Document) (numbers : List ℕ) → Ascends 0 numbers → Below numbers → SetIs set numbers → SetIs present (files ds)
+  pub misses : (ds : List Document) (numbers : List ℕ) → Ascends 0 numbers → Below setSize numbers → SetIs set numbers → SetIs present (files ds)
       → r ≡ foundOf (missing ds numbers)
 
 -- the place of a file's document among those from a place on; the end where there is none
@@ -122,22 +126,33 @@ booksOf ds done left rest = done ++ (waiting ds left ++ rest)
 -- `take_books`: an entry for each book needed, where there is room for all; else the mark. With a mark set nothing changes
 pub record TakesBooks (tree : List ℕ) (end : ℕ) (set : List ℕ) (full : ℕ) (books : List ℕ) (r : Taken) (after : List ℕ) : Type 0 where
   pub marked : (full ≡ 0 → ⊥) → (r .full ≡ full) × (after ≡ books)
-  pub fits : (ds : List Document) (numbers : List ℕ) → Bundle ds tree 0 end → Ascends 0 numbers → Below numbers → SetIs set numbers → full ≡ 0
+  pub fits : (ds : List Document) (numbers : List ℕ) → Bundle ds tree 0 end → Ascends 0 numbers → Below setSize numbers → SetIs set numbers → full ≡ 0
       → length numbers ≤ entriesIn 1 (length books) → (r ≡ taken 0 (length numbers)) × (after ≡ booksOf ds [] numbers (drop (length numbers) books))
-  pub over : (ds : List Document) (numbers : List ℕ) → Bundle ds tree 0 end → Ascends 0 numbers → Below numbers → SetIs set numbers → full ≡ 0
+  pub over : (ds : List Document) (numbers : List ℕ) → Bundle ds tree 0 end → Ascends 0 numbers → Below setSize numbers → SetIs set numbers → full ≡ 0
       → entriesIn 1 (length books) < length numbers → r .full ≡ booksArea
+
+-- `narrow_includes`: the includes ahead of the first other definition, from a place up to the end, are below narrowSize
+pub record NarrowIncludes (tree : List ℕ) (at end : ℕ) (r : Bool) : Type 0 where
+  pub below : r ≡ true → (defs : List Definition) → RunAt DefinitionAt sizeD defs tree at → at + runSize sizeD defs ≡ end
+      → Below narrowSize (dependencies defs)
+
+-- `narrow`: the file numbers of the documents from a place up to the end, and the numbers they include, are below narrowSize
+pub record Narrows (tree : List ℕ) (at end : ℕ) (r : Bool) : Type 0 where
+  pub below : r ≡ true → (ds : List Document) → Bundle ds tree at end → InSets narrowSize ds
 
 -- `all_in`: whether the includes ahead of the first other definition, from a place up to the end, are all in a set
 pub record AllIncluded (tree : List ℕ) (at end : ℕ) (set : List ℕ) (r : Bool) : Type 0 where
   pub all : (defs : List Definition) → RunAt DefinitionAt sizeD defs tree at → at + runSize sizeD defs ≡ end → r ≡ allBits set (dependencies defs)
 
--- where the work stands when the next book is looked for: what is in area 12, of the books that are left all are there, and the set of those compiled
+-- where the work stands when the next book is looked for: what is in area 12, of the books that are left all are there, and the set of those compiled, which
+-- has room for the others
 pub record Stands (ds : List Document) (tree : List ℕ) (end : ℕ) (done left rest books set compiled : List ℕ) : Type 0 where
   pub bundle : Bundle ds tree 0 end
   pub limit : end ≤ mostRecords
   pub there : missing ds left ≡ none
   pub words : books ≡ booksOf ds done left rest
   pub held : SetIs set compiled
+  pub room : Room set ds
 
 -- `next_ready`: the book at entry r of area 12 is the next
 pub record Ready (ds : List Document) (tree : List ℕ) (end done : ℕ) (left books compiled : List ℕ) (r : ℕ) : Type 0 where

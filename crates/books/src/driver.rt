@@ -1,9 +1,9 @@
 // `backend/dependency_solver.rs`: the books of a bundle, one after the other, over lent areas. Private: their promise is relational.
 ghost use mathlib.Core.Path.{_≡_};
-ghost use lib.ListN.{replicate};
+ghost use lib.ListN.{length, replicate};
 ghost use Rattle.building.specs.Taking.{taken};
 ghost use Rattle.books.specs.Driving.{Rings, Fronts, FirstConstants, markOf, MarkedFrom, Emptied, begunBook};
-ghost use Rattle.books.specs.Driving.{Drives, Works};
+ghost use Rattle.books.specs.Driving.{Fresh, Drives, Works};
 ghost use Rattle.books.specs.Finishing.{Finishes, Runs};
 use crate::solver;
 use building::scopes::Found;
@@ -47,9 +47,9 @@ fn ring(done: usize, count: usize, errors: &mut [u64], books: &[u64]) -> Taken
     t
 }
 
-// Rows 2 to 6, and the set of the books needed.
-fn front(tree: &[u64], chosen: &mut [u64]) -> Row
-    requires { ⌜ now chosen ≡ replicate 16384 0 ⌝ }
+// Rows 2 to 6, and the set of the books needed, from three empty sets.
+fn front(tree: &[u64], chosen: &mut [u64], present: &mut [u64], next: &mut [u64]) -> Row
+    requires { ⌜ Fresh (now tree) (now chosen) × (now present ≡ now chosen) × (now next ≡ now chosen) ⌝ }
     ensures { λ r. ⌜ Fronts (now (tree .entry)) (r .number) (r .place) (now (chosen .exit)) ⌝ }
 {
     let shape = tree::check(tree);
@@ -58,17 +58,15 @@ fn front(tree: &[u64], chosen: &mut [u64]) -> Row
         return Row { number, place };
     }
     let end = tree.len() / 4;
-    let mut present = [0; 16384];
-    let double = solver::twice(tree, end, &mut present);
+    let double = solver::twice(tree, end, present);
     if let Found::At(place) = double {
         return Row {
             number: reply::BOOK_TWICE,
             place,
         };
     }
-    let mut next = [0; 16384];
-    solver::needed(tree, end, chosen, &mut next);
-    let absent = solver::missing(chosen, &present);
+    solver::needed(tree, end, chosen, next);
+    let absent = solver::missing(chosen, present);
     if let Found::At(place) = absent {
         return Row {
             number: reply::BOOK_MISSING,
@@ -266,7 +264,7 @@ fn begun(t: Taken, constants: usize) -> Book
     }
 }
 
-// The books that are needed, into areas of zeros.
+// The books that are needed, into areas of zeros, with an empty set for those compiled.
 fn work(
     tree: &[u64],
     chosen: &[u64],
@@ -282,7 +280,9 @@ fn work(
     breaks: &mut [u64],
     errors: &mut [u64],
     books: &mut [u64],
+    compiled: &mut [u64],
 ) -> Ended
+    requires { ⌜ now compiled ≡ replicate (length (now chosen)) 0 ⌝ }
     ensures { λ r. ⌜ Works (now (tree .entry)) (now (chosen .entry))
         (now (code .entry)) (now (constants .entry)) (now (functions .entry)) (now (models .entry)) (now (properties .entry)) (now (methods .entry))
         (now (locals .entry)) (now (publics .entry)) (now (names .entry)) (now (breaks .entry)) (now (errors .entry)) (now (books .entry)) (r .book)
@@ -309,7 +309,6 @@ fn work(
             place: 0,
         };
     }
-    let mut compiled = [0; 16384];
     drive(
         tree,
         end,
@@ -327,7 +326,7 @@ fn work(
         breaks,
         errors,
         books,
-        &mut compiled,
+        compiled,
     )
 }
 
@@ -407,7 +406,73 @@ fn finish(
     Reply::delivered(totals)
 }
 
-// The call from areas of zeros: rows 2 to 6, the work, its end.
+// The call from areas of zeros and three empty sets: rows 2 to 6, the work, its end. The third set, cleared, is that of the books compiled.
+fn run_in(
+    tree: &[u64],
+    chosen: &mut [u64],
+    present: &mut [u64],
+    next: &mut [u64],
+    code: &mut [u64],
+    constants: &mut [u64],
+    functions: &mut [u64],
+    models: &mut [u64],
+    properties: &mut [u64],
+    methods: &mut [u64],
+    locals: &mut [u64],
+    publics: &mut [u64],
+    names: &mut [u64],
+    breaks: &mut [u64],
+    errors: &mut [u64],
+    books: &mut [u64],
+) -> Reply
+    requires { ⌜ Fresh (now tree) (now chosen) × (now present ≡ now chosen) × (now next ≡ now chosen) ⌝ }
+    ensures { λ r. ⌜ Runs (now (tree .entry))
+        (now (code .entry)) (now (constants .entry)) (now (functions .entry)) (now (models .entry)) (now (properties .entry)) (now (methods .entry))
+        (now (locals .entry)) (now (publics .entry)) (now (names .entry)) (now (breaks .entry)) (now (errors .entry)) (now (books .entry))
+        (now (code .exit)) (now (constants .exit)) (now (functions .exit)) (now (models .exit)) (now (properties .exit)) (now (methods .exit))
+        (now (locals .exit)) (now (publics .exit)) (now (names .exit)) (now (breaks .exit)) (now (errors .exit)) (now (books .exit)) r ⌝ }
+{
+    let row = front(tree, chosen, present, next);
+    if row.number != 0 {
+        return Reply::refused(row.number, row.place);
+    }
+    areas::clear_from(next, 0);
+    let ended = work(
+        tree,
+        chosen,
+        code,
+        constants,
+        functions,
+        models,
+        properties,
+        methods,
+        locals,
+        publics,
+        names,
+        breaks,
+        errors,
+        books,
+        next,
+    );
+    finish(
+        ended,
+        code,
+        constants,
+        functions,
+        models,
+        properties,
+        methods,
+        locals,
+        publics,
+        names,
+        breaks,
+        errors,
+        books,
+    )
+}
+
+// The call from areas of zeros. Its sets of file numbers are short where the bundle's numbers are small: clearing and scanning long ones takes longer than
+// compiling a small bundle.
 pub(crate) fn run(
     tree: &[u64],
     code: &mut [u64],
@@ -429,29 +494,38 @@ pub(crate) fn run(
         (now (code .exit)) (now (constants .exit)) (now (functions .exit)) (now (models .exit)) (now (properties .exit)) (now (methods .exit))
         (now (locals .exit)) (now (publics .exit)) (now (names .exit)) (now (breaks .exit)) (now (errors .exit)) (now (books .exit)) r ⌝ }
 {
-    let mut chosen = [0; 16384];
-    let row = front(tree, &mut chosen);
-    if row.number != 0 {
-        return Reply::refused(row.number, row.place);
+    let end = tree.len() / 4;
+    if solver::narrow(tree, end) {
+        let mut chosen = [0; 64];
+        let mut present = [0; 64];
+        let mut next = [0; 64];
+        return run_in(
+            tree,
+            &mut chosen,
+            &mut present,
+            &mut next,
+            code,
+            constants,
+            functions,
+            models,
+            properties,
+            methods,
+            locals,
+            publics,
+            names,
+            breaks,
+            errors,
+            books,
+        );
     }
-    let ended = work(
+    let mut chosen = [0; 16384];
+    let mut present = [0; 16384];
+    let mut next = [0; 16384];
+    run_in(
         tree,
-        &chosen,
-        code,
-        constants,
-        functions,
-        models,
-        properties,
-        methods,
-        locals,
-        publics,
-        names,
-        breaks,
-        errors,
-        books,
-    );
-    finish(
-        ended,
+        &mut chosen,
+        &mut present,
+        &mut next,
         code,
         constants,
         functions,

@@ -5,7 +5,7 @@ ghost use Prim.Native.Nat.{_≤_, _<_};
 ghost use lib.ListN.{length};
 ghost use Rattle.books.specs.Sets.{bitOf, Added, NextIn, Passes, Zeros, setSize};
 ghost use Rattle.books.specs.Solving.{FindsTwice, Includes, Reaches, Needs, Misses, Lowers, Resumes, FindsNext, TakesBooks, AllIncluded};
-ghost use Rattle.books.specs.Solving.{FindsReady, Brings};
+ghost use Rattle.books.specs.Solving.{FindsReady, Brings, NarrowIncludes, Narrows};
 ghost use Rattle.words.specs.Record.{mostRecords};
 use bodies::skip;
 use building::scopes::Found;
@@ -18,6 +18,9 @@ use words::record::field;
 const SET_SIZE: u64 = 1048576;
 
 const SET_WORDS: usize = 16384;
+
+// A set of 64 words has a bit for every number below this.
+const NARROW: u64 = 4096;
 
 // A book that waits in area 12 is its file number times this and the place of its document.
 pub(crate) const BOOK_UNIT: u64 = 1048576;
@@ -61,13 +64,16 @@ fn next_in(set: &[u64], from: u64) -> u64
     n
 }
 
-// The next number, or where the number's word has no bit the first of the next word that has one, or SET_SIZE.
+// The next number, or where the number's word has no bit the first of the next word that has one, or SET_SIZE where no word has.
 fn after(set: &[u64], n: u64) -> u64
     requires { ⌜ n < setSize ⌝ }
     ensures { λ r. ⌜ Passes (now (set .entry)) n r ⌝ }
 {
     let at = (n / 64) as usize;
     let end = zeros_end(set, at);
+    if set.len() <= end {
+        return SET_SIZE;
+    }
     if end <= at {
         return n + 1;
     }
@@ -89,6 +95,44 @@ fn zeros_end(set: &[u64], at: usize) -> usize
         i += 1;
     }
     i
+}
+
+// Whether the includes ahead of the first other definition are all below NARROW.
+fn narrow_includes(tree: &[u64], at: usize, end: usize) -> bool
+    ensures { λ r. ⌜ NarrowIncludes (now (tree .entry)) at end r ⌝ }
+{
+    let mut j = at;
+    while j < end {
+        let kind = field(tree, j, record::KIND);
+        if kind != record::INCLUDE_DEFINITION {
+            return true;
+        }
+        let file = field(tree, j, record::VALUE);
+        if NARROW <= file {
+            return false;
+        }
+        j = skip(tree, j, end);
+    }
+    true
+}
+
+// Whether every file number, and every number that is included, is below NARROW.
+pub(crate) fn narrow(tree: &[u64], end: usize) -> bool
+    ensures { λ r. ⌜ Narrows (now (tree .entry)) 0 end r ⌝ }
+{
+    let mut i: usize = 0;
+    while i < end {
+        let last = skip(tree, i, end);
+        let file = field(tree, i, record::VALUE);
+        if NARROW <= file {
+            return false;
+        }
+        if !narrow_includes(tree, i + 1, last) {
+            return false;
+        }
+        i = last;
+    }
+    true
 }
 
 // Row 5: the first document whose file number an earlier one has; `present` gets the file numbers.

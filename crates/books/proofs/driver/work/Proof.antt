@@ -40,76 +40,82 @@ drive-requires c κs =
 
 same-length-4 : tie.Need-same-length-4
 same-length-4 c =
-    let c25 = c .before .before .before .before .before .before .before .before .before .before .before .before .before .before .before .before .before .before .before .before .before .before .before .before .before in
-    (c25 .drive .kept .1 .1 .1 .1 .0)
+    let c26 = c .before .before .before .before .before .before .before .before .before .before .before .before .before .before .before .before .before .before .before .before .before .before .before .before .before .before in
+    (c26 .drive .kept .1 .1 .1 .1 .0)
 
 same-length-5 : tie.Need-same-length-5
 same-length-5 c =
-    let c25 = c .before .before .before .before .before .before .before .before .before .before .before .before .before .before .before .before .before .before .before .before .before .before .before .before .before in
-    let c49 = c25 .before .before .before .before .before .before .before .before .before .before .before .before .before .before .before .before .before .before .before .before .before .before .before .before in
-    (c25 .drive .kept .1 .1 .1 .1 .1 .0) ∙ (c49 .first-constants .kept .0)
+    let c26 = c .before .before .before .before .before .before .before .before .before .before .before .before .before .before .before .before .before .before .before .before .before .before .before .before .before .before in
+    let c50 = c26 .before .before .before .before .before .before .before .before .before .before .before .before .before .before .before .before .before .before .before .before .before .before .before .before in
+    (c26 .drive .kept .1 .1 .1 .1 .1 .0) ∙ (c50 .first-constants .kept .0)
 
 same-length-6 : tie.Need-same-length-6
 same-length-6 c =
-    let c25 = c .before .before .before .before .before .before .before .before .before .before .before .before .before .before .before .before .before .before .before .before .before .before .before .before .before in
-    (c25 .drive .kept .1 .1 .1 .1 .1 .1 .0)
+    let c26 = c .before .before .before .before .before .before .before .before .before .before .before .before .before .before .before .before .before .before .before .before .before .before .before .before .before .before in
+    (c26 .drive .kept .1 .1 .1 .1 .1 .1 .0)
 
 same-length-7 : tie.Need-same-length-7
 same-length-7 c =
-    let c25 = c .before .before .before .before .before .before .before .before .before .before .before .before .before .before .before .before .before .before .before .before .before .before .before .before .before in
-    (c25 .drive .kept .1 .1 .1 .1 .1 .1 .1 .0)
+    let c26 = c .before .before .before .before .before .before .before .before .before .before .before .before .before .before .before .before .before .before .before .before .before .before .before .before .before .before in
+    (c26 .drive .kept .1 .1 .1 .1 .1 .1 .1 .0)
 
 same-length-8 : tie.Need-same-length-8
 same-length-8 c =
-    let c25 = c .before .before .before .before .before .before .before .before .before .before .before .before .before .before .before .before .before .before .before .before .before .before .before .before .before in
-    (c25 .drive .kept .1 .1 .1 .1 .1 .1 .1 .1 .0)
+    let c26 = c .before .before .before .before .before .before .before .before .before .before .before .before .before .before .before .before .before .before .before .before .before .before .before .before .before .before in
+    (c26 .drive .kept .1 .1 .1 .1 .1 .1 .1 .1 .0)
 
 same-length-9 : tie.Need-same-length-9
 same-length-9 c =
-    let c25 = c .before .before .before .before .before .before .before .before .before .before .before .before .before .before .before .before .before .before .before .before .before .before .before .before .before in
-    (c25 .drive .kept .1 .1 .1 .1 .1 .1 .1 .1 .1 .0)
+    let c26 = c .before .before .before .before .before .before .before .before .before .before .before .before .before .before .before .before .before .before .before .before .before .before .before .before .before .before in
+    (c26 .drive .kept .1 .1 .1 .1 .1 .1 .1 .1 .1 .0)
 
 same-length-10 : tie.Need-same-length-10
 same-length-10 c =
-    let c25 = c .before .before .before .before .before .before .before .before .before .before .before .before .before .before .before .before .before .before .before .before .before .before .before .before .before in
-    (c25 .drive .kept .1 .1 .1 .1 .1 .1 .1 .1 .1 .1 .0)
+    let c26 = c .before .before .before .before .before .before .before .before .before .before .before .before .before .before .before .before .before .before .before .before .before .before .before .before .before .before in
+    (c26 .drive .kept .1 .1 .1 .1 .1 .1 .1 .1 .1 .1 .0)
 
 same-length-11 : tie.Need-same-length-11
 same-length-11 c =
-    let c25 = c .before .before .before .before .before .before .before .before .before .before .before .before .before .before .before .before .before .before .before .before .before .before .before .before .before in
-    (c25 .drive .kept .1 .1 .1 .1 .1 .1 .1 .1 .1 .1 .1 .0)
+    let c26 = c .before .before .before .before .before .before .before .before .before .before .before .before .before .before .before .before .before .before .before .before .before .before .before .before .before .before in
+    (c26 .drive .kept .1 .1 .1 .1 .1 .1 .1 .1 .1 .1 .1 .0)
 
 same-length-12 : tie.Need-same-length-12
 same-length-12 c =
-    let c25 = c .before .before .before .before .before .before .before .before .before .before .before .before .before .before .before .before .before .before .before .before .before .before .before .before .before in
-    (c25 .drive .kept .1 .1 .1 .1 .1 .1 .1 .1 .1 .1 .1 .1 .0)
+    let c26 = c .before .before .before .before .before .before .before .before .before .before .before .before .before .before .before .before .before .before .before .before .before .before .before .before .before .before in
+    (c26 .drive .kept .1 .1 .1 .1 .1 .1 .1 .1 .1 .1 .1 .1 .0)
 
 same-length-13 : tie.Need-same-length-13
 same-length-13 c =
-    let c25 = c .before .before .before .before .before .before .before .before .before .before .before .before .before .before .before .before .before .before .before .before .before .before .before .before .before in
-    (c25 .drive .kept .1 .1 .1 .1 .1 .1 .1 .1 .1 .1 .1 .1 .1 .0)
+    let c26 = c .before .before .before .before .before .before .before .before .before .before .before .before .before .before .before .before .before .before .before .before .before .before .before .before .before .before in
+    (c26 .drive .kept .1 .1 .1 .1 .1 .1 .1 .1 .1 .1 .1 .1 .1 .0)
 
 same-length-14 : tie.Need-same-length-14
 same-length-14 c =
-    let c25 = c .before .before .before .before .before .before .before .before .before .before .before .before .before .before .before .before .before .before .before .before .before .before .before .before .before in
-    (c25 .drive .kept .1 .1 .1 .1 .1 .1 .1 .1 .1 .1 .1 .1 .1 .1 .0)
+    let c26 = c .before .before .before .before .before .before .before .before .before .before .before .before .before .before .before .before .before .before .before .before .before .before .before .before .before .before in
+    (c26 .drive .kept .1 .1 .1 .1 .1 .1 .1 .1 .1 .1 .1 .1 .1 .1 .0)
 
 same-length-15 : tie.Need-same-length-15
 same-length-15 c =
-    let c25 = c .before .before .before .before .before .before .before .before .before .before .before .before .before .before .before .before .before .before .before .before .before .before .before .before .before in
-    let c44 = c25 .before .before .before .before .before .before .before .before .before .before .before .before .before .before .before .before .before .before .before in
-    (c25 .drive .kept .1 .1 .1 .1 .1 .1 .1 .1 .1 .1 .1 .1 .1 .1 .1 .0) ∙ (c44 .take-books .kept .1 .1 .1 .1 .0)
+    let c26 = c .before .before .before .before .before .before .before .before .before .before .before .before .before .before .before .before .before .before .before .before .before .before .before .before .before .before in
+    let c45 = c26 .before .before .before .before .before .before .before .before .before .before .before .before .before .before .before .before .before .before .before in
+    (c26 .drive .kept .1 .1 .1 .1 .1 .1 .1 .1 .1 .1 .1 .1 .1 .1 .1 .0) ∙ (c45 .take-books .kept .1 .1 .1 .1 .0)
+
+same-length-16 : tie.Need-same-length-16
+same-length-16 c =
+    let c26 = c .before .before .before .before .before .before .before .before .before .before .before .before .before .before .before .before .before .before .before .before .before .before .before .before .before .before in
+    (c26 .drive .kept .1 .1 .1 .1 .1 .1 .1 .1 .1 .1 .1 .1 .1 .1 .1 .1 .0)
 
 returns-3 : tie.Need-returns-3
 returns-3 c =
-    let c25 = c .before .before .before .before .before .before .before .before .before .before .before .before .before .before .before .before .before .before .before .before .before .before .before .before .before in
-    let c39 = c25 .before .before .before .before .before .before .before .before .before .before .before .before .before .before in
-    let c41 = c39 .before .before in
-    let c44 = c41 .before .before .before in
-    let c49 = c44 .before .before .before .before .before in
-    work-on (c49 .first-constants .ensures) (c44 .take-books .ensures) (omega (arith, c49 .first-constants .kept)) calm-definition (c41 .begun2 .ensures)
-    (c39 .if2 .left) refl
-    (c25 .drive .ensures)
+    let c26 = c .before .before .before .before .before .before .before .before .before .before .before .before .before .before .before .before .before .before .before .before .before .before .before .before .before .before in
+    let c40 = c26 .before .before .before .before .before .before .before .before .before .before .before .before .before .before in
+    let c42 = c40 .before .before in
+    let c45 = c42 .before .before .before in
+    let c50 = c45 .before .before .before .before .before in
+    let c67 = c50 .before .before .before .before .before .before .before .before .before .before .before .before .before .before .before .before .before in
+    work-on (c50 .first-constants .ensures) (c45 .take-books .ensures) (omega (arith, c50 .first-constants .kept)) calm-definition (c42 .begun2 .ensures)
+    (c40 .if2 .left) (c67 .pre)
+    (c26 .drive .ensures)
 
 pub work-spec : {M : Type 1} → statement M
 work-spec =
@@ -124,7 +130,6 @@ work-spec =
     same-length-2
     same-length-3
     returns-2
-    (λ c. search needs)
     drive-requires
     same-length-4
     same-length-5
@@ -138,4 +143,5 @@ work-spec =
     same-length-13
     same-length-14
     same-length-15
+    same-length-16
     returns-3)
