@@ -1,6 +1,6 @@
 -- What the compile loop needs of the solver's promises: zeros are an empty set, the books needed ascend and are in the range of texts, and those that
 -- are left without one ascend and are there. Assumes nothing.
-use Prim.Native.Nat.{ℕ, zero, suc, _+_, _/_, _%_, _^_, _≤_, _<_}
+use Prim.Native.Nat.{ℕ, zero, suc, _+_, _/_, _%_, _^_, _≤_}
 use native.Mathlib.Omega.{arith}
 use native.Mathlib.Nat.{zero-div}
 use mathlib.Core.Path.{_≡_, refl, ap, _∙_}

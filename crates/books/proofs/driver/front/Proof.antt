@@ -1,7 +1,7 @@
 -- `books::driver::front` meets its contract: a row of the shape's, a book twice, a book missing, and none. Assumes nothing.
 -- Made from Proof.answers by `answers make`: edit that file, and not this one.
 use Rattle.books.proofs.FrontWays.{front-shape, front-twice, front-missing, front-ready}
-use mathlib.Core.Path.{refl, _∙_}
+use mathlib.Core.Path.{refl}
 use Rattle.books.proofs.driver.front.Statement.{statement}
 use Rattle.books.proofs.driver.front.Tie as tie
 use borrow.Author.Needs.{needs}

@@ -1,6 +1,6 @@
 -- `books::driver::run` meets its contract: with sets of 64 words where the bundle's numbers are below 4096, else with sets of 16,384. Assumes nothing.
 -- Made from Proof.answers by `answers make`: edit that file, and not this one.
-use mathlib.Core.Path.{refl, _∙_}
+use mathlib.Core.Path.{refl}
 use Rattle.books.proofs.FrontWays.{fresh-zeros}
 use Rattle.books.proofs.driver.run.Statement.{statement}
 use Rattle.books.proofs.driver.run.Tie as tie

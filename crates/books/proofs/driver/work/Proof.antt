@@ -3,7 +3,7 @@
 use Rattle.documents.proofs.DefinitionWays.{calm-definition}
 use Rattle.books.proofs.Beginning.{work-huge, work-full, work-on}
 use Rattle.documents.specs.declared.book.Book.{Book}
-use mathlib.Core.Path.{refl, ap, _∙_}
+use mathlib.Core.Path.{ap, _∙_}
 use Rattle.books.proofs.driver.work.Statement.{statement}
 use Rattle.books.proofs.driver.work.Tie as tie
 use borrow.Author.Needs.{needs}
