@@ -35,18 +35,8 @@ module _ {tree : List ℕ} {at end start count : ℕ} {locals : List ℕ} where
   pub kind-past : {kind : ℕ} {m m′ : Machine} → end ≤ at → MeetsKind kind tree at end start count locals m m′
   kind-past p = record { meets = λ e q h l. absurd (omega (arith, sizeE-pos e)) }
 
-  pub two-meets : {middle : ℕ} {m m₁ m′ : Machine} → middle ≡ skipC tree at end → MeetsE tree at middle start count locals m m₁
-      → MeetsE tree middle end start count locals m₁ m′ → MeetsTwo tree at end start count locals m m′
-  two-meets {middle} {m} {m₁} {m′} skipped A B = record { meets = go }
-    where
-      go : (a b : Expression) → ExpressionAt a tree at → ExpressionAt b tree (at + sizeE a) → at + sizeE a + sizeE b ≡ end
-          → Does start count locals m m′ (andThen (compileExpression a) (compileExpression b))
-      go a b ha hb q =
-          let mid : middle ≡ at + sizeE a = skipped ∙ skip-law tree at end (headE a ha) (sizeE-pos a) (omega arith) in
-          does-then (steady-expression a) (balanced-expression a) (A .meets a ha (sym mid)) (B .meets b (rw mid hb) (omega arith))
-
   -- the loop over expressions
-  run-end : {m : Machine} → end ≤ at → MeetsEs tree at end start count locals m m
+  pub run-end : {m : Machine} → end ≤ at → MeetsEs tree at end start count locals m m
   unfolding compileExpressions ExpressionsAt sizeE skip
   run-end {m} past = record { meets = go }
     where
@@ -54,7 +44,7 @@ module _ {tree : List ℕ} {at end start count : ℕ} {locals : List ℕ} where
       go ∅ₑ h q = record { meets = λ κ E w I H. H }
       go (e ∷ₑ es) h q = absurd (omega (arith, sizeE-pos e))
 
-  run-more : {next : ℕ} {m m₁ m′ : Machine} → at < end → next ≡ skipC tree at end → MeetsE tree at next start count locals m m₁
+  pub run-more : {next : ℕ} {m m₁ m′ : Machine} → at < end → next ≡ skipC tree at end → MeetsE tree at next start count locals m m₁
       → MeetsEs tree next end start count locals m₁ m′ → MeetsEs tree at end start count locals m m′
   unfolding compileExpressions ExpressionsAt sizeE
   run-more {next} {m} {m₁} {m′} inside skipped A B = record { meets = go }
@@ -64,6 +54,11 @@ module _ {tree : List ℕ} {at end start count : ℕ} {locals : List ℕ} where
       go (e ∷ₑ es) h q =
           let mid : next ≡ at + sizeE e = skipped ∙ skip-law tree at end (headE e (h .0)) (sizeE-pos e) (omega arith) in
           does-then (steady-expression e) (balanced-expression e) (A .meets e (h .0) (sym mid)) (B .meets es (rw mid (h .1)) (omega arith))
+
+  -- two of them
+  pub run-two : {m m′ : Machine} → MeetsEs tree at end start count locals m m′ → MeetsTwo tree at end start count locals m m′
+  unfolding compileExpressions ExpressionsAt sizeE andThen skip
+  run-two M = record { meets = λ a b ha hb q. M .meets (a ∷ₑ (b ∷ₑ ∅ₑ)) (ha, (hb, tt)) (omega arith) }
 
   -- and the count of them
   pub list-end : {n : ℕ} {m : Machine} → end ≤ at → MeetsList tree at end start count locals m m n n
@@ -133,21 +128,23 @@ module _ {tree : List ℕ} {at end start count : ℕ} {locals : List ℕ} {kind 
       below (InstanceGet t x y) h = absurd (n45 (kind-is ∙ h .0 .head .kind-is))
       below (IndexGet t x y) h = absurd (n46 (kind-is ∙ h .0 .head .kind-is))
 
-  pub leaf-more : {s s′ : FunctionState} {c c′ k k′ n b e : List ℕ} {m′ : Machine} {counted total : ℕ} → at < end → kind < 37
-      → Leafs tree at start count locals s c k n s′ c′ k′
-      → MeetsList tree (at + 1) end start count locals (machine s′ c′ k′ n b e) m′ (counted + 1) total
-      → MeetsList tree at end start count locals (machine s c k n b e) m′ counted total
-  leaf-more {s} {s′} {c} {c′} {k} {k′} {n} {b} {e} {counted = counted} inside low L M = record {
-    meets = record {
-      meets = λ es h q. run-more inside (behind tree at end inside (rw (← kind-is) low) es h q) A (M .meets) .meets es h q;
-    };
-    counted = record {
-      counts = λ es h q. count-more tree at end counted inside (behind tree at end inside (rw (← kind-is) low) es h q) (M .counted) .counts es h q;
-    };
-  }
-    where
-      A : MeetsE tree at (at + 1) start count locals (machine s c k n b e) (machine s′ c′ k′ n b e)
-      A = record { meets = λ x hx l. L .leaf x hx (rw (← kind-is) low) .does b e }
+  module _ {s s′ : FunctionState} {c c′ k k′ n b e : List ℕ} {m′ : Machine} (inside : at < end) (low : kind < 37)
+      (L : Leafs tree at start count locals s c k n s′ c′ k′) where
+    pub run-leaf : MeetsEs tree (at + 1) end start count locals (machine s′ c′ k′ n b e) m′
+        → MeetsEs tree at end start count locals (machine s c k n b e) m′
+    run-leaf M = record { meets = λ es h q. run-more inside (behind tree at end inside (rw (← kind-is) low) es h q) A M .meets es h q }
+      where
+        A : MeetsE tree at (at + 1) start count locals (machine s c k n b e) (machine s′ c′ k′ n b e)
+        A = record { meets = λ x hx l. L .leaf x hx (rw (← kind-is) low) .does b e }
+
+    pub leaf-more : {counted total : ℕ} → MeetsList tree (at + 1) end start count locals (machine s′ c′ k′ n b e) m′ (counted + 1) total
+        → MeetsList tree at end start count locals (machine s c k n b e) m′ counted total
+    leaf-more {counted} M = record {
+      meets = run-leaf (M .meets);
+      counted = record {
+        counts = λ es h q. count-more tree at end counted inside (behind tree at end inside (rw (← kind-is) low) es h q) (M .counted) .counts es h q;
+      };
+    }
 
 -- `infix` and `if_part` by their kind
 module _ {tree : List ℕ} {at end start count : ℕ} {locals : List ℕ} {kind : ℕ} (kind-is : kind ≡ kindAt tree at) {m m′ : Machine} where

@@ -36,7 +36,7 @@ pub record Leads (tree : List ℕ) (at end start count : ℕ) (locals names : Li
       → MeetsList tree (r .at) end start count locals (machine s′ c′ k′ names b e) m′ (r .count) total
       → MeetsList tree at end start count locals (machine s c k names b e) m′ n total
 
--- `two`: one expression and then another
+-- one expression and then another: the sides of an infix, and what a get has
 pub record MeetsTwo (tree : List ℕ) (at end start count : ℕ) (locals : List ℕ) (m m′ : Machine) : Type 0 where
   pub meets : (a b : Expression) → ExpressionAt a tree at → ExpressionAt b tree (at + sizeE a) → at + sizeE a + sizeE b ≡ end
       → Does start count locals m m′ (andThen (compileExpression a) (compileExpression b))

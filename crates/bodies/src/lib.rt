@@ -14,7 +14,7 @@ ghost use Rattle.bodies.specs.Looping.{LoopStart, LoopHead, LoopName, Lo
 ghost use Rattle.bodies.specs.Cells.{stateOf};
 ghost use Rattle.building.specs.Held.{machine};
 ghost use Rattle.bodies.specs.Members.{Leads};
-ghost use Rattle.bodies.specs.Members.{MeetsE, MeetsTwo, MeetsList, MeetsKind, MeetsTarget, MeetsFalse};
+ghost use Rattle.bodies.specs.Members.{MeetsE, MeetsList, MeetsKind, MeetsTarget, MeetsFalse};
 ghost use Rattle.bodies.specs.Members.{MeetsBlock, MeetsSs, MeetsS, MeetsInner, MeetsVariables, MeetsVariable, MeetsFor};
 
 mod cells;
@@ -651,7 +651,7 @@ fn expression(
             return;
         }
         if kind == record::INSTANCE_GET {
-            two(
+            expressions(
                 tree,
                 at + 1,
                 end,
@@ -669,7 +669,7 @@ fn expression(
             return;
         }
         if kind == record::INDEX_GET {
-            two(
+            expressions(
                 tree,
                 at + 1,
                 end,
@@ -751,56 +751,6 @@ fn part(
     );
 }
 
-// One expression and then another.
-fn two(
-    tree: &[u64],
-    at: usize,
-    end: usize,
-    cells: &mut [u64; 15],
-    start: usize,
-    count: usize,
-    locals: &[u64],
-    code: &mut [u64],
-    constants: &mut [u64],
-    names: &mut [u64],
-    breaks: &mut [u64],
-    errors: &mut [u64],
-)
-    ensures { λ _. ⌜ MeetsTwo (now (tree .entry)) at end start count (now (locals .entry))
-        (machine (stateOf (now (cells .entry))) (now (code .entry)) (now (constants .entry)) (now (names .entry)) (now (breaks .entry)) (now (errors .entry)))
-        (machine (stateOf (now (cells .exit))) (now (code .exit)) (now (constants .exit)) (now (names .exit)) (now (breaks .exit)) (now (errors .exit))) ⌝ }
-{
-    let middle = skip(tree, at, end);
-    part(
-        tree,
-        at,
-        middle,
-        cells,
-        start,
-        count,
-        locals,
-        code,
-        constants,
-        names,
-        breaks,
-        errors,
-    );
-    part(
-        tree,
-        middle,
-        end,
-        cells,
-        start,
-        count,
-        locals,
-        code,
-        constants,
-        names,
-        breaks,
-        errors,
-    );
-}
-
 // Expressions one after the other, and how many they are.
 fn expressions(
     tree: &[u64],
@@ -862,7 +812,7 @@ fn expressions(
     n
 }
 
-// `compile_infix_expression`.
+// `compile_infix_expression`. Its sides are looked at one after the other, so that one without parts needs no call that hands on every area.
 fn infix_part(
     tree: &[u64],
     at: usize,
@@ -921,34 +871,31 @@ fn infix_part(
             fault_in(tree, at, errors, cells, reply::ERROR_UNKNOWN_OPERATION);
             return;
         }
-        part(
-            tree,
-            at + 1,
-            middle,
-            cells,
-            start,
-            count,
-            locals,
-            code,
-            constants,
-            names,
-            breaks,
-            errors,
-        );
-        part(
-            tree,
-            middle,
-            end,
-            cells,
-            start,
-            count,
-            locals,
-            code,
-            constants,
-            names,
-            breaks,
-            errors,
-        );
+        let mut i = at + 1;
+        while i < end {
+            let kind = field(tree, i, record::KIND);
+            if kind < record::ARRAY {
+                leaf(tree, i, cells, start, count, locals, code, constants, names);
+                i += 1;
+                continue;
+            }
+            let next = skip(tree, i, end);
+            part(
+                tree,
+                i,
+                next,
+                cells,
+                start,
+                count,
+                locals,
+                code,
+                constants,
+                names,
+                breaks,
+                errors,
+            );
+            i = next;
+        }
         operation(code, cells, value, position);
         if record::INFIX_PERCENT < value {
             if value < record::INFIX_EQUAL {
@@ -1017,7 +964,7 @@ fn target(
             return;
         }
         if kind == record::INSTANCE_GET {
-            two(
+            expressions(
                 tree,
                 at + 1,
                 end,
@@ -1035,7 +982,7 @@ fn target(
             return;
         }
         if kind == record::INDEX_GET {
-            two(
+            expressions(
                 tree,
                 at + 1,
                 end,

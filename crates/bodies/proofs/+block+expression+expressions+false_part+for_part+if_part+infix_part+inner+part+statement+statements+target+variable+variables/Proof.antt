@@ -7,7 +7,7 @@ use mathlib.Core.Path.{_≡_, refl, _∙_}
 use lib.ListN.{length}
 use Rattle.building.specs.Held.{Machine, machine}
 use Rattle.bodies.specs.Cells.{stateOf}
-use Rattle.bodies.specs.Members.{MeetsList, MeetsSs, MeetsVariables}
+use Rattle.bodies.specs.Members.{MeetsEs, MeetsList, MeetsSs, MeetsVariables}
 use Rattle.bodies.proofs.ExpressionWays as e
 use Rattle.bodies.proofs.InfixWays as i
 use Rattle.bodies.proofs.IfWays as f
@@ -19,49 +19,46 @@ use borrow.Fn.Kinds.{In}
 use borrow.Fn.PlainCycle.{Measures, is, falls, and}
 use Rattle.bodies.proofs.block.Reads as block
 use Rattle.bodies.proofs.block.Kinds as block-kinds
-use Rattle.bodies.proofs.+block+expression+expressions+false_part+for_part+if_part+infix_part+inner+part+statement+statements+target+two+variable+variables.Lts-block as block-lts
+use Rattle.bodies.proofs.+block+expression+expressions+false_part+for_part+if_part+infix_part+inner+part+statement+statements+target+variable+variables.Lts-block as block-lts
 use Rattle.bodies.proofs.expression.Reads as expression
 use Rattle.bodies.proofs.expression.Kinds as expression-kinds
-use Rattle.bodies.proofs.+block+expression+expressions+false_part+for_part+if_part+infix_part+inner+part+statement+statements+target+two+variable+variables.Lts-expression as expression-lts
+use Rattle.bodies.proofs.+block+expression+expressions+false_part+for_part+if_part+infix_part+inner+part+statement+statements+target+variable+variables.Lts-expression as expression-lts
 use Rattle.bodies.proofs.expressions.Reads as expressions
 use Rattle.bodies.proofs.expressions.Kinds as expressions-kinds
-use Rattle.bodies.proofs.+block+expression+expressions+false_part+for_part+if_part+infix_part+inner+part+statement+statements+target+two+variable+variables.Lts-expressions as expressions-lts
+use Rattle.bodies.proofs.+block+expression+expressions+false_part+for_part+if_part+infix_part+inner+part+statement+statements+target+variable+variables.Lts-expressions as expressions-lts
 use Rattle.bodies.proofs.false_part.Reads as false-part
 use Rattle.bodies.proofs.false_part.Kinds as false-part-kinds
-use Rattle.bodies.proofs.+block+expression+expressions+false_part+for_part+if_part+infix_part+inner+part+statement+statements+target+two+variable+variables.Lts-false_part as false-part-lts
+use Rattle.bodies.proofs.+block+expression+expressions+false_part+for_part+if_part+infix_part+inner+part+statement+statements+target+variable+variables.Lts-false_part as false-part-lts
 use Rattle.bodies.proofs.for_part.Reads as for-part
 use Rattle.bodies.proofs.for_part.Kinds as for-part-kinds
-use Rattle.bodies.proofs.+block+expression+expressions+false_part+for_part+if_part+infix_part+inner+part+statement+statements+target+two+variable+variables.Lts-for_part as for-part-lts
+use Rattle.bodies.proofs.+block+expression+expressions+false_part+for_part+if_part+infix_part+inner+part+statement+statements+target+variable+variables.Lts-for_part as for-part-lts
 use Rattle.bodies.proofs.if_part.Reads as if-part
 use Rattle.bodies.proofs.if_part.Kinds as if-part-kinds
-use Rattle.bodies.proofs.+block+expression+expressions+false_part+for_part+if_part+infix_part+inner+part+statement+statements+target+two+variable+variables.Lts-if_part as if-part-lts
+use Rattle.bodies.proofs.+block+expression+expressions+false_part+for_part+if_part+infix_part+inner+part+statement+statements+target+variable+variables.Lts-if_part as if-part-lts
 use Rattle.bodies.proofs.infix_part.Reads as infix-part
 use Rattle.bodies.proofs.infix_part.Kinds as infix-part-kinds
-use Rattle.bodies.proofs.+block+expression+expressions+false_part+for_part+if_part+infix_part+inner+part+statement+statements+target+two+variable+variables.Lts-infix_part as infix-part-lts
+use Rattle.bodies.proofs.+block+expression+expressions+false_part+for_part+if_part+infix_part+inner+part+statement+statements+target+variable+variables.Lts-infix_part as infix-part-lts
 use Rattle.bodies.proofs.inner.Reads as inner
 use Rattle.bodies.proofs.inner.Kinds as inner-kinds
-use Rattle.bodies.proofs.+block+expression+expressions+false_part+for_part+if_part+infix_part+inner+part+statement+statements+target+two+variable+variables.Lts-inner as inner-lts
+use Rattle.bodies.proofs.+block+expression+expressions+false_part+for_part+if_part+infix_part+inner+part+statement+statements+target+variable+variables.Lts-inner as inner-lts
 use Rattle.bodies.proofs.part.Reads as part
 use Rattle.bodies.proofs.part.Kinds as part-kinds
-use Rattle.bodies.proofs.+block+expression+expressions+false_part+for_part+if_part+infix_part+inner+part+statement+statements+target+two+variable+variables.Lts-part as part-lts
+use Rattle.bodies.proofs.+block+expression+expressions+false_part+for_part+if_part+infix_part+inner+part+statement+statements+target+variable+variables.Lts-part as part-lts
 use Rattle.bodies.proofs.statement.Reads as statement′
 use Rattle.bodies.proofs.statement.Kinds as statement-kinds
-use Rattle.bodies.proofs.+block+expression+expressions+false_part+for_part+if_part+infix_part+inner+part+statement+statements+target+two+variable+variables.Lts-statement as statement-lts
+use Rattle.bodies.proofs.+block+expression+expressions+false_part+for_part+if_part+infix_part+inner+part+statement+statements+target+variable+variables.Lts-statement as statement-lts
 use Rattle.bodies.proofs.statements.Reads as statements
 use Rattle.bodies.proofs.statements.Kinds as statements-kinds
-use Rattle.bodies.proofs.+block+expression+expressions+false_part+for_part+if_part+infix_part+inner+part+statement+statements+target+two+variable+variables.Lts-statements as statements-lts
+use Rattle.bodies.proofs.+block+expression+expressions+false_part+for_part+if_part+infix_part+inner+part+statement+statements+target+variable+variables.Lts-statements as statements-lts
 use Rattle.bodies.proofs.target.Reads as target
 use Rattle.bodies.proofs.target.Kinds as target-kinds
-use Rattle.bodies.proofs.+block+expression+expressions+false_part+for_part+if_part+infix_part+inner+part+statement+statements+target+two+variable+variables.Lts-target as target-lts
-use Rattle.bodies.proofs.two.Reads as two
-use Rattle.bodies.proofs.two.Kinds as two-kinds
-use Rattle.bodies.proofs.+block+expression+expressions+false_part+for_part+if_part+infix_part+inner+part+statement+statements+target+two+variable+variables.Lts-two as two-lts
+use Rattle.bodies.proofs.+block+expression+expressions+false_part+for_part+if_part+infix_part+inner+part+statement+statements+target+variable+variables.Lts-target as target-lts
 use Rattle.bodies.proofs.variable.Reads as variable
 use Rattle.bodies.proofs.variable.Kinds as variable-kinds
-use Rattle.bodies.proofs.+block+expression+expressions+false_part+for_part+if_part+infix_part+inner+part+statement+statements+target+two+variable+variables.Lts-variable as variable-lts
+use Rattle.bodies.proofs.+block+expression+expressions+false_part+for_part+if_part+infix_part+inner+part+statement+statements+target+variable+variables.Lts-variable as variable-lts
 use Rattle.bodies.proofs.variables.Reads as variables
 use Rattle.bodies.proofs.variables.Kinds as variables-kinds
-use Rattle.bodies.proofs.+block+expression+expressions+false_part+for_part+if_part+infix_part+inner+part+statement+statements+target+two+variable+variables.Lts-variables as variables-lts
+use Rattle.bodies.proofs.+block+expression+expressions+false_part+for_part+if_part+infix_part+inner+part+statement+statements+target+variable+variables.Lts-variables as variables-lts
 use Rattle.bodies.proofs.cells.deeper.Reads as deeper-reads
 use Rattle.bodies.proofs.cells.define_local.Reads as define-local-reads
 use Rattle.bodies.proofs.cells.depth.Reads as depth-reads
@@ -94,8 +91,8 @@ use Rattle.bodies.proofs.set_name.Reads as set-name-reads
 use Rattle.bodies.proofs.skip.Reads as skip-reads
 use Rattle.words.proofs.opcode.OpCode.to_instruction.Reads as to-instruction-reads
 use Rattle.words.proofs.record.field.Reads as field-reads
-use Rattle.bodies.proofs.+block+expression+expressions+false_part+for_part+if_part+infix_part+inner+part+statement+statements+target+two+variable+variables.{statement}
-use Rattle.bodies.proofs.+block+expression+expressions+false_part+for_part+if_part+infix_part+inner+part+statement+statements+target+two+variable+variables.Tie.{close}
+use Rattle.bodies.proofs.+block+expression+expressions+false_part+for_part+if_part+infix_part+inner+part+statement+statements+target+variable+variables.{statement}
+use Rattle.bodies.proofs.+block+expression+expressions+false_part+for_part+if_part+infix_part+inner+part+statement+statements+target+variable+variables.Tie.{close}
 use borrow.Author.Needs.{needs}
 use native.Mathlib.Omega.{arith}
 
@@ -134,9 +131,6 @@ abbrev μ-statements : Measures 8 statements-kinds.ps ℕ
 
 abbrev μ-target : Measures 8 target-kinds.ps ℕ
 μ-target κs a = (a .1 .1 .0 - a .1 .0) * 4
-
-abbrev μ-two : Measures 8 two-kinds.ps ℕ
-μ-two κs a = (a .1 .1 .0 - a .1 .0) * 4 + 3
 
 abbrev μ-variable : Measures 8 variable-kinds.ps ℕ
 μ-variable κs a = (a .1 .1 .0 - a .1 .0) * 4
@@ -216,12 +210,6 @@ target-at t = and 8 target-kinds.ps (is 8 target-kinds.ps μ-target t) target.Pr
 abbrev target-below : ℕ → In 8 target-kinds.ps
 target-below t = and 8 target-kinds.ps (falls 8 target-kinds.ps _<_ μ-target t) target.Pre
 
-abbrev two-at : ℕ → In 8 two-kinds.ps
-two-at t = and 8 two-kinds.ps (is 8 two-kinds.ps μ-two t) two.Pre
-
-abbrev two-below : ℕ → In 8 two-kinds.ps
-two-below t = and 8 two-kinds.ps (falls 8 two-kinds.ps _<_ μ-two t) two.Pre
-
 abbrev variable-at : ℕ → In 8 variable-kinds.ps
 variable-at t = and 8 variable-kinds.ps (is 8 variable-kinds.ps μ-variable t) variable.Pre
 
@@ -243,6 +231,15 @@ expressions-Inv-loop tree at end cells₀ start count locals code₀ constants�
 
 abbrev expressions-μ-loop : expressions-lts.MeasureT-loop
 expressions-μ-loop tree at end cells₀ start count locals code₀ constants₀ names₀ breaks₀ errors₀ i₀ n₀ cells code constants names breaks errors i n = end - i
+
+abbrev infix-part-Inv-loop : infix-part-lts.InvT-loop
+infix-part-Inv-loop tree at end cells₀ start count locals code₀ constants₀ names₀ breaks₀ errors₀ value position middle i₀ cells code constants names breaks errors i = (at < i) × (length code ≡ length code₀) × (length constants ≡ length constants₀) × (length names ≡ length names₀)
+    × (length breaks ≡ length breaks₀) × (length errors ≡ length errors₀) × ((m : Machine) → MeetsEs tree i end start count locals
+    (machine (stateOf cells) code constants names breaks errors) m
+    → MeetsEs tree (at + 1) end start count locals (machine (stateOf cells₀) code₀ constants₀ names₀ breaks₀ errors₀) m)
+
+abbrev infix-part-μ-loop : infix-part-lts.MeasureT-loop
+infix-part-μ-loop tree at end cells₀ start count locals code₀ constants₀ names₀ breaks₀ errors₀ value position middle i₀ cells code constants names breaks errors i = end - i
 
 abbrev statements-Inv-loop : statements-lts.InvT-loop
 statements-Inv-loop tree at end cells₀ start count locals code₀ constants₀ names₀ breaks₀ errors₀ i₀ cells code constants names breaks errors i = (at ≤ i) ×
@@ -300,8 +297,6 @@ expression-calls t = (
   emit-reads.Learnt,
   skip-reads.Asked,
   skip-reads.Learnt,
-  two-below t,
-  two.Post,
   emit-opcode-reads.Asked,
   emit-opcode-reads.Learnt,
   leaf-reads.Asked,
@@ -366,6 +361,8 @@ infix-part-calls t = (
   target.Post,
   fault-in-reads.Asked,
   fault-in-reads.Learnt,
+  leaf-reads.Asked,
+  leaf-reads.Learnt,
   operation-reads.Asked,
   operation-reads.Learnt,
 )
@@ -418,16 +415,13 @@ target-calls t = (
   field-reads.Learnt,
   set-name-reads.Asked,
   set-name-reads.Learnt,
-  two-below t,
-  two.Post,
+  expressions-below t,
+  expressions.Post,
   emit-opcode-reads.Asked,
   emit-opcode-reads.Learnt,
   fault-in-reads.Asked,
   fault-in-reads.Learnt,
 )
-
-abbrev two-calls : ℕ → two-lts.Claims
-two-calls t = (skip-reads.Asked, skip-reads.Learnt, part-below t, part.Post)
 
 abbrev variable-calls : ℕ → variable-lts.Claims
 variable-calls t = (
@@ -723,8 +717,8 @@ expression-returns-6 t c =
     (c16 .expressions2 .ensures .meets)
     (c5 .to-instruction2 .ensures) (c .before .before .emit2 .ensures)
 
-expression-two-requires : (t : ℕ) → expression-lts.Need-two-requires (expression-calls t) (expression-at t) expression.Post
-expression-two-requires t c κs =
+expression-expressions-requires-3 : (t : ℕ) → expression-lts.Need-expressions-requires-3 (expression-calls t) (expression-at t) expression.Post
+expression-expressions-requires-3 t c κs =
     let c6 = c .before .before .before .before .before .before in
     let c7 = c6 .before in
     let c8 = c7 .before in
@@ -739,27 +733,27 @@ expression-two-requires t c κs =
 expression-same-length-26 : (t : ℕ) → expression-lts.Need-same-length-26 (expression-calls t) (expression-at t) expression.Post
 expression-same-length-26 t c =
     let c15 = c .before .before .before .before .before .before .before .before .before .before .before .before .before .before .before in
-    (c .before .before .emit-opcode .kept .0) ∙ (c15 .two .kept .1 .1 .1 .1 .1 .1 .1 .0)
+    (c .before .before .emit-opcode .kept .0) ∙ (c15 .expressions3 .kept .1 .1 .1 .1 .1 .1 .1 .0)
 
 expression-same-length-27 : (t : ℕ) → expression-lts.Need-same-length-27 (expression-calls t) (expression-at t) expression.Post
 expression-same-length-27 t c =
     let c15 = c .before .before .before .before .before .before .before .before .before .before .before .before .before .before .before in
-    (c15 .two .kept .1 .1 .1 .1 .1 .1 .1 .1 .0)
+    (c15 .expressions3 .kept .1 .1 .1 .1 .1 .1 .1 .1 .0)
 
 expression-same-length-28 : (t : ℕ) → expression-lts.Need-same-length-28 (expression-calls t) (expression-at t) expression.Post
 expression-same-length-28 t c =
     let c15 = c .before .before .before .before .before .before .before .before .before .before .before .before .before .before .before in
-    (c15 .two .kept .1 .1 .1 .1 .1 .1 .1 .1 .1 .0)
+    (c15 .expressions3 .kept .1 .1 .1 .1 .1 .1 .1 .1 .1 .0)
 
 expression-same-length-29 : (t : ℕ) → expression-lts.Need-same-length-29 (expression-calls t) (expression-at t) expression.Post
 expression-same-length-29 t c =
     let c15 = c .before .before .before .before .before .before .before .before .before .before .before .before .before .before .before in
-    (c15 .two .kept .1 .1 .1 .1 .1 .1 .1 .1 .1 .1 .0)
+    (c15 .expressions3 .kept .1 .1 .1 .1 .1 .1 .1 .1 .1 .1 .0)
 
 expression-same-length-30 : (t : ℕ) → expression-lts.Need-same-length-30 (expression-calls t) (expression-at t) expression.Post
 expression-same-length-30 t c =
     let c15 = c .before .before .before .before .before .before .before .before .before .before .before .before .before .before .before in
-    (c15 .two .kept .1 .1 .1 .1 .1 .1 .1 .1 .1 .1 .1 .0)
+    (c15 .expressions3 .kept .1 .1 .1 .1 .1 .1 .1 .1 .1 .1 .1 .0)
 
 expression-returns-7 : (t : ℕ) → expression-lts.Need-returns-7 (expression-calls t) (expression-at t) expression.Post
 expression-returns-7 t c =
@@ -767,10 +761,11 @@ expression-returns-7 t c =
     let c22 = c15 .before .before .before .before .before .before .before in
     let c28 = c22 .before .before .before .before .before .before in
     let c29 = c28 .before in
-    e.instance-meets (c29 .field .ensures) (c28 .field2 .ensures) (c22 .if8 .taken) (c15 .two .ensures) (c .before .before .emit-opcode .ensures)
+    e.instance-meets (c29 .field .ensures) (c28 .field2 .ensures) (c22 .if8 .taken) (e.run-two (c15 .expressions3 .ensures .meets))
+    (c .before .before .emit-opcode .ensures)
 
-expression-two-requires-2 : (t : ℕ) → expression-lts.Need-two-requires-2 (expression-calls t) (expression-at t) expression.Post
-expression-two-requires-2 t c κs =
+expression-expressions-requires-4 : (t : ℕ) → expression-lts.Need-expressions-requires-4 (expression-calls t) (expression-at t) expression.Post
+expression-expressions-requires-4 t c κs =
     let c6 = c .before .before .before .before .before .before in
     let c7 = c6 .before in
     let c8 = c7 .before in
@@ -786,27 +781,27 @@ expression-two-requires-2 t c κs =
 expression-same-length-31 : (t : ℕ) → expression-lts.Need-same-length-31 (expression-calls t) (expression-at t) expression.Post
 expression-same-length-31 t c =
     let c15 = c .before .before .before .before .before .before .before .before .before .before .before .before .before .before .before in
-    (c .before .before .emit-opcode2 .kept .0) ∙ (c15 .two2 .kept .1 .1 .1 .1 .1 .1 .1 .0)
+    (c .before .before .emit-opcode2 .kept .0) ∙ (c15 .expressions4 .kept .1 .1 .1 .1 .1 .1 .1 .0)
 
 expression-same-length-32 : (t : ℕ) → expression-lts.Need-same-length-32 (expression-calls t) (expression-at t) expression.Post
 expression-same-length-32 t c =
     let c15 = c .before .before .before .before .before .before .before .before .before .before .before .before .before .before .before in
-    (c15 .two2 .kept .1 .1 .1 .1 .1 .1 .1 .1 .0)
+    (c15 .expressions4 .kept .1 .1 .1 .1 .1 .1 .1 .1 .0)
 
 expression-same-length-33 : (t : ℕ) → expression-lts.Need-same-length-33 (expression-calls t) (expression-at t) expression.Post
 expression-same-length-33 t c =
     let c15 = c .before .before .before .before .before .before .before .before .before .before .before .before .before .before .before in
-    (c15 .two2 .kept .1 .1 .1 .1 .1 .1 .1 .1 .1 .0)
+    (c15 .expressions4 .kept .1 .1 .1 .1 .1 .1 .1 .1 .1 .0)
 
 expression-same-length-34 : (t : ℕ) → expression-lts.Need-same-length-34 (expression-calls t) (expression-at t) expression.Post
 expression-same-length-34 t c =
     let c15 = c .before .before .before .before .before .before .before .before .before .before .before .before .before .before .before in
-    (c15 .two2 .kept .1 .1 .1 .1 .1 .1 .1 .1 .1 .1 .0)
+    (c15 .expressions4 .kept .1 .1 .1 .1 .1 .1 .1 .1 .1 .1 .0)
 
 expression-same-length-35 : (t : ℕ) → expression-lts.Need-same-length-35 (expression-calls t) (expression-at t) expression.Post
 expression-same-length-35 t c =
     let c15 = c .before .before .before .before .before .before .before .before .before .before .before .before .before .before .before in
-    (c15 .two2 .kept .1 .1 .1 .1 .1 .1 .1 .1 .1 .1 .1 .0)
+    (c15 .expressions4 .kept .1 .1 .1 .1 .1 .1 .1 .1 .1 .1 .1 .0)
 
 expression-returns-8 : (t : ℕ) → expression-lts.Need-returns-8 (expression-calls t) (expression-at t) expression.Post
 expression-returns-8 t c =
@@ -814,7 +809,8 @@ expression-returns-8 t c =
     let c22 = c15 .before .before .before .before .before .before .before in
     let c29 = c22 .before .before .before .before .before .before .before in
     let c30 = c29 .before in
-    e.index-meets (c30 .field .ensures) (c29 .field2 .ensures) (c22 .if9 .taken) (c15 .two2 .ensures) (c .before .before .emit-opcode2 .ensures)
+    e.index-meets (c30 .field .ensures) (c29 .field2 .ensures) (c22 .if9 .taken) (e.run-two (c15 .expressions4 .ensures .meets))
+    (c .before .before .emit-opcode2 .ensures)
 
 expression-same-length-36 : (t : ℕ) → expression-lts.Need-same-length-36 (expression-calls t) (expression-at t) expression.Post
 expression-same-length-36 t c = (c .before .before .before .before .leaf .kept .1 .1 .1 .1 .1 .1 .0)
@@ -1167,12 +1163,12 @@ if-part-returns t c =
 if-part-returns-2 : (t : ℕ) → if-part-lts.Need-returns-2 (if-part-calls t) (if-part-at t) if-part.Post
 if-part-returns-2 t c = e.kind-past (c .if1 .left)
 
-infix-part-add-skip : (t : ℕ) → infix-part-lts.Need-add-skip (infix-part-calls t) (infix-part-at t) infix-part.Post
+infix-part-add-skip : (t : ℕ) → infix-part-lts.Need-add-skip (infix-part-calls t) (infix-part-at t) infix-part.Post infix-part-Inv-loop infix-part-μ-loop
 infix-part-add-skip t c =
     let c10 = c .before .before .before .before .before .before .before .before .before .before in
     omega (arith, c .before .before .if1 .taken, c10 .fits)
 
-infix-part-part-requires : (t : ℕ) → infix-part-lts.Need-part-requires (infix-part-calls t) (infix-part-at t) infix-part.Post
+infix-part-part-requires : (t : ℕ) → infix-part-lts.Need-part-requires (infix-part-calls t) (infix-part-at t) infix-part.Post infix-part-Inv-loop infix-part-μ-loop
 infix-part-part-requires t c κs =
     let c7 = c .before .before .before .before .before .before .before in
     let c10 = c7 .before .before .before in
@@ -1180,13 +1176,13 @@ infix-part-part-requires t c κs =
     let m = skip-inside (c18 .args .tree .now) (c18 .args .at + 1) (c18 .args .end) (omega (arith, c10 .if1 .taken)) (c7 .skip .ensures) in
     omega (arith, m, c10 .if1, c18 .pre)
 
-infix-part-add-target : (t : ℕ) → infix-part-lts.Need-add-target (infix-part-calls t) (infix-part-at t) infix-part.Post
+infix-part-add-target : (t : ℕ) → infix-part-lts.Need-add-target (infix-part-calls t) (infix-part-at t) infix-part.Post infix-part-Inv-loop infix-part-μ-loop
 infix-part-add-target t c =
     let c21 = c .before .before .before .before .before .before .before .before .before .before .before .before .before .before .before .before .before .before .before .before .before in
     let c29 = c21 .before .before .before .before .before .before .before .before in
     omega (arith, c21 .if1 .taken, c29 .fits)
 
-infix-part-target-requires : (t : ℕ) → infix-part-lts.Need-target-requires (infix-part-calls t) (infix-part-at t) infix-part.Post
+infix-part-target-requires : (t : ℕ) → infix-part-lts.Need-target-requires (infix-part-calls t) (infix-part-at t) infix-part.Post infix-part-Inv-loop infix-part-μ-loop
 infix-part-target-requires t c κs =
     let c24 = c .before .before .before .before .before .before .before .before .before .before .before .before .before .before .before .before .before .before .before .before .before .before .before .before in
     let c27 = c24 .before .before .before in
@@ -1194,37 +1190,37 @@ infix-part-target-requires t c κs =
     let m = skip-inside (c35 .args .tree .now) (c35 .args .at + 1) (c35 .args .end) (omega (arith, c27 .if1 .taken)) (c24 .skip .ensures) in
     omega (arith, m, c27 .if1, c35 .pre)
 
-infix-part-same-length : (t : ℕ) → infix-part-lts.Need-same-length (infix-part-calls t) (infix-part-at t) infix-part.Post
+infix-part-same-length : (t : ℕ) → infix-part-lts.Need-same-length (infix-part-calls t) (infix-part-at t) infix-part.Post infix-part-Inv-loop infix-part-μ-loop
 infix-part-same-length t c =
     let c10 = c .before .before .before .before .before .before .before .before .before .before in
     let c27 = c10 .before .before .before .before .before .before .before .before .before .before .before .before .before .before .before .before .before in
     (c10 .target .kept .1 .1 .1 .1 .1 .1 .1 .1 .0) ∙ (c27 .part .kept .1 .1 .1 .1 .1 .1 .1 .0)
 
-infix-part-same-length-2 : (t : ℕ) → infix-part-lts.Need-same-length-2 (infix-part-calls t) (infix-part-at t) infix-part.Post
+infix-part-same-length-2 : (t : ℕ) → infix-part-lts.Need-same-length-2 (infix-part-calls t) (infix-part-at t) infix-part.Post infix-part-Inv-loop infix-part-μ-loop
 infix-part-same-length-2 t c =
     let c10 = c .before .before .before .before .before .before .before .before .before .before in
     let c27 = c10 .before .before .before .before .before .before .before .before .before .before .before .before .before .before .before .before .before in
     (c10 .target .kept .1 .1 .1 .1 .1 .1 .1 .1 .1 .0) ∙ (c27 .part .kept .1 .1 .1 .1 .1 .1 .1 .1 .0)
 
-infix-part-same-length-3 : (t : ℕ) → infix-part-lts.Need-same-length-3 (infix-part-calls t) (infix-part-at t) infix-part.Post
+infix-part-same-length-3 : (t : ℕ) → infix-part-lts.Need-same-length-3 (infix-part-calls t) (infix-part-at t) infix-part.Post infix-part-Inv-loop infix-part-μ-loop
 infix-part-same-length-3 t c =
     let c10 = c .before .before .before .before .before .before .before .before .before .before in
     let c27 = c10 .before .before .before .before .before .before .before .before .before .before .before .before .before .before .before .before .before in
     (c10 .target .kept .1 .1 .1 .1 .1 .1 .1 .1 .1 .1 .0) ∙ (c27 .part .kept .1 .1 .1 .1 .1 .1 .1 .1 .1 .0)
 
-infix-part-same-length-4 : (t : ℕ) → infix-part-lts.Need-same-length-4 (infix-part-calls t) (infix-part-at t) infix-part.Post
+infix-part-same-length-4 : (t : ℕ) → infix-part-lts.Need-same-length-4 (infix-part-calls t) (infix-part-at t) infix-part.Post infix-part-Inv-loop infix-part-μ-loop
 infix-part-same-length-4 t c =
     let c10 = c .before .before .before .before .before .before .before .before .before .before in
     let c27 = c10 .before .before .before .before .before .before .before .before .before .before .before .before .before .before .before .before .before in
     (c10 .target .kept .1 .1 .1 .1 .1 .1 .1 .1 .1 .1 .1 .0) ∙ (c27 .part .kept .1 .1 .1 .1 .1 .1 .1 .1 .1 .1 .0)
 
-infix-part-same-length-5 : (t : ℕ) → infix-part-lts.Need-same-length-5 (infix-part-calls t) (infix-part-at t) infix-part.Post
+infix-part-same-length-5 : (t : ℕ) → infix-part-lts.Need-same-length-5 (infix-part-calls t) (infix-part-at t) infix-part.Post infix-part-Inv-loop infix-part-μ-loop
 infix-part-same-length-5 t c =
     let c10 = c .before .before .before .before .before .before .before .before .before .before in
     let c27 = c10 .before .before .before .before .before .before .before .before .before .before .before .before .before .before .before .before .before in
     (c10 .target .kept .1 .1 .1 .1 .1 .1 .1 .1 .1 .1 .1 .1 .0) ∙ (c27 .part .kept .1 .1 .1 .1 .1 .1 .1 .1 .1 .1 .1 .0)
 
-infix-part-returns : (t : ℕ) → infix-part-lts.Need-returns (infix-part-calls t) (infix-part-at t) infix-part.Post
+infix-part-returns : (t : ℕ) → infix-part-lts.Need-returns (infix-part-calls t) (infix-part-at t) infix-part.Post infix-part-Inv-loop infix-part-μ-loop
 infix-part-returns t c =
     let c10 = c .before .before .before .before .before .before .before .before .before .before in
     let c27 = c10 .before .before .before .before .before .before .before .before .before .before .before .before .before .before .before .before .before in
@@ -1233,194 +1229,225 @@ infix-part-returns t c =
     let c37 = c35 .before .before in
     i.infix-assign (c37 .field .ensures) (c35 .skip .ensures) (c34 .if2 .taken) (c27 .part .ensures) (c10 .target .ensures)
 
-infix-part-same-length-6 : (t : ℕ) → infix-part-lts.Need-same-length-6 (infix-part-calls t) (infix-part-at t) infix-part.Post
+infix-part-same-length-6 : (t : ℕ) → infix-part-lts.Need-same-length-6 (infix-part-calls t) (infix-part-at t) infix-part.Post infix-part-Inv-loop infix-part-μ-loop
 infix-part-same-length-6 t c = (c .before .before .fault-in .kept .1 .1 .0)
 
-infix-part-returns-2 : (t : ℕ) → infix-part-lts.Need-returns-2 (infix-part-calls t) (infix-part-at t) infix-part.Post
+infix-part-returns-2 : (t : ℕ) → infix-part-lts.Need-returns-2 (infix-part-calls t) (infix-part-at t) infix-part.Post infix-part-Inv-loop infix-part-μ-loop
 infix-part-returns-2 t c =
     let c5 = c .before .before .before .before .before in
     let c9 = c5 .before .before .before .before in
     let c18 = c9 .before .before .before .before .before .before .before .before .before in
     i.infix-unknown (c9 .field .ensures) (c5 .if3 .taken) (faults (c18 .args .tree .now) (c18 .args .at) 3 (c .before .before .fault-in .ensures))
 
-infix-part-add-part : (t : ℕ) → infix-part-lts.Need-add-part (infix-part-calls t) (infix-part-at t) infix-part.Post
-infix-part-add-part t c =
+infix-part-add-i : (t : ℕ) → infix-part-lts.Need-add-i (infix-part-calls t) (infix-part-at t) infix-part.Post infix-part-Inv-loop infix-part-μ-loop
+infix-part-add-i t c =
     let c5 = c .before .before .before .before .before in
     let c13 = c5 .before .before .before .before .before .before .before .before in
     omega (arith, c5 .if1 .taken, c13 .fits)
 
-infix-part-part-requires-2 : (t : ℕ) → infix-part-lts.Need-part-requires-2 (infix-part-calls t) (infix-part-at t) infix-part.Post
+infix-part-loop-holds : (t : ℕ) → infix-part-lts.Need-loop-holds (infix-part-calls t) (infix-part-at t) infix-part.Post infix-part-Inv-loop infix-part-μ-loop
+infix-part-loop-holds t c = (omega arith, refl, refl, refl, refl, refl, λ m h. h)
+
+infix-part-add-i-2 : (t : ℕ) → infix-part-lts.Need-add-i-2 (infix-part-calls t) (infix-part-at t) infix-part.Post infix-part-Inv-loop infix-part-μ-loop
+infix-part-add-i-2 t c =
+    let c11 = c .before .before .before .before .before .before .before .before .before .before .before in
+    let c26 = c11 .before .before .before .before .before .before .before .before .before .before .before .before .before .before .before in
+    omega (arith, c11 .loop-test .taken, c26 .fits)
+
+infix-part-loop-again : (t : ℕ) → infix-part-lts.Need-loop-again (infix-part-calls t) (infix-part-at t) infix-part.Post infix-part-Inv-loop infix-part-μ-loop
+infix-part-loop-again t c =
+    let c9 = c .before .before .before .before .before .before .before .before .before in
+    let c10 = c9 .before in
+    let c11 = c10 .before in
+    let c12 = c11 .before in (
+      omega (arith, c12 .loop .inv .0),
+      omega (arith, c12 .loop .inv .1, c .before .before .before .before .leaf .kept),
+      omega (
+        arith,
+        c12 .loop .inv .2,
+        c .before .before .before .before .leaf .kept,
+      ),
+      c12 .loop .inv .3,
+      c12 .loop .inv .4,
+      c12 .loop .inv .5,
+      λ m h. c12 .loop .inv .6 m (e.run-leaf (c10 .field3 .ensures) (c11 .loop-test .taken)
+          (c9 .if4 .taken) (c .before .before .before .before .leaf .ensures) h),
+    )
+
+infix-part-part-requires-2 : (t : ℕ) → infix-part-lts.Need-part-requires-2 (infix-part-calls t) (infix-part-at t) infix-part.Post infix-part-Inv-loop infix-part-μ-loop
 infix-part-part-requires-2 t c κs =
-    let c8 = c .before .before .before .before .before .before .before .before in
-    let c11 = c8 .before .before .before in
-    let c19 = c11 .before .before .before .before .before .before .before .before in
-    let m = skip-inside (c19 .args .tree .now) (c19 .args .at + 1) (c19 .args .end) (omega (arith, c11 .if1 .taken)) (c8 .skip .ensures) in
-    omega (arith, m, c11 .if1, c19 .pre)
+    let c6 = c .before .before .before .before .before .before in
+    let c9 = c6 .before .before .before in
+    let c10 = c9 .before in
+    let c24 = c10 .before .before .before .before .before .before .before .before .before .before .before .before .before .before in
+    let m = skip-more (c24 .args .tree .now) (c10 .loop .i) (c24 .args .end) (c9 .loop-test .taken) (c6 .skip2 .ensures) in
+    omega (arith, m, c10 .loop .inv .0, c9 .loop-test .taken, c24 .pre)
 
-infix-part-part-requires-3 : (t : ℕ) → infix-part-lts.Need-part-requires-3 (infix-part-calls t) (infix-part-at t) infix-part.Post
-infix-part-part-requires-3 t c κs =
-    let c25 = c .before .before .before .before .before .before .before .before .before .before .before .before .before .before .before .before .before .before .before .before .before .before .before .before .before in
-    let c28 = c25 .before .before .before in
-    let c36 = c28 .before .before .before .before .before .before .before .before in
-    let m = skip-inside (c36 .args .tree .now) (c36 .args .at + 1) (c36 .args .end) (omega (arith, c28 .if1 .taken)) (c25 .skip .ensures) in
-    omega (arith, m, c28 .if1, c36 .pre)
+infix-part-loop-less-2 : (t : ℕ) → infix-part-lts.Need-loop-less-2 (infix-part-calls t) (infix-part-at t) infix-part.Post infix-part-Inv-loop infix-part-μ-loop
+infix-part-loop-less-2 t c =
+    let c17 = c .before .before .before .before .before .before .before .before .before .before .before .before .before .before .before .before .before in
+    let c20 = c17 .before .before .before in
+    let c21 = c20 .before in
+    let c35 = c21 .before .before .before .before .before .before .before .before .before .before .before .before .before .before in
+    let m = skip-more (c35 .args .tree .now) (c21 .loop .i) (c35 .args .end) (c20 .loop-test .taken) (c17 .skip2 .ensures) in omega (
+      arith,
+      m,
+      c20 .loop-test .taken,
+    )
 
-infix-part-add-target-2 : (t : ℕ) → infix-part-lts.Need-add-target-2 (infix-part-calls t) (infix-part-at t) infix-part.Post
+infix-part-loop-again-2 : (t : ℕ) → infix-part-lts.Need-loop-again-2 (infix-part-calls t) (infix-part-at t) infix-part.Post infix-part-Inv-loop infix-part-μ-loop
+infix-part-loop-again-2 t c =
+    let c10 = c .before .before .before .before .before .before .before .before .before .before in
+    let c17 = c10 .before .before .before .before .before .before .before in
+    let c20 = c17 .before .before .before in
+    let c21 = c20 .before in
+    let c35 = c21 .before .before .before .before .before .before .before .before .before .before .before .before .before .before in
+    let m = skip-more (c35 .args .tree .now) (c21 .loop .i) (c35 .args .end) (c20 .loop-test .taken) (c17 .skip2 .ensures) in (
+      omega (arith, m, c21 .loop .inv .0),
+      omega (arith, c21 .loop .inv .1, c10 .part2 .kept),
+      omega (arith, c21 .loop .inv .2, c10 .part2 .kept),
+      omega (arith, c21 .loop .inv .3, c10 .part2 .kept),
+      omega (arith, c21 .loop .inv .4, c10 .part2 .kept),
+      omega (arith, c21 .loop .inv .5, c10 .part2 .kept),
+      λ m h. c21 .loop .inv .6 m (e.run-more (c20 .loop-test .taken) (c17 .skip2 .ensures) (c10 .part2 .ensures) h),
+    )
+
+infix-part-add-target-2 : (t : ℕ) → infix-part-lts.Need-add-target-2 (infix-part-calls t) (infix-part-at t) infix-part.Post infix-part-Inv-loop infix-part-μ-loop
 infix-part-add-target-2 t c =
-    let c46 = c .before .before .before .before .before .before .before .before .before .before .before .before .before .before .before .before .before .before .before .before .before .before .before .before .before .before .before .before .before .before .before .before .before .before .before .before .before .before .before .before .before .before .before .before .before .before in
-    let c54 = c46 .before .before .before .before .before .before .before .before in
-    omega (arith, c46 .if1 .taken, c54 .fits)
+    let c14 = c .before .before .before .before .before .before .before .before .before .before .before .before .before .before in
+    let c22 = c14 .before .before .before .before .before .before .before .before in
+    omega (arith, c14 .if1 .taken, c22 .fits)
 
-infix-part-target-requires-2 : (t : ℕ) → infix-part-lts.Need-target-requires-2 (infix-part-calls t) (infix-part-at t) infix-part.Post
+infix-part-target-requires-2 : (t : ℕ) → infix-part-lts.Need-target-requires-2 (infix-part-calls t) (infix-part-at t) infix-part.Post infix-part-Inv-loop infix-part-μ-loop
 infix-part-target-requires-2 t c κs =
-    let c49 = c .before .before .before .before .before .before .before .before .before .before .before .before .before .before .before .before .before .before .before .before .before .before .before .before .before .before .before .before .before .before .before .before .before .before .before .before .before .before .before .before .before .before .before .before .before .before .before .before .before in
-    let c52 = c49 .before .before .before in
-    let c60 = c52 .before .before .before .before .before .before .before .before in
-    let m = skip-inside (c60 .args .tree .now) (c60 .args .at + 1) (c60 .args .end) (omega (arith, c52 .if1 .taken)) (c49 .skip .ensures) in
-    omega (arith, m, c52 .if1, c60 .pre)
+    let c17 = c .before .before .before .before .before .before .before .before .before .before .before .before .before .before .before .before .before in
+    let c20 = c17 .before .before .before in
+    let c28 = c20 .before .before .before .before .before .before .before .before in
+    let m = skip-inside (c28 .args .tree .now) (c28 .args .at + 1) (c28 .args .end) (omega (arith, c20 .if1 .taken)) (c17 .skip .ensures) in
+    omega (arith, m, c20 .if1, c28 .pre)
 
-infix-part-same-length-7 : (t : ℕ) → infix-part-lts.Need-same-length-7 (infix-part-calls t) (infix-part-at t) infix-part.Post
+infix-part-same-length-7 : (t : ℕ) → infix-part-lts.Need-same-length-7 (infix-part-calls t) (infix-part-at t) infix-part.Post infix-part-Inv-loop infix-part-μ-loop
 infix-part-same-length-7 t c =
     let c10 = c .before .before .before .before .before .before .before .before .before .before in
     let c21 = c10 .before .before .before .before .before .before .before .before .before .before .before in
-    let c34 = c21 .before .before .before .before .before .before .before .before .before .before .before .before .before in
-    let c51 = c34 .before .before .before .before .before .before .before .before .before .before .before .before .before .before .before .before .before in
-    (c10 .target2 .kept .1 .1 .1 .1 .1 .1 .1 .1 .0) ∙ (c21 .operation .kept .0) ∙ (c34 .part3 .kept .1 .1 .1 .1 .1 .1 .1 .0) ∙
-    (c51 .part2 .kept .1 .1 .1 .1 .1 .1 .1 .0)
+    let c25 = c21 .before .before .before .before in
+    (c10 .target2 .kept .1 .1 .1 .1 .1 .1 .1 .1 .0) ∙ (c21 .operation .kept .0) ∙ (c25 .loop .inv .1)
 
-infix-part-same-length-8 : (t : ℕ) → infix-part-lts.Need-same-length-8 (infix-part-calls t) (infix-part-at t) infix-part.Post
+infix-part-same-length-8 : (t : ℕ) → infix-part-lts.Need-same-length-8 (infix-part-calls t) (infix-part-at t) infix-part.Post infix-part-Inv-loop infix-part-μ-loop
 infix-part-same-length-8 t c =
     let c10 = c .before .before .before .before .before .before .before .before .before .before in
-    let c34 = c10 .before .before .before .before .before .before .before .before .before .before .before .before .before .before .before .before .before .before .before .before .before .before .before .before in
-    let c51 = c34 .before .before .before .before .before .before .before .before .before .before .before .before .before .before .before .before .before in
-    (c10 .target2 .kept .1 .1 .1 .1 .1 .1 .1 .1 .1 .0) ∙ (c34 .part3 .kept .1 .1 .1 .1 .1 .1 .1 .1 .0) ∙ (c51 .part2 .kept .1 .1 .1 .1 .1 .1 .1 .1 .0)
+    let c25 = c10 .before .before .before .before .before .before .before .before .before .before .before .before .before .before .before in
+    (c10 .target2 .kept .1 .1 .1 .1 .1 .1 .1 .1 .1 .0) ∙ (c25 .loop .inv .2)
 
-infix-part-same-length-9 : (t : ℕ) → infix-part-lts.Need-same-length-9 (infix-part-calls t) (infix-part-at t) infix-part.Post
+infix-part-same-length-9 : (t : ℕ) → infix-part-lts.Need-same-length-9 (infix-part-calls t) (infix-part-at t) infix-part.Post infix-part-Inv-loop infix-part-μ-loop
 infix-part-same-length-9 t c =
     let c10 = c .before .before .before .before .before .before .before .before .before .before in
-    let c34 = c10 .before .before .before .before .before .before .before .before .before .before .before .before .before .before .before .before .before .before .before .before .before .before .before .before in
-    let c51 = c34 .before .before .before .before .before .before .before .before .before .before .before .before .before .before .before .before .before in
-    (c10 .target2 .kept .1 .1 .1 .1 .1 .1 .1 .1 .1 .1 .0) ∙ (c34 .part3 .kept .1 .1 .1 .1 .1 .1 .1 .1 .1 .0) ∙ (c51 .part2 .kept .1 .1 .1 .1 .1 .1 .1 .1 .1 .0)
+    let c25 = c10 .before .before .before .before .before .before .before .before .before .before .before .before .before .before .before in
+    (c10 .target2 .kept .1 .1 .1 .1 .1 .1 .1 .1 .1 .1 .0) ∙ (c25 .loop .inv .3)
 
-infix-part-same-length-10 : (t : ℕ) → infix-part-lts.Need-same-length-10 (infix-part-calls t) (infix-part-at t) infix-part.Post
+infix-part-same-length-10 : (t : ℕ) → infix-part-lts.Need-same-length-10 (infix-part-calls t) (infix-part-at t) infix-part.Post infix-part-Inv-loop infix-part-μ-loop
 infix-part-same-length-10 t c =
     let c10 = c .before .before .before .before .before .before .before .before .before .before in
-    let c34 = c10 .before .before .before .before .before .before .before .before .before .before .before .before .before .before .before .before .before .before .before .before .before .before .before .before in
-    let c51 = c34 .before .before .before .before .before .before .before .before .before .before .before .before .before .before .before .before .before in
-    (c10 .target2 .kept .1 .1 .1 .1 .1 .1 .1 .1 .1 .1 .1 .0) ∙ (c34 .part3 .kept .1 .1 .1 .1 .1 .1 .1 .1 .1 .1 .0) ∙
-    (c51 .part2 .kept .1 .1 .1 .1 .1 .1 .1 .1 .1 .1 .0)
+    let c25 = c10 .before .before .before .before .before .before .before .before .before .before .before .before .before .before .before in
+    (c10 .target2 .kept .1 .1 .1 .1 .1 .1 .1 .1 .1 .1 .1 .0) ∙ (c25 .loop .inv .4)
 
-infix-part-same-length-11 : (t : ℕ) → infix-part-lts.Need-same-length-11 (infix-part-calls t) (infix-part-at t) infix-part.Post
+infix-part-same-length-11 : (t : ℕ) → infix-part-lts.Need-same-length-11 (infix-part-calls t) (infix-part-at t) infix-part.Post infix-part-Inv-loop infix-part-μ-loop
 infix-part-same-length-11 t c =
     let c10 = c .before .before .before .before .before .before .before .before .before .before in
-    let c34 = c10 .before .before .before .before .before .before .before .before .before .before .before .before .before .before .before .before .before .before .before .before .before .before .before .before in
-    let c51 = c34 .before .before .before .before .before .before .before .before .before .before .before .before .before .before .before .before .before in
-    (c10 .target2 .kept .1 .1 .1 .1 .1 .1 .1 .1 .1 .1 .1 .1 .0) ∙ (c34 .part3 .kept .1 .1 .1 .1 .1 .1 .1 .1 .1 .1 .1 .0) ∙
-    (c51 .part2 .kept .1 .1 .1 .1 .1 .1 .1 .1 .1 .1 .1 .0)
+    let c25 = c10 .before .before .before .before .before .before .before .before .before .before .before .before .before .before .before in
+    (c10 .target2 .kept .1 .1 .1 .1 .1 .1 .1 .1 .1 .1 .1 .1 .0) ∙ (c25 .loop .inv .5)
 
-infix-part-returns-3 : (t : ℕ) → infix-part-lts.Need-returns-3 (infix-part-calls t) (infix-part-at t) infix-part.Post
+infix-part-returns-3 : (t : ℕ) → infix-part-lts.Need-returns-3 (infix-part-calls t) (infix-part-at t) infix-part.Post infix-part-Inv-loop infix-part-μ-loop
 infix-part-returns-3 t c =
     let c10 = c .before .before .before .before .before .before .before .before .before .before in
     let c17 = c10 .before .before .before .before .before .before .before in
     let c18 = c17 .before in
     let c21 = c18 .before .before .before in
-    let c34 = c21 .before .before .before .before .before .before .before .before .before .before .before .before .before in
-    let c51 = c34 .before .before .before .before .before .before .before .before .before .before .before .before .before .before .before .before .before in
-    let c58 = c51 .before .before .before .before .before .before .before in
-    let c59 = c58 .before in
-    let c60 = c59 .before in
-    let c61 = c60 .before in
-    let c62 = c61 .before in
-    i.infix-compound (c62 .field .ensures) (c61 .field2 .ensures) (c60 .skip .ensures) (c59 .if2 .left) (c58 .if3 .left) (e.two-meets (c60 .skip .ensures)
-    (c51 .part2 .ensures) (c34 .part3 .ensures)) (c21 .operation .ensures) (c18 .if4 .taken)
-    (c17 .if5 .taken)
-    (c10 .target2 .ensures)
+    let c24 = c21 .before .before .before in
+    let c25 = c24 .before in
+    let c26 = c25 .before in
+    let c27 = c26 .before in
+    let c28 = c27 .before in
+    let c29 = c28 .before in
+    let c30 = c29 .before in
+    i.infix-compound (c30 .field .ensures) (c29 .field2 .ensures) (c28 .skip .ensures) (c27 .if2 .left) (c26 .if3 .left)
+    (e.run-two (c25 .loop .inv .6 _ (e.run-end (c24 .loop-test .left)))) (c21 .operation .ensures) (c18 .if5 .taken) (c17 .if6 .taken) (c10 .target2 .ensures)
 
-infix-part-same-length-12 : (t : ℕ) → infix-part-lts.Need-same-length-12 (infix-part-calls t) (infix-part-at t) infix-part.Post
+infix-part-same-length-12 : (t : ℕ) → infix-part-lts.Need-same-length-12 (infix-part-calls t) (infix-part-at t) infix-part.Post infix-part-Inv-loop infix-part-μ-loop
 infix-part-same-length-12 t c =
-    let c17 = c .before .before .before .before .before .before .before .before .before .before .before .before .before .before .before .before .before in
-    let c34 = c17 .before .before .before .before .before .before .before .before .before .before .before .before .before .before .before .before .before in
-    (c .before .before .before .before .operation .kept .0) ∙ (c17 .part3 .kept .1 .1 .1 .1 .1 .1 .1 .0) ∙ (c34 .part2 .kept .1 .1 .1 .1 .1 .1 .1 .0)
+    let c8 = c .before .before .before .before .before .before .before .before in
+    (c .before .before .before .before .operation .kept .0) ∙ (c8 .loop .inv .1)
 
-infix-part-same-length-13 : (t : ℕ) → infix-part-lts.Need-same-length-13 (infix-part-calls t) (infix-part-at t) infix-part.Post
+infix-part-same-length-13 : (t : ℕ) → infix-part-lts.Need-same-length-13 (infix-part-calls t) (infix-part-at t) infix-part.Post infix-part-Inv-loop infix-part-μ-loop
 infix-part-same-length-13 t c =
-    let c17 = c .before .before .before .before .before .before .before .before .before .before .before .before .before .before .before .before .before in
-    let c34 = c17 .before .before .before .before .before .before .before .before .before .before .before .before .before .before .before .before .before in
-    (c17 .part3 .kept .1 .1 .1 .1 .1 .1 .1 .1 .0) ∙ (c34 .part2 .kept .1 .1 .1 .1 .1 .1 .1 .1 .0)
+    let c8 = c .before .before .before .before .before .before .before .before in
+    (c8 .loop .inv .2)
 
-infix-part-same-length-14 : (t : ℕ) → infix-part-lts.Need-same-length-14 (infix-part-calls t) (infix-part-at t) infix-part.Post
+infix-part-same-length-14 : (t : ℕ) → infix-part-lts.Need-same-length-14 (infix-part-calls t) (infix-part-at t) infix-part.Post infix-part-Inv-loop infix-part-μ-loop
 infix-part-same-length-14 t c =
-    let c17 = c .before .before .before .before .before .before .before .before .before .before .before .before .before .before .before .before .before in
-    let c34 = c17 .before .before .before .before .before .before .before .before .before .before .before .before .before .before .before .before .before in
-    (c17 .part3 .kept .1 .1 .1 .1 .1 .1 .1 .1 .1 .0) ∙ (c34 .part2 .kept .1 .1 .1 .1 .1 .1 .1 .1 .1 .0)
+    let c8 = c .before .before .before .before .before .before .before .before in
+    (c8 .loop .inv .3)
 
-infix-part-same-length-15 : (t : ℕ) → infix-part-lts.Need-same-length-15 (infix-part-calls t) (infix-part-at t) infix-part.Post
+infix-part-same-length-15 : (t : ℕ) → infix-part-lts.Need-same-length-15 (infix-part-calls t) (infix-part-at t) infix-part.Post infix-part-Inv-loop infix-part-μ-loop
 infix-part-same-length-15 t c =
-    let c17 = c .before .before .before .before .before .before .before .before .before .before .before .before .before .before .before .before .before in
-    let c34 = c17 .before .before .before .before .before .before .before .before .before .before .before .before .before .before .before .before .before in
-    (c17 .part3 .kept .1 .1 .1 .1 .1 .1 .1 .1 .1 .1 .0) ∙ (c34 .part2 .kept .1 .1 .1 .1 .1 .1 .1 .1 .1 .1 .0)
+    let c8 = c .before .before .before .before .before .before .before .before in
+    (c8 .loop .inv .4)
 
-infix-part-same-length-16 : (t : ℕ) → infix-part-lts.Need-same-length-16 (infix-part-calls t) (infix-part-at t) infix-part.Post
+infix-part-same-length-16 : (t : ℕ) → infix-part-lts.Need-same-length-16 (infix-part-calls t) (infix-part-at t) infix-part.Post infix-part-Inv-loop infix-part-μ-loop
 infix-part-same-length-16 t c =
-    let c17 = c .before .before .before .before .before .before .before .before .before .before .before .before .before .before .before .before .before in
-    let c34 = c17 .before .before .before .before .before .before .before .before .before .before .before .before .before .before .before .before .before in
-    (c17 .part3 .kept .1 .1 .1 .1 .1 .1 .1 .1 .1 .1 .1 .0) ∙ (c34 .part2 .kept .1 .1 .1 .1 .1 .1 .1 .1 .1 .1 .1 .0)
+    let c8 = c .before .before .before .before .before .before .before .before in
+    (c8 .loop .inv .5)
 
-infix-part-returns-4 : (t : ℕ) → infix-part-lts.Need-returns-4 (infix-part-calls t) (infix-part-at t) infix-part.Post
+infix-part-returns-4 : (t : ℕ) → infix-part-lts.Need-returns-4 (infix-part-calls t) (infix-part-at t) infix-part.Post infix-part-Inv-loop infix-part-μ-loop
 infix-part-returns-4 t c =
-    let c17 = c .before .before .before .before .before .before .before .before .before .before .before .before .before .before .before .before .before in
-    let c34 = c17 .before .before .before .before .before .before .before .before .before .before .before .before .before .before .before .before .before in
-    let c41 = c34 .before .before .before .before .before .before .before in
-    let c42 = c41 .before in
-    let c43 = c42 .before in
-    let c44 = c43 .before in
-    let c45 = c44 .before in
-    i.infix-plain (c45 .field .ensures) (c44 .field2 .ensures) (c42 .if2 .left) (c41 .if3 .left) (e.two-meets (c43 .skip .ensures) (c34 .part2 .ensures)
-    (c17 .part3 .ensures)) (c .before .before .before .before .operation .ensures) (λ a l. omega (arith, c .if5 .left, l))
+    let c7 = c .before .before .before .before .before .before .before in
+    let c8 = c7 .before in
+    let c9 = c8 .before in
+    let c10 = c9 .before in
+    let c12 = c10 .before .before in
+    let c13 = c12 .before in
+    i.infix-plain (c13 .field .ensures) (c12 .field2 .ensures) (c10 .if2 .left) (c9 .if3 .left) (e.run-two (c8 .loop .inv .6 _ (e.run-end
+    (c7 .loop-test .left))))
+    (c .before .before .before .before .operation .ensures) (λ a l. omega (arith, c .if6 .left, l))
 
-infix-part-same-length-17 : (t : ℕ) → infix-part-lts.Need-same-length-17 (infix-part-calls t) (infix-part-at t) infix-part.Post
+infix-part-same-length-17 : (t : ℕ) → infix-part-lts.Need-same-length-17 (infix-part-calls t) (infix-part-at t) infix-part.Post infix-part-Inv-loop infix-part-μ-loop
 infix-part-same-length-17 t c =
-    let c16 = c .before .before .before .before .before .before .before .before .before .before .before .before .before .before .before .before in
-    let c33 = c16 .before .before .before .before .before .before .before .before .before .before .before .before .before .before .before .before .before in
-    (c .before .before .before .operation .kept .0) ∙ (c16 .part3 .kept .1 .1 .1 .1 .1 .1 .1 .0) ∙ (c33 .part2 .kept .1 .1 .1 .1 .1 .1 .1 .0)
+    let c7 = c .before .before .before .before .before .before .before in
+    (c .before .before .before .operation .kept .0) ∙ (c7 .loop .inv .1)
 
-infix-part-same-length-18 : (t : ℕ) → infix-part-lts.Need-same-length-18 (infix-part-calls t) (infix-part-at t) infix-part.Post
+infix-part-same-length-18 : (t : ℕ) → infix-part-lts.Need-same-length-18 (infix-part-calls t) (infix-part-at t) infix-part.Post infix-part-Inv-loop infix-part-μ-loop
 infix-part-same-length-18 t c =
-    let c16 = c .before .before .before .before .before .before .before .before .before .before .before .before .before .before .before .before in
-    let c33 = c16 .before .before .before .before .before .before .before .before .before .before .before .before .before .before .before .before .before in
-    (c16 .part3 .kept .1 .1 .1 .1 .1 .1 .1 .1 .0) ∙ (c33 .part2 .kept .1 .1 .1 .1 .1 .1 .1 .1 .0)
+    let c7 = c .before .before .before .before .before .before .before in
+    (c7 .loop .inv .2)
 
-infix-part-same-length-19 : (t : ℕ) → infix-part-lts.Need-same-length-19 (infix-part-calls t) (infix-part-at t) infix-part.Post
+infix-part-same-length-19 : (t : ℕ) → infix-part-lts.Need-same-length-19 (infix-part-calls t) (infix-part-at t) infix-part.Post infix-part-Inv-loop infix-part-μ-loop
 infix-part-same-length-19 t c =
-    let c16 = c .before .before .before .before .before .before .before .before .before .before .before .before .before .before .before .before in
-    let c33 = c16 .before .before .before .before .before .before .before .before .before .before .before .before .before .before .before .before .before in
-    (c16 .part3 .kept .1 .1 .1 .1 .1 .1 .1 .1 .1 .0) ∙ (c33 .part2 .kept .1 .1 .1 .1 .1 .1 .1 .1 .1 .0)
+    let c7 = c .before .before .before .before .before .before .before in
+    (c7 .loop .inv .3)
 
-infix-part-same-length-20 : (t : ℕ) → infix-part-lts.Need-same-length-20 (infix-part-calls t) (infix-part-at t) infix-part.Post
+infix-part-same-length-20 : (t : ℕ) → infix-part-lts.Need-same-length-20 (infix-part-calls t) (infix-part-at t) infix-part.Post infix-part-Inv-loop infix-part-μ-loop
 infix-part-same-length-20 t c =
-    let c16 = c .before .before .before .before .before .before .before .before .before .before .before .before .before .before .before .before in
-    let c33 = c16 .before .before .before .before .before .before .before .before .before .before .before .before .before .before .before .before .before in
-    (c16 .part3 .kept .1 .1 .1 .1 .1 .1 .1 .1 .1 .1 .0) ∙ (c33 .part2 .kept .1 .1 .1 .1 .1 .1 .1 .1 .1 .1 .0)
+    let c7 = c .before .before .before .before .before .before .before in
+    (c7 .loop .inv .4)
 
-infix-part-same-length-21 : (t : ℕ) → infix-part-lts.Need-same-length-21 (infix-part-calls t) (infix-part-at t) infix-part.Post
+infix-part-same-length-21 : (t : ℕ) → infix-part-lts.Need-same-length-21 (infix-part-calls t) (infix-part-at t) infix-part.Post infix-part-Inv-loop infix-part-μ-loop
 infix-part-same-length-21 t c =
-    let c16 = c .before .before .before .before .before .before .before .before .before .before .before .before .before .before .before .before in
-    let c33 = c16 .before .before .before .before .before .before .before .before .before .before .before .before .before .before .before .before .before in
-    (c16 .part3 .kept .1 .1 .1 .1 .1 .1 .1 .1 .1 .1 .1 .0) ∙ (c33 .part2 .kept .1 .1 .1 .1 .1 .1 .1 .1 .1 .1 .1 .0)
+    let c7 = c .before .before .before .before .before .before .before in
+    (c7 .loop .inv .5)
 
-infix-part-returns-5 : (t : ℕ) → infix-part-lts.Need-returns-5 (infix-part-calls t) (infix-part-at t) infix-part.Post
+infix-part-returns-5 : (t : ℕ) → infix-part-lts.Need-returns-5 (infix-part-calls t) (infix-part-at t) infix-part.Post infix-part-Inv-loop infix-part-μ-loop
 infix-part-returns-5 t c =
-    let c16 = c .before .before .before .before .before .before .before .before .before .before .before .before .before .before .before .before in
-    let c33 = c16 .before .before .before .before .before .before .before .before .before .before .before .before .before .before .before .before .before in
-    let c40 = c33 .before .before .before .before .before .before .before in
-    let c41 = c40 .before in
-    let c42 = c41 .before in
-    let c43 = c42 .before in
-    let c44 = c43 .before in
-    i.infix-plain (c44 .field .ensures) (c43 .field2 .ensures) (c41 .if2 .left) (c40 .if3 .left) (e.two-meets (c42 .skip .ensures) (c33 .part2 .ensures)
-    (c16 .part3 .ensures)) (c .before .before .before .operation .ensures) (λ a l. omega (arith, c .if4 .left, a))
+    let c6 = c .before .before .before .before .before .before in
+    let c7 = c6 .before in
+    let c8 = c7 .before in
+    let c9 = c8 .before in
+    let c11 = c9 .before .before in
+    let c12 = c11 .before in
+    i.infix-plain (c12 .field .ensures) (c11 .field2 .ensures) (c9 .if2 .left) (c8 .if3 .left) (e.run-two (c7 .loop .inv .6 _ (e.run-end
+    (c6 .loop-test .left))))
+    (c .before .before .before .operation .ensures) (λ a l. omega (arith, c .if5 .left, a))
 
-infix-part-returns-6 : (t : ℕ) → infix-part-lts.Need-returns-6 (infix-part-calls t) (infix-part-at t) infix-part.Post
+infix-part-returns-6 : (t : ℕ) → infix-part-lts.Need-returns-6 (infix-part-calls t) (infix-part-at t) infix-part.Post infix-part-Inv-loop infix-part-μ-loop
 infix-part-returns-6 t c = e.kind-past (c .if1 .left)
 
 inner-part-requires : (t : ℕ) → inner-lts.Need-part-requires (inner-calls t) (inner-at t) inner.Post
@@ -1763,8 +1790,8 @@ target-returns-2 t c =
     let c11 = c9 .before .before in
     i.target-name (c11 .field .ensures) (c9 .if3 .taken) (c .before .before .before .before .set-name .ensures)
 
-target-two-requires : (t : ℕ) → target-lts.Need-two-requires (target-calls t) (target-at t) target.Post
-target-two-requires t c κs =
+target-expressions-requires : (t : ℕ) → target-lts.Need-expressions-requires (target-calls t) (target-at t) target.Post
+target-expressions-requires t c κs =
     let c6 = c .before .before .before .before .before .before in
     let c7 = c6 .before in
     let c10 = c7 .before .before .before in
@@ -1775,27 +1802,27 @@ target-two-requires t c κs =
 target-same-length-4 : (t : ℕ) → target-lts.Need-same-length-4 (target-calls t) (target-at t) target.Post
 target-same-length-4 t c =
     let c15 = c .before .before .before .before .before .before .before .before .before .before .before .before .before .before .before in
-    (c .before .before .emit-opcode .kept .0) ∙ (c15 .two .kept .1 .1 .1 .1 .1 .1 .1 .0)
+    (c .before .before .emit-opcode .kept .0) ∙ (c15 .expressions .kept .1 .1 .1 .1 .1 .1 .1 .0)
 
 target-same-length-5 : (t : ℕ) → target-lts.Need-same-length-5 (target-calls t) (target-at t) target.Post
 target-same-length-5 t c =
     let c15 = c .before .before .before .before .before .before .before .before .before .before .before .before .before .before .before in
-    (c15 .two .kept .1 .1 .1 .1 .1 .1 .1 .1 .0)
+    (c15 .expressions .kept .1 .1 .1 .1 .1 .1 .1 .1 .0)
 
 target-same-length-6 : (t : ℕ) → target-lts.Need-same-length-6 (target-calls t) (target-at t) target.Post
 target-same-length-6 t c =
     let c15 = c .before .before .before .before .before .before .before .before .before .before .before .before .before .before .before in
-    (c15 .two .kept .1 .1 .1 .1 .1 .1 .1 .1 .1 .0)
+    (c15 .expressions .kept .1 .1 .1 .1 .1 .1 .1 .1 .1 .0)
 
 target-same-length-7 : (t : ℕ) → target-lts.Need-same-length-7 (target-calls t) (target-at t) target.Post
 target-same-length-7 t c =
     let c15 = c .before .before .before .before .before .before .before .before .before .before .before .before .before .before .before in
-    (c15 .two .kept .1 .1 .1 .1 .1 .1 .1 .1 .1 .1 .0)
+    (c15 .expressions .kept .1 .1 .1 .1 .1 .1 .1 .1 .1 .1 .0)
 
 target-same-length-8 : (t : ℕ) → target-lts.Need-same-length-8 (target-calls t) (target-at t) target.Post
 target-same-length-8 t c =
     let c15 = c .before .before .before .before .before .before .before .before .before .before .before .before .before .before .before in
-    (c15 .two .kept .1 .1 .1 .1 .1 .1 .1 .1 .1 .1 .1 .0)
+    (c15 .expressions .kept .1 .1 .1 .1 .1 .1 .1 .1 .1 .1 .1 .0)
 
 target-returns-3 : (t : ℕ) → target-lts.Need-returns-3 (target-calls t) (target-at t) target.Post
 target-returns-3 t c =
@@ -1803,10 +1830,11 @@ target-returns-3 t c =
     let c22 = c15 .before .before .before .before .before .before .before in
     let c24 = c22 .before .before in
     let c25 = c24 .before in
-    i.target-instance (c25 .field .ensures) (c24 .field2 .ensures) (c22 .if4 .taken) (c15 .two .ensures) (c .before .before .emit-opcode .ensures)
+    i.target-instance (c25 .field .ensures) (c24 .field2 .ensures) (c22 .if4 .taken) (e.run-two (c15 .expressions .ensures .meets))
+    (c .before .before .emit-opcode .ensures)
 
-target-two-requires-2 : (t : ℕ) → target-lts.Need-two-requires-2 (target-calls t) (target-at t) target.Post
-target-two-requires-2 t c κs =
+target-expressions-requires-2 : (t : ℕ) → target-lts.Need-expressions-requires-2 (target-calls t) (target-at t) target.Post
+target-expressions-requires-2 t c κs =
     let c6 = c .before .before .before .before .before .before in
     let c7 = c6 .before in
     let c8 = c7 .before in
@@ -1818,27 +1846,27 @@ target-two-requires-2 t c κs =
 target-same-length-9 : (t : ℕ) → target-lts.Need-same-length-9 (target-calls t) (target-at t) target.Post
 target-same-length-9 t c =
     let c15 = c .before .before .before .before .before .before .before .before .before .before .before .before .before .before .before in
-    (c .before .before .emit-opcode2 .kept .0) ∙ (c15 .two2 .kept .1 .1 .1 .1 .1 .1 .1 .0)
+    (c .before .before .emit-opcode2 .kept .0) ∙ (c15 .expressions2 .kept .1 .1 .1 .1 .1 .1 .1 .0)
 
 target-same-length-10 : (t : ℕ) → target-lts.Need-same-length-10 (target-calls t) (target-at t) target.Post
 target-same-length-10 t c =
     let c15 = c .before .before .before .before .before .before .before .before .before .before .before .before .before .before .before in
-    (c15 .two2 .kept .1 .1 .1 .1 .1 .1 .1 .1 .0)
+    (c15 .expressions2 .kept .1 .1 .1 .1 .1 .1 .1 .1 .0)
 
 target-same-length-11 : (t : ℕ) → target-lts.Need-same-length-11 (target-calls t) (target-at t) target.Post
 target-same-length-11 t c =
     let c15 = c .before .before .before .before .before .before .before .before .before .before .before .before .before .before .before in
-    (c15 .two2 .kept .1 .1 .1 .1 .1 .1 .1 .1 .1 .0)
+    (c15 .expressions2 .kept .1 .1 .1 .1 .1 .1 .1 .1 .1 .0)
 
 target-same-length-12 : (t : ℕ) → target-lts.Need-same-length-12 (target-calls t) (target-at t) target.Post
 target-same-length-12 t c =
     let c15 = c .before .before .before .before .before .before .before .before .before .before .before .before .before .before .before in
-    (c15 .two2 .kept .1 .1 .1 .1 .1 .1 .1 .1 .1 .1 .0)
+    (c15 .expressions2 .kept .1 .1 .1 .1 .1 .1 .1 .1 .1 .1 .0)
 
 target-same-length-13 : (t : ℕ) → target-lts.Need-same-length-13 (target-calls t) (target-at t) target.Post
 target-same-length-13 t c =
     let c15 = c .before .before .before .before .before .before .before .before .before .before .before .before .before .before .before in
-    (c15 .two2 .kept .1 .1 .1 .1 .1 .1 .1 .1 .1 .1 .1 .0)
+    (c15 .expressions2 .kept .1 .1 .1 .1 .1 .1 .1 .1 .1 .1 .1 .0)
 
 target-returns-4 : (t : ℕ) → target-lts.Need-returns-4 (target-calls t) (target-at t) target.Post
 target-returns-4 t c =
@@ -1846,7 +1874,8 @@ target-returns-4 t c =
     let c22 = c15 .before .before .before .before .before .before .before in
     let c25 = c22 .before .before .before in
     let c26 = c25 .before in
-    i.target-index (c26 .field .ensures) (c25 .field2 .ensures) (c22 .if5 .taken) (c15 .two2 .ensures) (c .before .before .emit-opcode2 .ensures)
+    i.target-index (c26 .field .ensures) (c25 .field2 .ensures) (c22 .if5 .taken) (e.run-two (c15 .expressions2 .ensures .meets))
+    (c .before .before .emit-opcode2 .ensures)
 
 target-same-length-14 : (t : ℕ) → target-lts.Need-same-length-14 (target-calls t) (target-at t) target.Post
 target-same-length-14 t c = (c .before .before .fault-in .kept .1 .1 .0)
@@ -1863,55 +1892,6 @@ target-returns-5 t c =
 
 target-returns-6 : (t : ℕ) → target-lts.Need-returns-6 (target-calls t) (target-at t) target.Post
 target-returns-6 t c = i.target-past (c .if2 .left)
-
-two-part-requires : (t : ℕ) → two-lts.Need-part-requires (two-calls t) (two-at t) two.Post
-two-part-requires t c κs =
-    let c6 = c .before .before .before .before .before .before in
-    let c14 = c6 .before .before .before .before .before .before .before .before in
-    let m = skip-within (c14 .args .tree .now) (c14 .args .at) (c14 .args .end) (c6 .skip .ensures) in omega (arith, m, c14 .pre)
-
-two-part-requires-2 : (t : ℕ) → two-lts.Need-part-requires-2 (two-calls t) (two-at t) two.Post
-two-part-requires-2 t c κs =
-    let c23 = c .before .before .before .before .before .before .before .before .before .before .before .before .before .before .before .before .before .before .before .before .before .before .before in
-    let c31 = c23 .before .before .before .before .before .before .before .before in
-    let m = skip-within (c31 .args .tree .now) (c31 .args .at) (c31 .args .end) (c23 .skip .ensures) in omega (arith, m, c31 .pre)
-
-two-same-length : (t : ℕ) → two-lts.Need-same-length (two-calls t) (two-at t) two.Post
-two-same-length t c =
-    let c10 = c .before .before .before .before .before .before .before .before .before .before in
-    let c27 = c10 .before .before .before .before .before .before .before .before .before .before .before .before .before .before .before .before .before in
-    omega (arith, c10 .part2 .kept, c27 .part .kept)
-
-two-same-length-2 : (t : ℕ) → two-lts.Need-same-length-2 (two-calls t) (two-at t) two.Post
-two-same-length-2 t c =
-    let c10 = c .before .before .before .before .before .before .before .before .before .before in
-    let c27 = c10 .before .before .before .before .before .before .before .before .before .before .before .before .before .before .before .before .before in
-    omega (arith, c10 .part2 .kept, c27 .part .kept)
-
-two-same-length-3 : (t : ℕ) → two-lts.Need-same-length-3 (two-calls t) (two-at t) two.Post
-two-same-length-3 t c =
-    let c10 = c .before .before .before .before .before .before .before .before .before .before in
-    let c27 = c10 .before .before .before .before .before .before .before .before .before .before .before .before .before .before .before .before .before in
-    omega (arith, c10 .part2 .kept, c27 .part .kept)
-
-two-same-length-4 : (t : ℕ) → two-lts.Need-same-length-4 (two-calls t) (two-at t) two.Post
-two-same-length-4 t c =
-    let c10 = c .before .before .before .before .before .before .before .before .before .before in
-    let c27 = c10 .before .before .before .before .before .before .before .before .before .before .before .before .before .before .before .before .before in
-    omega (arith, c10 .part2 .kept, c27 .part .kept)
-
-two-same-length-5 : (t : ℕ) → two-lts.Need-same-length-5 (two-calls t) (two-at t) two.Post
-two-same-length-5 t c =
-    let c10 = c .before .before .before .before .before .before .before .before .before .before in
-    let c27 = c10 .before .before .before .before .before .before .before .before .before .before .before .before .before .before .before .before .before in
-    omega (arith, c10 .part2 .kept, c27 .part .kept)
-
-two-returns : (t : ℕ) → two-lts.Need-returns (two-calls t) (two-at t) two.Post
-two-returns t c =
-    let c10 = c .before .before .before .before .before .before .before .before .before .before in
-    let c27 = c10 .before .before .before .before .before .before .before .before .before .before .before .before .before .before .before .before .before in
-    let c34 = c27 .before .before .before .before .before .before .before in
-    e.two-meets (c34 .skip .ensures) (c27 .part .ensures) (c10 .part2 .ensures)
 
 variable-same-length : (t : ℕ) → variable-lts.Need-same-length (variable-calls t) (variable-at t) variable.Post
 variable-same-length t c =
@@ -2051,9 +2031,9 @@ variables-same-length-5 t c = omega (arith, c .before .loop .inv)
 variables-returns : (t : ℕ) → variables-lts.Need-returns (variables-calls t) (variables-at t) variables.Post variables-Inv-loop variables-μ-loop
 variables-returns t c = c .before .loop .inv .6 _ (v.list-end (c .loop-test .left))
 
-pub +block+expression+expressions+false-part+for-part+if-part+infix-part+inner+part+statement+statements+target+two+variable+variables-spec :
+pub +block+expression+expressions+false-part+for-part+if-part+infix-part+inner+part+statement+statements+target+variable+variables-spec :
     {M : Type 1} → statement M
-+block+expression+expressions+false-part+for-part+if-part+infix-part+inner+part+statement+statements+target+two+variable+variables-spec =
++block+expression+expressions+false-part+for-part+if-part+infix-part+inner+part+statement+statements+target+variable+variables-spec =
     close
     μ-block
     μ-expression
@@ -2067,7 +2047,6 @@ pub +block+expression+expressions+false-part+for-part+if-part+infix-part+inner+p
     μ-statement
     μ-statements
     μ-target
-    μ-two
     μ-variable
     μ-variables
     (λ t. block-lts.spec (block-calls t)
@@ -2140,7 +2119,7 @@ pub +block+expression+expressions+false-part+for-part+if-part+infix-part+inner+p
     (expression-same-length-25 t)
     (expression-returns-6 t)
     (λ c. omega arith)
-    (expression-two-requires t)
+    (expression-expressions-requires-3 t)
     (λ c κs. tt)
     (expression-same-length-26 t)
     (expression-same-length-27 t)
@@ -2149,7 +2128,7 @@ pub +block+expression+expressions+false-part+for-part+if-part+infix-part+inner+p
     (expression-same-length-30 t)
     (expression-returns-7 t)
     (λ c. omega arith)
-    (expression-two-requires-2 t)
+    (expression-expressions-requires-4 t)
     (λ c κs. tt)
     (expression-same-length-31 t)
     (expression-same-length-32 t)
@@ -2252,6 +2231,8 @@ pub +block+expression+expressions+false-part+for-part+if-part+infix-part+inner+p
     (λ t. infix-part-lts.spec (infix-part-calls t)
     (infix-part-at t)
     infix-part.Post
+    infix-part-Inv-loop
+    infix-part-μ-loop
     (λ c κs. search needs)
     (λ c κs. search needs)
     (infix-part-add-skip t)
@@ -2268,9 +2249,17 @@ pub +block+expression+expressions+false-part+for-part+if-part+infix-part+inner+p
     (λ c κs. tt)
     (infix-part-same-length-6 t)
     (infix-part-returns-2 t)
-    (infix-part-add-part t)
+    (infix-part-add-i t)
+    (infix-part-loop-holds t)
+    (λ c κs. search needs)
+    (λ c κs. tt)
+    (infix-part-add-i-2 t)
+    (λ c. omega arith)
+    (infix-part-loop-again t)
+    (λ c κs. tt)
     (infix-part-part-requires-2 t)
-    (infix-part-part-requires-3 t)
+    (infix-part-loop-less-2 t)
+    (infix-part-loop-again-2 t)
     (λ c κs. tt)
     (infix-part-add-target-2 t)
     (infix-part-target-requires-2 t)
@@ -2395,7 +2384,7 @@ pub +block+expression+expressions+false-part+for-part+if-part+infix-part+inner+p
     (target-same-length-3 t)
     (target-returns-2 t)
     (λ c. omega arith)
-    (target-two-requires t)
+    (target-expressions-requires t)
     (λ c κs. tt)
     (target-same-length-4 t)
     (target-same-length-5 t)
@@ -2404,7 +2393,7 @@ pub +block+expression+expressions+false-part+for-part+if-part+infix-part+inner+p
     (target-same-length-8 t)
     (target-returns-3 t)
     (λ c. omega arith)
-    (target-two-requires-2 t)
+    (target-expressions-requires-2 t)
     (λ c κs. tt)
     (target-same-length-9 t)
     (target-same-length-10 t)
@@ -2416,18 +2405,6 @@ pub +block+expression+expressions+false-part+for-part+if-part+infix-part+inner+p
     (target-same-length-14 t)
     (target-returns-5 t)
     (target-returns-6 t))
-    (λ t. two-lts.spec (two-calls t)
-    (two-at t)
-    two.Post
-    (λ c κs. tt)
-    (two-part-requires t)
-    (two-part-requires-2 t)
-    (two-same-length t)
-    (two-same-length-2 t)
-    (two-same-length-3 t)
-    (two-same-length-4 t)
-    (two-same-length-5 t)
-    (two-returns t))
     (λ t. variable-lts.spec (variable-calls t)
     (variable-at t)
     variable.Post
