@@ -26,10 +26,29 @@ fn pairs(count: usize, name: impl Fn(u64) -> u64, value: Node) -> Vec<Node> {
     (0..count as u64).flat_map(|i| [name_node(name(i)), value.clone()]).collect()
 }
 
+/// Every book includes the one after it.
+fn linked(files: &[u64]) -> Vec<u64> {
+    let link =
+        |(i, &file): (usize, &u64)| document(file, files.get(i + 1).map(|&next| include(next)).into_iter().collect());
+    flatten(&files.iter().enumerate().map(link).collect::<Vec<_>>())
+}
+
 /// Every book includes the next greater file, so that the order is the reverse of the bundle's.
 fn chain(count: u64) -> Vec<u64> {
-    let links = (1..=count).map(|file| document(file, if file < count { vec![include(file + 1)] } else { vec![] }));
-    flatten(&links.collect::<Vec<_>>())
+    linked(&(1..=count).collect::<Vec<_>>())
+}
+
+/// File numbers at the ends of a set's words and of the short sets: in a chain, twice, and included but absent.
+fn edges() -> Vec<(String, Vec<u64>)> {
+    const LAST: [u64; 9] = [1, 63, 64, 65, 4095, 4096, 4097, 8191, MAX_TEXT];
+    let mut out: Vec<(String, Vec<u64>)> = Vec::new();
+    for (i, &file) in LAST.iter().enumerate() {
+        out.push((format!("books up to {file} in a chain"), linked(&LAST[..=i])));
+        out.push((format!("books from {file} on in a chain"), linked(&LAST[i..])));
+        out.push((format!("book {file} twice"), flatten(&[document(file, vec![]), document(file, vec![])])));
+        out.push((format!("{file} included, and absent"), flatten(&[document(2, vec![include(file)])])));
+    }
+    out
 }
 
 /// A chain that ends where it began.
@@ -103,6 +122,7 @@ pub fn bundles(size: u64) -> Vec<Hostile> {
         ("level 65".to_string(), deep(MAX_LEVEL + 1)),
         ("target doubled 16 times".to_string(), doubled(16)),
     ];
+    listed.extend(edges());
     listed.extend(squared(size));
     let mut out: Vec<Hostile> =
         listed.into_iter().map(|(name, words)| Hostile { name, lengths: exact(&words), words }).collect();

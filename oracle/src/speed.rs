@@ -280,6 +280,9 @@ pub fn run(side: &mut dyn Side, runs: usize, longest: f64, sizes: &[usize]) {
                 }
             }
             let words = shape.words(count);
+            if before.is_some_and(|(size, _)| size == words.len() / RECORD_WORDS) {
+                continue;
+            }
             let many =
                 if count == 1_000_000 || before.is_some_and(|(_, s)| s > longest / 100.0) { least(runs) } else { runs };
             let made = measure(side, &words, many);
