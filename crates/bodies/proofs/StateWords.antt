@@ -92,7 +92,9 @@ return-keeps p m = go (eqb (lastOpcodeC (removePopC m)) ReturnOp)
     go : (return : Bool) → let g = cond return (removePopC m) (emitC (word (toInstruction ReturnOp 0)) p (removePopC m)) in
         g .state ≡ withCode (taken (g .state .full) (g .state .code)) (m .state)
     go true = remove-keeps m
-    go false = ap (λ (s : FunctionState). withCode (takenOf codeArea 2 (removePopC m .state .full) (removePopC m .state .code) (length (removePopC m .code))) s) (remove-keeps m)
+    go false =
+        let g = removePopC m in
+        ap (λ (s : FunctionState). withCode (takenOf codeArea 2 (g .state .full) (g .state .code) (length (g .code))) s) (remove-keeps m)
 
 -- the same of the names' count and the scope's start, and of the depth
 pub kept-scope : (start : ℕ) (s : FunctionState) (n : List ℕ) {a : FunctionState} {n′ : List ℕ} (t : FunctionState)

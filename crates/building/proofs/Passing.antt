@@ -3,7 +3,7 @@ use Prim.Native.Nat.{ℕ, zero, suc, _+_, _-_, _*_, _≤_, _<_}
 use native.Mathlib.Nat.{add-mul, mul-le-mul-right}
 use native.Mathlib.Decide.{decLt}
 use native.Mathlib.Omega.{arith}
-use mathlib.Core.Path.{_≡_, refl, sym, ap, subst, _∙_}
+use mathlib.Core.Path.{_≡_, refl, ap, subst, _∙_}
 use mathlib.Core.Bool.{Bool, false}
 use mathlib.Core.List.{List}
 use lib.ListN.{getD}
@@ -51,7 +51,8 @@ pub first-passed : (test : ℕ → Bool) (n i k s d : ℕ) → i + d ≤ n → (
 first-passed test n i k s zero h f e = subst (λ (j : ℕ). firstFrom test (n - j) j ≡ firstFrom test k s) (omega arith) e
 first-passed test n i k s (suc d) h f e =
     subst (λ (j : ℕ). firstFrom test (n - j) j ≡ firstFrom test k s) (omega arith)
-    (first-passed test n (i + 1) k s d (omega arith) (λ j a b. f j (omega arith) (omega arith)) (first-next test n i k s (omega arith) (f i (omega arith) (omega arith)) e))
+    (first-passed test n (i + 1) k s d (omega arith) (λ j a b. f j (omega arith) (omega arith))
+    (first-next test n i k s (omega arith) (f i (omega arith) (omega arith)) e))
 
 pub passed-over : (test : ℕ → Bool) (k s : ℕ) {w : List ℕ} {width word value from end r : ℕ} → Passes w width word value from end r
     → ((j : ℕ) → (entryWord width j word w ≡ value → ⊥) → test j ≡ false) → firstFrom test (end - from) from ≡ firstFrom test k s
