@@ -13,7 +13,6 @@ pub mod convert;
 pub mod damage;
 pub mod documents;
 pub mod examples;
-pub mod flattening;
 pub mod generate;
 pub mod hostile;
 pub mod listing;
