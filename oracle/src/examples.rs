@@ -14,23 +14,39 @@ use std::collections::BTreeMap;
 use std::path::{Path, PathBuf};
 
 /// Sources of each bundle without their ending, the root first; the bundle has the root's name.
-const BUNDLES: [&[&str]; 5] =
-    [&["snow"], &["drift", "snow"], &["combination"], &["utilisation", "combination"], &["faulty"]];
+const BUNDLES: [&[&str]; 7] = [
+    &["snow"],
+    &["drift", "snow"],
+    &["combination"],
+    &["utilisation", "combination"],
+    &["faulty"],
+    &["revised/snow"],
+    &["revised/combination"],
+];
 
 pub fn folder() -> PathBuf {
     Path::new(env!("CARGO_MANIFEST_DIR")).join("../examples")
 }
 
-fn bundle(folder: &Path, names: &[&str]) -> (Vec<u64>, Texts) {
+/// The bundle of sources, the root first. A book's file is its source's file name.
+fn bundle(sources: &[&Path]) -> Result<(Vec<u64>, Texts), String> {
     let (mut texts, mut records) = (Texts::new(), Records::new());
-    for name in names {
-        let file = format!("{name}.clover");
-        let path = folder.join(&file);
-        let source = std::fs::read_to_string(&path).unwrap_or_else(|e| panic!("{}: {e}", path.display()));
-        let document = parse(&source, &file).unwrap_or_else(|errors| panic!("{file}: {errors}"));
+    for path in sources {
+        let told = |what: &dyn std::fmt::Display| format!("{}: {what}", path.display());
+        let source = std::fs::read_to_string(path).map_err(|error| told(&error))?;
+        let file = path.file_name().and_then(|name| name.to_str()).ok_or_else(|| told(&"is no file name"))?;
+        let document = parse(&source, file).map_err(|errors| told(&errors))?;
         ast::flatten(&document, &mut texts, &mut records);
     }
-    (records.into_words(), texts)
+    Ok((records.into_words(), texts))
+}
+
+/// `ROOT.col` and `ROOT.texts` of sources, beside the first.
+pub fn flattened(sources: &[&Path]) -> Result<[(PathBuf, Vec<u8>); 2], String> {
+    let root = sources.first().ok_or("there is no source")?;
+    let (words, texts) = bundle(sources)?;
+    let columns = (root.with_extension("col"), lines(&words));
+    Ok([columns, (root.with_extension("texts"), texts.to_lines().into_bytes())])
 }
 
 /// File name to content: `NAME.col`, `NAME.listing` and `NAME.texts`. The Rust itself is asked too.
@@ -38,7 +54,9 @@ pub fn files() -> BTreeMap<String, Vec<u8>> {
     let mut files = BTreeMap::new();
     for names in BUNDLES {
         let name = names[0];
-        let (words, texts) = bundle(&folder(), names);
+        let sources: Vec<PathBuf> = names.iter().map(|name| folder().join(format!("{name}.clover"))).collect();
+        let sources: Vec<&Path> = sources.iter().map(PathBuf::as_path).collect();
+        let (words, texts) = bundle(&sources).unwrap_or_else(|message| panic!("{message}"));
         let made = compile(&words, &UNLIMITED);
         let made = answer(&made.reply, &made.areas);
         assert_eq!(run(&records(&words)), Outcome::Answer(made.clone()), "{name}");
@@ -65,12 +83,14 @@ mod tests {
             let kept = std::fs::read(folder().join(name)).unwrap_or_else(|e| panic!("{name}: {e}; run `examples`"));
             assert!(kept == *content, "{name} is not what the examples command writes");
         }
-        let sources: BTreeSet<String> =
-            BUNDLES.iter().flat_map(|names| names.iter()).map(|name| format!("{name}.clover")).collect();
-        let there = std::fs::read_dir(folder()).expect("the examples are there");
-        let there = there.map(|entry| entry.expect("a file").file_name().into_string().expect("a plain name"));
+        let sources = BUNDLES.iter().flat_map(|names| names.iter()).map(|name| format!("{name}.clover"));
         let ours = |name: &String| [".clover", ".col", ".listing", ".texts"].iter().any(|end| name.ends_with(end));
-        let known: BTreeSet<String> = files.into_keys().chain(sources).collect();
+        let there = ["", "revised/"].iter().flat_map(|inside| {
+            let entries = std::fs::read_dir(folder().join(inside)).expect("the examples are there");
+            let names = entries.map(|entry| entry.expect("a file").file_name().into_string().expect("a plain name"));
+            names.map(|name| format!("{inside}{name}")).collect::<Vec<_>>()
+        });
+        let known: BTreeSet<String> = files.keys().cloned().chain(sources).collect();
         assert_eq!(there.filter(ours).collect::<BTreeSet<_>>(), known);
     }
 

@@ -3,6 +3,7 @@
 
 pub mod alive;
 pub mod areas;
+pub mod arguments;
 #[cfg(feature = "link")]
 pub mod bench;
 pub mod books;
