@@ -44,20 +44,39 @@ struct Spot {
 
 struct Grid {
     spots: Vec<Spot>,
-    /// Spots from row to row, with how much they want to stand above each other.
-    links: Vec<(usize, usize, f64)>,
+    /// Of each spot, those that it is linked with in the row above, with how much they want to stand
+    /// above each other; and those in the row below.
+    above: Vec<Vec<(usize, f64)>>,
+    below: Vec<Vec<(usize, f64)>>,
     /// Spots of each edge, from above.
     chains: Vec<Vec<usize>>,
     rows: Vec<Vec<usize>>,
     centre: Vec<f64>,
 }
 
+/// How many pairs stand in the wrong order; the list is sorted.
+fn inversions(list: &mut [usize]) -> usize {
+    if list.len() < 2 {
+        return 0;
+    }
+    let (left, right) = list.split_at_mut(list.len() / 2);
+    let mut count = inversions(left) + inversions(right);
+    let mut at = 0;
+    for &item in right.iter() {
+        at += left[at..].iter().take_while(|&&other| other <= item).count();
+        count += left.len() - at;
+    }
+    list.sort_unstable();
+    count
+}
+
 /// The row of each box: below all that lead to it. Boxes come in an order in which edges lead forward.
 fn rows(count: usize, edges: &[Edge]) -> Vec<usize> {
     let mut rows = vec![0; count];
-    for to in 0..count {
-        let above = edges.iter().filter(|edge| edge.to == to && edge.from < to).map(|edge| rows[edge.from] + 1);
-        rows[to] = above.max().unwrap_or(0);
+    let mut ordered: Vec<&Edge> = edges.iter().collect();
+    ordered.sort_by_key(|edge| edge.from);
+    for edge in ordered {
+        rows[edge.to] = rows[edge.to].max(rows[edge.from] + 1);
     }
     rows
 }
@@ -68,7 +87,8 @@ impl Grid {
         let last = boxes.iter().copied().max().unwrap_or(0);
         let mut grid = Grid {
             spots: Vec::new(),
-            links: Vec::new(),
+            above: Vec::new(),
+            below: Vec::new(),
             chains: Vec::new(),
             rows: vec![Vec::new(); last + 1],
             centre: Vec::new(),
@@ -84,7 +104,9 @@ impl Grid {
             chain.push(edge.to);
             for pair in chain.windows(2) {
                 let passing = pair.iter().filter(|&&spot| grid.spots[spot].of.is_none()).count();
-                grid.links.push((pair[0], pair[1], [1.0, 2.0, 8.0][passing]));
+                let weight = [1.0, 2.0, 8.0][passing];
+                grid.below[pair[0]].push((pair[1], weight));
+                grid.above[pair[1]].push((pair[0], weight));
             }
             grid.chains.push(chain);
         }
@@ -105,8 +127,7 @@ impl Grid {
                 }
                 met[at] = count;
                 count += 1;
-                let below: Vec<usize> = self.linked(at, false).map(|(other, _)| other).collect();
-                open.extend(below.into_iter().rev());
+                open.extend(self.below[at].iter().rev().map(|&(other, _)| other));
             }
         }
         self.rows.iter_mut().for_each(|row| row.sort_by_key(|&spot| met[spot]));
@@ -115,53 +136,51 @@ impl Grid {
     fn put(&mut self, spot: Spot) -> usize {
         self.rows[spot.row].push(self.spots.len());
         self.spots.push(spot);
+        self.above.push(Vec::new());
+        self.below.push(Vec::new());
         self.spots.len() - 1
     }
 
-    /// Spots that a spot is linked with in the row above or below.
-    fn linked(&self, spot: usize, down: bool) -> impl Iterator<Item = (usize, f64)> + '_ {
-        self.links.iter().filter_map(move |&(above, below, weight)| match (down, spot) {
-            (true, spot) if spot == below => Some((above, weight)),
-            (false, spot) if spot == above => Some((below, weight)),
-            _ => None,
-        })
+    /// Spots that a spot is linked with in the row above, where the sweep goes down, or below.
+    fn linked(&self, spot: usize, down: bool) -> &[(usize, f64)] {
+        if down {
+            &self.above[spot]
+        } else {
+            &self.below[spot]
+        }
+    }
+
+    /// A large picture gets fewer.
+    fn sweeps(&self) -> usize {
+        (SWEEPS * 2_000 / self.spots.len().max(2_000)).max(2)
     }
 
     /// How many links cross between the rows.
     fn crossings(&self) -> usize {
         let mut place = vec![0; self.spots.len()];
         self.rows.iter().for_each(|row| row.iter().enumerate().for_each(|(at, &spot)| place[spot] = at));
-        let cross = |one: &(usize, usize, f64), two: &(usize, usize, f64)| {
-            let same = self.spots[one.0].row == self.spots[two.0].row;
-            same && (place[one.0] < place[two.0]) != (place[one.1] < place[two.1])
-                && place[one.0] != place[two.0]
-                && place[one.1] != place[two.1]
-        };
-        let pairs = self.links.iter().enumerate();
-        pairs.map(|(at, one)| self.links[at + 1..].iter().filter(|two| cross(one, two)).count()).sum()
+        let mut sum = 0;
+        for row in &self.rows {
+            // From left to right above; those that go down to the left of an earlier one cross it.
+            let mut ends: Vec<usize> = Vec::new();
+            for &spot in row {
+                let mut own: Vec<usize> = self.below[spot].iter().map(|&(other, _)| place[other]).collect();
+                own.sort_unstable();
+                ends.extend(own);
+            }
+            sum += inversions(&mut ends);
+        }
+        sum
     }
 
-    /// Orders each row by the middle of what its spots are linked with.
+    /// Orders each row by the middle of what its spots are linked with; the best of all sweeps is kept.
     fn order(&mut self) {
         let mut best = (self.crossings(), self.rows.clone());
-        for sweep in 0..SWEEPS {
-            let down = sweep % 2 == 0;
-            let mut place = vec![0.0; self.spots.len()];
-            let places = |rows: &[Vec<usize>], place: &mut Vec<f64>| {
-                for row in rows {
-                    row.iter().enumerate().for_each(|(at, &spot)| place[spot] = at as f64);
-                }
-            };
-            places(&self.rows, &mut place);
-            let count = self.rows.len();
-            for step in 0..count {
-                let row = if down { step } else { count - 1 - step };
-                let mut keyed: Vec<(f64, usize)> =
-                    self.rows[row].iter().map(|&spot| (self.middle(spot, down, &place), spot)).collect();
-                keyed.sort_by(|one, two| one.0.total_cmp(&two.0));
-                self.rows[row] = keyed.into_iter().map(|(_, spot)| spot).collect();
-                places(&self.rows[row..=row], &mut place);
+        for sweep in 0..self.sweeps() {
+            if best.0 == 0 {
+                break;
             }
+            self.sweep(sweep % 2 == 0);
             let found = self.crossings();
             if found < best.0 {
                 best = (found, self.rows.clone());
@@ -170,38 +189,55 @@ impl Grid {
         self.rows = best.1;
     }
 
-    fn middle(&self, spot: usize, down: bool, place: &[f64]) -> f64 {
-        let (sum, count) =
-            self.linked(spot, down).fold((0.0, 0.0), |(sum, n), (other, _)| (sum + place[other], n + 1.0));
-        if count == 0.0 {
-            place[spot]
-        } else {
-            sum / count
+    fn sweep(&mut self, down: bool) {
+        let mut place = vec![0.0; self.spots.len()];
+        let mut put = |row: &[usize]| row.iter().enumerate().for_each(|(at, &spot)| place[spot] = at as f64);
+        self.rows.iter().for_each(|row| put(row));
+        for row in self.in_turn(down) {
+            let spots = self.rows[row].iter();
+            let mut keyed: Vec<(f64, usize)> = spots.map(|&spot| (self.middle(spot, down, &place), spot)).collect();
+            keyed.sort_by(|one, two| one.0.total_cmp(&two.0));
+            self.rows[row] = keyed.into_iter().map(|(_, spot)| spot).collect();
+            self.rows[row].iter().enumerate().for_each(|(at, &spot)| place[spot] = at as f64);
         }
+    }
+
+    /// The rows from above, or from below.
+    fn in_turn(&self, down: bool) -> Vec<usize> {
+        let rows = 0..self.rows.len();
+        if down {
+            rows.collect()
+        } else {
+            rows.rev().collect()
+        }
+    }
+
+    fn middle(&self, spot: usize, down: bool, place: &[f64]) -> f64 {
+        let linked = self.linked(spot, down);
+        if linked.is_empty() {
+            return place[spot];
+        }
+        linked.iter().map(|&(other, _)| place[other]).sum::<f64>() / linked.len() as f64
     }
 
     /// Moves each row to where its spots want to stand, keeping their order and the gaps.
     fn columns(&mut self) {
-        let count = self.rows.len();
-        for row in 0..count {
+        for row in 0..self.rows.len() {
             let wanted: Vec<(f64, f64)> = self.rows[row].iter().map(|_| (0.0, 1.0)).collect();
             self.settle(row, &wanted);
         }
-        for sweep in 0..4 * SWEEPS {
-            let down = sweep % 2 == 0;
-            for step in 0..count {
-                let row = if down { step } else { count - 1 - step };
-                let wanted: Vec<(f64, f64)> = self.rows[row].iter().map(|&spot| self.wanted(spot)).collect();
-                self.settle(row, &wanted);
-            }
+        let turns = (0..4 * self.sweeps()).flat_map(|sweep| self.in_turn(sweep % 2 == 0));
+        for row in turns.collect::<Vec<_>>() {
+            let wanted: Vec<(f64, f64)> = self.rows[row].iter().map(|&spot| self.wanted(spot)).collect();
+            self.settle(row, &wanted);
         }
     }
 
     /// Where a spot wants to stand, by all it is linked with, and how much.
     fn wanted(&self, spot: usize) -> (f64, f64) {
-        let links = self.linked(spot, true).chain(self.linked(spot, false));
+        let links = self.above[spot].iter().chain(&self.below[spot]);
         let (sum, weight) =
-            links.fold((0.0, 0.0), |(sum, all), (other, weight)| (sum + weight * self.centre[other], all + weight));
+            links.fold((0.0, 0.0), |(sum, all), &(other, weight)| (sum + weight * self.centre[other], all + weight));
         if weight == 0.0 {
             (self.centre[spot], 0.01)
         } else {
@@ -368,6 +404,12 @@ mod tests {
                 a.1 != b.1 || a.0 + sizes[one].width < b.0 || b.0 + sizes[two].width < a.0
             })
         })
+    }
+
+    #[test]
+    fn pairs_in_the_wrong_order_are_counted() {
+        assert_eq!(inversions(&mut [1, 2, 3]), 0);
+        assert_eq!(inversions(&mut [3, 1, 2, 2, 0]), 4 + 1 + 1 + 1);
     }
 
     #[test]
