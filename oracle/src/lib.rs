@@ -30,4 +30,5 @@ pub mod shape;
 pub mod speed;
 pub mod stored;
 pub mod table;
+pub mod tables;
 pub mod views;
