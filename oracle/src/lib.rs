@@ -12,6 +12,7 @@ pub mod compare;
 pub mod convert;
 pub mod damage;
 pub mod documents;
+pub mod error_words;
 pub mod examples;
 pub mod flattening;
 pub mod generate;
