@@ -30,6 +30,7 @@ pub mod sample;
 pub mod shape;
 pub mod speed;
 pub mod stored;
+pub mod strict;
 pub mod table;
 pub mod tables;
 pub mod views;
