@@ -28,6 +28,7 @@ pub mod real;
 pub mod records;
 pub mod sample;
 pub mod shape;
+pub mod slots;
 pub mod speed;
 pub mod stored;
 pub mod strict;
