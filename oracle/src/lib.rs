@@ -30,6 +30,7 @@ pub mod sample;
 pub mod shape;
 pub mod slots;
 pub mod speed;
+pub mod standing;
 pub mod stored;
 pub mod strict;
 pub mod table;

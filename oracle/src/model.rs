@@ -2,7 +2,7 @@
 //! words of the twelve areas. Written from 01, the fixed readings and the Rust, on records and flat
 //! areas; it calls nothing of the Rust, so that a comparison of the two says something.
 
-use crate::areas::{area, capacities, Areas, Counts, Lengths, Reply, AREAS};
+use crate::areas::{area, capacities, entries, Areas, Counts, Lengths, Reply, AREAS, ENTRY_WORDS};
 use crate::books::{children, needed, order};
 use crate::records::{kind, Record, MAIN};
 use crate::shape::{check, Refusal};
@@ -237,6 +237,36 @@ impl<'a> Work<'a> {
             context_names: HashMap::new(),
             finished: HashMap::new(),
         }
+    }
+
+    /// From a standing program on: its entries as they stand, in areas that end with their totals. Of equal constants
+    /// the first is shared.
+    fn onto(mut self, areas: &Areas, entry_point: u64) -> Work<'a> {
+        self.code = entries(&areas[area::CODE - 1]);
+        self.constants = entries(&areas[area::CONSTANTS - 1]);
+        self.functions = entries(&areas[area::FUNCTIONS - 1]);
+        self.models = entries(&areas[area::MODELS - 1]);
+        self.properties = entries(&areas[area::PROPERTIES - 1]);
+        self.methods = entries(&areas[area::METHODS - 1]);
+        self.context = entries(&areas[area::CONTEXT - 1]);
+        self.public = entries(&areas[area::PUBLIC - 1]);
+        self.books = areas[area::BOOKS - 1].clone();
+        self.entry_point = entry_point;
+        for (index, &[kind, value, _]) in (0..).zip(&self.constants) {
+            let known = match kind {
+                constant::INTEGER => &mut self.integers,
+                constant::TEXT => &mut self.texts,
+                _ => continue,
+            };
+            known.entry(value).or_insert(index);
+        }
+        self.method_places = (0..).zip(&self.methods).map(|(place, m)| ((m[0], m[1]), place)).collect();
+        self.public_places = (0..).zip(&self.public).map(|(place, p)| ((p[0], p[1]), place)).collect();
+        self.finished = self.books.iter().copied().zip(0..).collect();
+        self.file = self.books.len() as u64;
+        self.used = std::array::from_fn(|i| (areas[i].len() / ENTRY_WORDS[i]) as u64);
+        self.reached = self.used.map(|count| vec![0; count as usize]);
+        self
     }
 
     /// One entry more of an area.
@@ -943,7 +973,23 @@ pub fn compile_by(rules: Rules, words: &[u64], lengths: &Lengths) -> Run {
         Ok(books) => books,
         Err(refusal) => return Run::refused(refusal),
     };
-    finish(Work { rules, ..Work::new(&records, capacities(lengths)) }, &books)
+    compile_books(rules, &records, &books, capacities(lengths), None)
+}
+
+/// Everything after row 6, for books that are known: fresh, or from a standing program on, which is its areas up to
+/// their totals and its entry point.
+pub fn compile_books(
+    rules: Rules,
+    records: &[Record],
+    books: &crate::books::Books,
+    capacities: Counts,
+    standing: Option<(&Areas, u64)>,
+) -> Run {
+    let fresh = Work { rules, ..Work::new(records, capacities) };
+    match standing {
+        None => finish(fresh, books),
+        Some((areas, entry_point)) => finish(fresh.onto(areas, entry_point), books),
+    }
 }
 
 /// Everything after row 6: the work, and what is answered where it ends.
