@@ -31,6 +31,7 @@ pub mod shape;
 pub mod slots;
 pub mod speed;
 pub mod standing;
+pub mod standing_calls;
 pub mod stored;
 pub mod strict;
 pub mod table;

@@ -267,7 +267,7 @@ fn includes(records: &[Record], at: usize) -> BTreeSet<u64> {
 /// "rows 2 to 5 read the whole bundle, 6 to 9 the books that do not stand": row 5 among the bundle's own documents; then
 /// the books reached from the root through includes, where "books already standing are skipped, their includes too, and need
 /// no copy in the bundle"; then row 6.
-fn needed(records: &[Record], standing: &BTreeSet<u64>) -> Result<Books, Refusal> {
+pub fn needed(records: &[Record], standing: &BTreeSet<u64>) -> Result<Books, Refusal> {
     let mut documents: BTreeMap<u64, usize> = BTreeMap::new();
     let mut at = 0;
     while at < records.len() {
