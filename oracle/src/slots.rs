@@ -99,6 +99,15 @@ pub fn add(table: &mut [u64], pool: &mut Vec<Constant>, wanted: Constant, home: 
     (number, looked)
 }
 
+/// "After it all are zero (as lent where the program check refuses)": the table after a call of the compile family.
+pub fn after_call(lent: &[u64], program_refused: bool) -> Vec<u64> {
+    if program_refused {
+        lent.to_vec()
+    } else {
+        vec![0; lent.len()]
+    }
+}
+
 // Inputs from a seed.
 
 /// One search.

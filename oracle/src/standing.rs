@@ -1170,7 +1170,7 @@ mod tests {
     fn reading_3_1_all_includes_count() {
         let program = library();
         let late = document(5, vec![model(7), include(2, &[]), include(9, &[])]);
-        assert_eq!(program.refuses(&[late.clone()], &[]), (6, 9));
+        assert_eq!(program.refuses(std::slice::from_ref(&late), &[]), (6, 9));
         let after = program.after(&[late, document(9, vec![])]);
         assert_eq!(after.areas[area::BOOKS - 1][..3], [2, 9, 5]);
         let late_ring = document(5, vec![model(7), include(5, &[])]);

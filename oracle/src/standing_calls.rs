@@ -566,10 +566,9 @@ pub fn bundle(random: &mut Random, program: &Program, shelf: &[Node]) -> Vec<u64
 
 // Damage.
 
-/// Words that a field is changed to: its neighbours, and those at the limits of texts, totals and words.
-fn other_word(random: &mut Random, old: u64, totals: &Totals) -> u64 {
-    let total = random.pick(&totals.areas);
-    let word = random.pick(&[
+/// Words that a field is changed to: its neighbours, and those at the limits of texts, a total and words.
+fn other_words(old: u64, total: u64) -> [u64; 20] {
+    [
         0,
         1,
         2,
@@ -590,20 +589,26 @@ fn other_word(random: &mut Random, old: u64, totals: &Totals) -> u64 {
         total,
         total.wrapping_sub(1),
         total.wrapping_add(1),
-    ]);
+    ]
+}
+
+fn other_word(random: &mut Random, old: u64, totals: &Totals) -> u64 {
+    let total = random.pick(&totals.areas);
     if random.chance(100) {
         random.next()
     } else {
-        word
+        random.pick(&other_words(old, total))
     }
 }
 
+/// The opcodes that there are, and some that are not.
+const OPCODES: [u64; 30] = [
+    0x01, 0x02, 0x05, 0x06, 0x07, 0x08, 0x0C, 0x0D, 0x11, 0x12, 0x13, 0x14, 0x15, 0x16, 0x21, 0x22, 0x23, 0x31, 0x32,
+    0x36, 0x41, 0x51, 0x52, 0x56, 0x57, 0x00, 0xFF, 0x03, 0x42, 0x58,
+];
+
 /// An instruction's opcode or operand otherwise.
 fn other_instruction(random: &mut Random, old: u64, totals: &Totals) -> u64 {
-    const OPCODES: [u64; 30] = [
-        0x01, 0x02, 0x05, 0x06, 0x07, 0x08, 0x0C, 0x0D, 0x11, 0x12, 0x13, 0x14, 0x15, 0x16, 0x21, 0x22, 0x23, 0x31,
-        0x32, 0x36, 0x41, 0x51, 0x52, 0x56, 0x57, 0x00, 0xFF, 0x03, 0x42, 0x58,
-    ];
     let operand = other_word(random, old & ((1 << 56) - 1), totals) & ((1 << 56) - 1);
     match random.below(3) {
         0 => instruction(random.pick(&OPCODES), old & ((1 << 56) - 1)),
@@ -659,6 +664,114 @@ pub fn damaged(random: &mut Random, areas: &mut Areas, totals: &mut Totals) {
         18 => totals.globals = other_word(random, totals.globals, totals),
         _ => totals.bundles = random.pick(&[0, 1, 2, MOST_BUNDLES, MOST_BUNDLES + 1, u64::MAX, 1 << 32]),
     }
+}
+
+/// A program with entries in every area that may have some: two books, models with properties and methods, a loop and an if,
+/// context locals with and without values, marked and unmarked constants of every kind.
+pub fn sample() -> Program {
+    let named = |kind, text, children| Node::new(kind, 7, text, children);
+    let leaf = |kind: u64, value| Node::leaf(kind, if kind::has_no_position(kind) { 0 } else { 9 }, value);
+    let read = |text| Node::new(kind::EXPRESSION, 0, 0, vec![leaf(kind::IDENTIFIER, text)]);
+    let value = |kind, value| Node::new(kind::EXPRESSION, 0, 0, vec![leaf(kind, value)]);
+    let names = |texts: &[u64]| texts.iter().map(|&text| leaf(kind::NAME, text)).collect::<Vec<_>>();
+    let block = Node::new(kind::BLOCK, 0, 0, vec![leaf(kind::BREAK, 0)]);
+    let leaves = Node::new(kind::IF, 0, 0, vec![leaf(kind::IDENTIFIER, 30), block]);
+    let body = vec![
+        leaf(kind::NAME, 30),
+        named(
+            kind::FOR,
+            0,
+            vec![leaf(kind::NAME, 31), leaf(kind::IDENTIFIER, 30), Node::new(kind::EXPRESSION, 0, 0, vec![leaves])],
+        ),
+        read(32),
+        value(kind::STRING, 33),
+        value(kind::FLOAT, 1 << 63),
+        leaf(kind::RESCUE, 0),
+        read(20),
+    ];
+    let method = |name, this| named(kind::FUNCTION, name, vec![leaf(kind::THIS_PARAMETER, this), read(30)]);
+    let first = vec![
+        named(kind::PUBLIC_MODEL, 20, names(&[40, 41])),
+        named(kind::IMPLEMENT, 20, vec![method(50, 7), method(51, 7)]),
+        named(kind::PUBLIC_FUNCTION, 21, body),
+        Node::new(kind::LOCAL_DEFINITION, 0, 0, vec![leaf(kind::NAME, 22), leaf(kind::ABSENT, 0)]),
+    ];
+    let second = vec![
+        named(kind::INCLUDE, 2, names(&[20, 23, 21, 24])),
+        named(kind::MODEL, 25, names(&[40])),
+        Node::new(kind::APPLY, 0, 0, names(&[23, 25])),
+        named(kind::FUNCTION, MAIN, vec![read(24), read(25)]),
+    ];
+    let words = flatten(&[document(3, second), document(2, first)]);
+    let run = run(&words, false, None, ROOMY).expect("rows 2 to 6");
+    let mut program = Program::of(run.areas, run.reply.entry_point);
+    program.totals.bundles = 5;
+    program
+}
+
+fn document(file: u64, definitions: Vec<Node>) -> Node {
+    Node::new(kind::DOCUMENT, 0, file, definitions)
+}
+
+/// Every single damage of a program as lent: each field of each entry by each of `other_words` for every total; each opcode
+/// and limit of an operand; each word beyond; each area cut; each total; the entry point, the marks' count, the bundles'
+/// count; each key set to each other.
+pub fn each_damage(areas: &Areas, totals: &Totals) -> Vec<(Areas, Totals)> {
+    let mut out = Vec::new();
+    let mut limits: Vec<u64> = totals.areas.to_vec();
+    limits.sort_unstable();
+    limits.dedup();
+    let others = |old: u64| -> BTreeSet<u64> { limits.iter().flat_map(|&total| other_words(old, total)).collect() };
+    for i in (0..AREAS).filter(|&i| i != area::ERRORS - 1) {
+        let width = ENTRY_WORDS[i];
+        let end = totals.areas[i] as usize * width;
+        for at in 0..areas[i].len() {
+            let old = areas[i][at];
+            let words = if at >= end {
+                BTreeSet::from([1, u64::MAX])
+            } else if i == area::CODE - 1 && at % width == 0 {
+                let operand = old & ((1 << 56) - 1);
+                let operands = others(operand).into_iter().map(|word| instruction(old >> 56, word & ((1 << 56) - 1)));
+                operands.chain(OPCODES.map(|opcode| instruction(opcode, operand))).collect()
+            } else {
+                others(old)
+            };
+            for word in words.into_iter().filter(|&word| word != old) {
+                let mut changed = areas.clone();
+                changed[i][at] = word;
+                out.push((changed, *totals));
+            }
+        }
+        for length in [end, end.saturating_sub(1)] {
+            let mut changed = areas.clone();
+            changed[i].truncate(length);
+            out.push((changed, *totals));
+        }
+        let keys = width.min(2);
+        for (from, to) in (0..end).step_by(width).flat_map(|from| (0..end).step_by(width).map(move |to| (from, to))) {
+            let mut changed = areas.clone();
+            let key = areas[i][from..from + keys].to_vec();
+            changed[i][to..to + keys].copy_from_slice(&key);
+            out.push((changed, *totals));
+        }
+    }
+    for i in 0..AREAS {
+        for word in others(totals.areas[i]) {
+            let mut changed = *totals;
+            changed.areas[i] = word;
+            out.push((areas.clone(), changed));
+        }
+    }
+    for word in others(totals.entry_point) {
+        out.push((areas.clone(), Totals { entry_point: word, ..*totals }));
+    }
+    for word in others(totals.globals) {
+        out.push((areas.clone(), Totals { globals: word, ..*totals }));
+    }
+    for bundles in [0, 1, 2, MOST_BUNDLES, MOST_BUNDLES + 1, 1 << 32, u64::MAX] {
+        out.push((areas.clone(), Totals { bundles, ..*totals }));
+    }
+    out
 }
 
 // Calls.
@@ -951,6 +1064,25 @@ mod tests {
         }
         failing.remove(&11);
         failing.first().copied()
+    }
+
+    #[test]
+    fn each_damage_twice_read() {
+        let program = sample();
+        assert!((1..=AREAS).all(|number| program.totals.of(number) > 0 || (9..=11).contains(&number)));
+        let lengths = std::array::from_fn(|i| program.entries[i].len() + 2 * ENTRY_WORDS[i] - 1);
+        let areas = program.lent(&lengths);
+        assert_eq!(program_check(&areas, &program.totals), None);
+        let mut found = [0u64; AREAS + 1];
+        for (areas, totals) in each_damage(&areas, &program.totals) {
+            let failing = program_check(&areas, &totals);
+            assert_eq!(failing, second_check(&areas, &totals));
+            found[failing.unwrap_or(0)] += 1;
+        }
+        println!("each damage {found:?}");
+        for number in (0..=AREAS).filter(|&number| number != area::ERRORS) {
+            assert!(found[number] > 5, "{found:?}");
+        }
     }
 
     #[test]

@@ -793,7 +793,10 @@ mod tests {
         let mut lists: Vec<Vec<Node>> = vec![Vec::new()];
         let mut all = lists.clone();
         for _ in 0..3 {
-            lists = lists.iter().flat_map(|l| definitions.iter().map(|d| [&l[..], &[d.clone()]].concat())).collect();
+            lists = lists
+                .iter()
+                .flat_map(|l| definitions.iter().map(|d| [&l[..], std::slice::from_ref(d)].concat()))
+                .collect();
             all.extend(lists.clone());
         }
         for children in all {
