@@ -209,6 +209,12 @@ mod tests {
         }
     }
 
+    #[test]
+    fn reading_1_after_a_call() {
+        assert_eq!(after_call(&[7, 0, u64::MAX], false), [0, 0, 0]);
+        assert_eq!(after_call(&[7, 0, u64::MAX], true), [7, 0, u64::MAX]);
+    }
+
     /// For every small pool, table length and constant: the plain search's answer, and the slots counted.
     #[test]
     fn readings_3_to_5_every_small_pool() {
