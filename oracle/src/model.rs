@@ -2,7 +2,7 @@
 //! words of the twelve areas. Written from 01, the fixed readings and the Rust, on records and flat
 //! areas; it calls nothing of the Rust, so that a comparison of the two says something.
 
-use crate::areas::{area, capacities, Areas, Counts, Lengths, Reply, AREAS};
+use crate::areas::{area, capacities, entries, Areas, Counts, Lengths, Reply, AREAS, ENTRY_WORDS};
 use crate::books::{children, needed, order};
 use crate::records::{kind, Record, MAIN};
 use crate::shape::{check, Refusal};
@@ -11,6 +11,7 @@ use std::collections::{HashMap, HashSet};
 const BOOK_FAULTY: u64 = 7;
 const RING: u64 = 8;
 const AREA_FULL: u64 = 9;
+const NAME_NOT_PUBLIC: u64 = 11;
 
 mod op {
     pub const POP: u64 = 0x01;
@@ -104,11 +105,27 @@ fn opcode(word: u64) -> u64 {
     word >> 56
 }
 
-/// The area that the first step beyond it asked for; the work stops there.
+/// Where the work stops.
 #[derive(Debug, Clone, Copy, PartialEq, Eq)]
-struct Full(usize);
+enum Stop {
+    /// The area that the first step beyond it asked for.
+    Full(usize),
+    /// The include with a name that is not public, in strict mode.
+    NotPublic(usize),
+}
 
-type Step<T = ()> = Result<T, Full>;
+use Stop::{Full, NotPublic};
+
+type Step<T = ()> = Result<T, Stop>;
+
+/// Which of the later requests' rules hold.
+#[derive(Debug, Clone, Copy, Default, PartialEq, Eq)]
+pub struct Rules {
+    /// 2026-05: equal floats share an entry.
+    pub shared_floats: bool,
+    /// 2026-07: all names of an include together.
+    pub strict: bool,
+}
 
 /// What a run tells beside the answer.
 pub struct Run {
@@ -161,6 +178,7 @@ type ContextNames = HashMap<u64, u64>;
 
 struct Work<'a> {
     records: &'a [Record],
+    rules: Rules,
     capacities: Counts,
     used: Counts,
     reached: [Vec<u64>; AREAS],
@@ -194,6 +212,7 @@ impl<'a> Work<'a> {
     fn new(records: &'a [Record], capacities: Counts) -> Work<'a> {
         Work {
             records,
+            rules: Rules::default(),
             capacities,
             used: [0; AREAS],
             reached: Default::default(),
@@ -218,6 +237,36 @@ impl<'a> Work<'a> {
             context_names: HashMap::new(),
             finished: HashMap::new(),
         }
+    }
+
+    /// From a standing program on: its entries as they stand, in areas that end with their totals. Of equal constants
+    /// the first is shared.
+    fn onto(mut self, areas: &Areas, entry_point: u64) -> Work<'a> {
+        self.code = entries(&areas[area::CODE - 1]);
+        self.constants = entries(&areas[area::CONSTANTS - 1]);
+        self.functions = entries(&areas[area::FUNCTIONS - 1]);
+        self.models = entries(&areas[area::MODELS - 1]);
+        self.properties = entries(&areas[area::PROPERTIES - 1]);
+        self.methods = entries(&areas[area::METHODS - 1]);
+        self.context = entries(&areas[area::CONTEXT - 1]);
+        self.public = entries(&areas[area::PUBLIC - 1]);
+        self.books = areas[area::BOOKS - 1].clone();
+        self.entry_point = entry_point;
+        for (index, &[kind, value, _]) in (0..).zip(&self.constants) {
+            let known = match kind {
+                constant::INTEGER => &mut self.integers,
+                constant::TEXT => &mut self.texts,
+                _ => continue,
+            };
+            known.entry(value).or_insert(index);
+        }
+        self.method_places = (0..).zip(&self.methods).map(|(place, m)| ((m[0], m[1]), place)).collect();
+        self.public_places = (0..).zip(&self.public).map(|(place, p)| ((p[0], p[1]), place)).collect();
+        self.finished = self.books.iter().copied().zip(0..).collect();
+        self.file = self.books.len() as u64;
+        self.used = std::array::from_fn(|i| (areas[i].len() / ENTRY_WORDS[i]) as u64);
+        self.reached = self.used.map(|count| vec![0; count as usize]);
+        self
     }
 
     /// One entry more of an area.
@@ -252,6 +301,12 @@ impl<'a> Work<'a> {
     // Constants.
 
     fn add_constant(&mut self, kind: u64, value: u64) -> Step<u64> {
+        if self.rules.shared_floats && kind == constant::FLOAT {
+            // The first number that has these 64 bits as a float.
+            if let Some(known) = self.constants.iter().position(|c| (c[0], c[1]) == (kind, value)) {
+                return Ok(known as u64);
+            }
+        }
         self.take(area::CONSTANTS)?;
         self.constants.push([kind, value, 0]);
         Ok(self.constants.len() as u64 - 1)
@@ -676,6 +731,9 @@ impl<'a> Work<'a> {
 
     fn include(&mut self, at: usize) -> Step {
         let source = self.finished.get(&self.records[at].value).copied();
+        if self.rules.strict && !self.all_public(at, source) {
+            return Err(NotPublic(at));
+        }
         for pair in self.children(at).chunks(2) {
             let (public, alias) = (self.records[pair[0]].value, self.records[pair[1]].value);
             let Some(local) = self.define_context(alias)? else {
@@ -687,6 +745,13 @@ impl<'a> Work<'a> {
             }
         }
         Ok(())
+    }
+
+    /// Whether every name that an include lists is public in its file.
+    fn all_public(&self, at: usize, source: Option<u64>) -> bool {
+        let names = self.children(at).into_iter().step_by(2).map(|pair| self.records[pair].value);
+        let mut keys = names.map(|name| source.map(|file| (file, name)));
+        keys.all(|key| key.is_some_and(|key| self.public_places.contains_key(&key)))
     }
 
     /// Answers the model's constant.
@@ -849,9 +914,11 @@ impl<'a> Work<'a> {
 
     /// Everything after row 6; answers row 7 or 8, or nothing where the program is delivered.
     fn bundle(&mut self, books: &crate::books::Books) -> Step<Option<Refusal>> {
-        self.add_constant(constant::NULL, 0)?;
-        self.add_constant(constant::BOOLEAN, 1)?;
-        self.add_constant(constant::BOOLEAN, 0)?;
+        if self.constants.is_empty() {
+            self.add_constant(constant::NULL, 0)?;
+            self.add_constant(constant::BOOLEAN, 1)?;
+            self.add_constant(constant::BOOLEAN, 0)?;
+        }
         for _ in books {
             self.take(area::BOOKS)?;
         }
@@ -893,6 +960,11 @@ impl<'a> Work<'a> {
 
 /// The reply and the areas' words for a bundle, with areas of these lengths in words.
 pub fn compile(words: &[u64], lengths: &Lengths) -> Run {
+    compile_by(Rules::default(), words, lengths)
+}
+
+/// The same under later requests' rules.
+pub fn compile_by(rules: Rules, words: &[u64], lengths: &Lengths) -> Run {
     let records = match check(words) {
         Ok(records) => records,
         Err(refusal) => return Run::refused(refusal),
@@ -901,11 +973,32 @@ pub fn compile(words: &[u64], lengths: &Lengths) -> Run {
         Ok(books) => books,
         Err(refusal) => return Run::refused(refusal),
     };
-    let mut work = Work::new(&records, capacities(lengths));
-    let outcome = work.bundle(&books);
+    compile_books(rules, &records, &books, capacities(lengths), None)
+}
+
+/// Everything after row 6, for books that are known: fresh, or from a standing program on, which is its areas up to
+/// their totals and its entry point.
+pub fn compile_books(
+    rules: Rules,
+    records: &[Record],
+    books: &crate::books::Books,
+    capacities: Counts,
+    standing: Option<(&Areas, u64)>,
+) -> Run {
+    let fresh = Work { rules, ..Work::new(records, capacities) };
+    match standing {
+        None => finish(fresh, books),
+        Some((areas, entry_point)) => finish(fresh.onto(areas, entry_point), books),
+    }
+}
+
+/// Everything after row 6: the work, and what is answered where it ends.
+fn finish(mut work: Work, books: &crate::books::Books) -> Run {
+    let outcome = work.bundle(books);
     let mut areas = Areas::default();
     let reply = match outcome {
         Err(Full(number)) => Reply::refusal(AREA_FULL, number as u64),
+        Err(NotPublic(at)) => Reply::refusal(NAME_NOT_PUBLIC, at as u64),
         Ok(Some((row, place))) => {
             areas[area::ERRORS - 1] = work.errors.concat();
             Reply::refusal(row, place)
