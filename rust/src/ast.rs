@@ -3,12 +3,13 @@
 //!
 //! ```
 //! use clover::frontend::parser::parse;
-//! use clover_back_end::{ast, records::Records, Texts};
+//! use clover_back_end::{ast, records::Records, Position, Texts};
 //!
 //! let book = parse("function f() 7 end", "seven.clover").expect("a book");
 //! let (mut texts, mut bundle) = (Texts::new(), Records::new());
 //! ast::flatten(&book, &mut texts, &mut bundle);
-//! assert_eq!(bundle.words(), [1, 4, 0, 2, 14, 3, (1 << 16) + 10, 3, 25, 2, 0, 0, 33, 1, (1 << 16) + 14, 7]);
+//! let [f, seven] = [10, 14].map(|column| Position::new(1, column).word());
+//! assert_eq!(bundle.words(), [1, 4, 0, 2, 14, 3, f, 3, 25, 2, 0, 0, 33, 1, seven, 7]);
 //! ```
 
 use crate::kind::{Infix, Prefix};

@@ -100,26 +100,36 @@ pub(crate) fn words(file: &[u8]) -> Option<Vec<u64>> {
 mod tests {
     use super::*;
 
-    const LINE: &str = "  33       1     2     6 -9223372036854775808";
+    /// A line of five fields as they are given.
+    fn line(fields: [&str; 5]) -> String {
+        fields.iter().zip(WIDTHS).map(|(field, width)| format!("{field:>width$}")).collect()
+    }
+
+    const SMALLEST: [&str; 5] = ["33", "1", "2", "6", "-9223372036854775808"];
 
     #[test]
     fn a_line_is_read() {
-        assert_eq!(LINE.len(), LINE_BYTES - 1);
+        let line = line(SMALLEST);
+        assert_eq!(line.len(), LINE_BYTES - 1);
         let words = [33, 1, Position::new(2, 6).word(), 1 << 63];
-        assert_eq!(record(LINE.as_bytes()), Ok(words));
-        assert_eq!(super::words(format!("{LINE}\n{LINE}\n").as_bytes()), Some([words, words].concat()));
+        assert_eq!(record(line.as_bytes()), Ok(words));
+        assert_eq!(super::words(format!("{line}\n{line}\n").as_bytes()), Some([words, words].concat()));
     }
 
     #[test]
     fn faults_are_named() {
         let fault = |line: &str| record(line.as_bytes()).expect_err("a fault");
-        assert_eq!(fault(&LINE[1..]), LineFault::Length(LINE_BYTES - 2));
-        assert_eq!(fault(&LINE.replace("  33", "033 ")), LineFault::Field("kind"));
-        assert_eq!(fault(&LINE.replace("     2 ", "    02 ")), LineFault::Field("line"));
-        assert_eq!(fault(&LINE.replace("     6 ", "    -6 ")), LineFault::Field("column"));
-        assert_eq!(fault(&LINE.replace(" 33 ", " 34 ")), LineFault::Field("value"));
-        assert_eq!(fault(&LINE.replace("-9223372036854775808", "                  -0")), LineFault::Field("value"));
-        let two = format!("{LINE}\n{LINE}");
+        assert_eq!(fault(&line(SMALLEST)[1..]), LineFault::Length(LINE_BYTES - 2));
+        let far = (Position::MOST + 1).to_string();
+        let wrong = [(0, "33 "), (0, "x"), (1, "01"), (2, "02"), (2, &far), (3, "-6"), (4, "-0"), (4, "")];
+        for (at, field) in wrong {
+            let mut fields = SMALLEST;
+            fields[at] = field;
+            assert_eq!(fault(&line(fields)), LineFault::Field(FIELDS[at]), "{field}");
+        }
+        let unsigned = line(["34", "1", "2", "6", "-1"]);
+        assert_eq!(fault(&unsigned), LineFault::Field("value"));
+        let two = format!("{0}\n{0}", line(SMALLEST));
         assert_eq!(LineFault::of(two.as_bytes(), 1), None);
         assert_eq!(LineFault::of(two.as_bytes(), 2), Some(LineFault::Length(LINE_BYTES - 1)));
     }

@@ -89,15 +89,45 @@ fn the_examples_are_shown_and_drawn_as_stored() {
     assert!(wrong.is_empty(), "these are not as stored (see the top of this file):\n{}", wrong.join("\n"));
 }
 
+/// A folder for one test, removed when it ends.
+struct Folder(PathBuf);
+
+impl Folder {
+    fn new(test: &str) -> Folder {
+        let path = std::env::temp_dir().join(format!("clover-{test}-{}", std::process::id()));
+        std::fs::create_dir_all(&path).expect("a folder");
+        Folder(path)
+    }
+}
+
+impl Drop for Folder {
+    fn drop(&mut self) {
+        std::fs::remove_dir_all(&self.0).expect("it is there");
+    }
+}
+
+/// A refused record is told with its rule and its line of the column file.
+#[test]
+fn a_refused_line_is_shown() {
+    let folder = Folder::new("line");
+    let example = read_to_string(root().join("examples/snow.col")).expect("an example");
+    let first: String = example.lines().take(2).map(|line| format!("{line}\n")).collect();
+    let path = folder.0.join("first.col");
+    write(&path, &first).expect("the folder is writable");
+    let made = run(&["check", path.to_str().expect("a plain name")]);
+    let said = String::from_utf8(made.output).expect("text");
+    assert_eq!(made.status, 1);
+    assert!(said.contains("refused, row 3: bad shape: record 0 is against the tree rules: its span is 77"), "{said}");
+    assert!(said.contains(example.lines().next().expect("a line")), "{said}");
+}
+
 /// Column file, words, column file again.
 #[test]
 fn files_come_back() {
-    let folder = std::env::temp_dir().join(format!("clover-program-{}", std::process::id()));
-    std::fs::create_dir_all(&folder).expect("a folder");
-    let words = folder.join("snow.words");
+    let folder = Folder::new("convert");
+    let words = folder.0.join("snow.words");
     let name = words.to_str().expect("a plain name");
     assert_eq!(run(&["convert", "examples/snow.col", "--output", name]).status, 0);
     let back = run(&["convert", name]);
     assert_eq!(back.output, read(root().join("examples/snow.col")).expect("an example"));
-    std::fs::remove_dir_all(&folder).expect("it was there");
 }
