@@ -5,7 +5,7 @@ use crate::areas::{
     area, entries, Answer, Delivery, ErrorAnswer, FunctionAnswer, ModelAnswer, Reply, AREAS, ENTRY_WORDS,
 };
 use crate::real::MESSAGES;
-use clover_back_end::{Area, Complaint, Constant, Error, Function, Model, Position, Program, Refusal, Totals};
+use clover_back_end::{Area, Constant, Error, ErrorKind, Function, Model, Position, Program, Refusal, Totals};
 use std::collections::BTreeMap;
 
 /// A reply of the crate's form, and the areas as the call left them.
@@ -211,8 +211,8 @@ fn models(program: &Program) -> Result<Vec<ModelAnswer>, String> {
 const RING: (u64, &str) = (11, "there may have cycle reference in this files");
 
 fn error(error: &Error) -> Result<ErrorAnswer, String> {
-    let number = error.complaint.number();
-    agree("a message", Some(error.complaint.word()), MESSAGES.get(number as usize - 1).copied())?;
+    let number = error.kind.number();
+    agree("a message", Some(error.kind.word()), MESSAGES.get(number as usize - 1).copied())?;
     Ok([number, position(error.position), error.token.kind.number(), error.token.value])
 }
 
@@ -220,7 +220,7 @@ fn errors(refusal: &Refusal) -> Result<Vec<ErrorAnswer>, String> {
     match refusal {
         Refusal::BookFaulty { errors, .. } => errors.iter().map(error).collect(),
         Refusal::Ring { files } => {
-            agree("the message of a ring", (Complaint::Ring.number(), Complaint::Ring.word()), RING)?;
+            agree("the message of a ring", (ErrorKind::Ring.number(), ErrorKind::Ring.word()), RING)?;
             Ok(files.iter().map(|file| [RING.0, 0, 0, file.number()]).collect())
         }
         _ => Ok(Vec::new()),

@@ -120,9 +120,20 @@ impl Areas {
 
     /// Makes an area twice as long and at least 64 entries. The program that was there is given up.
     pub fn grow(&mut self, area: Area) {
+        *self = Areas::with_entries(self.grown(area));
+    }
+
+    fn grown(&self, area: Area) -> [usize; AREAS] {
         let mut entries = self.entries;
         entries[area.index()] = (2 * entries[area.index()]).max(64);
-        *self = Areas::with_entries(entries);
+        entries
+    }
+
+    /// Words of all areas together, once an area is grown.
+    #[cfg(feature = "link")]
+    pub(crate) fn len_grown(&self, area: Area) -> usize {
+        let more = self.grown(area)[area.index()] - self.entries(area);
+        self.len() + more * area.entry_words()
     }
 
     /// Room of an area in entries.

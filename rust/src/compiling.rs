@@ -4,22 +4,22 @@
 use crate::areas::Areas;
 use crate::calls;
 use crate::column_file::{words, LineFault, LINE_BYTES};
-use crate::fault::Fault;
+use crate::fault::ShapeFault;
 use crate::program::Program;
 use crate::records::RECORD_WORDS;
 use crate::refusal::Refusal;
 
 /// The refusal with the rule that a record breaks.
-fn with_fault(refusal: Refusal, tree: &[u64]) -> Refusal {
+fn with_reason(refusal: Refusal, tree: &[u64]) -> Refusal {
     match refusal {
-        Refusal::BadShape { record, .. } => Refusal::BadShape { record, fault: Fault::of(tree, record) },
+        Refusal::BadShape { record, .. } => Refusal::BadShape { record, reason: ShapeFault::of(tree, record) },
         other => other,
     }
 }
 
 /// The shape check: rows 2 to 4 on any words.
 pub fn check(tree: &[u64]) -> Result<(), Refusal> {
-    calls::check(tree).result().map_err(|refusal| with_fault(refusal, tree))
+    calls::check(tree).result().map_err(|refusal| with_reason(refusal, tree))
 }
 
 /// A column file to records, or rows 1 to 4.
@@ -27,8 +27,8 @@ pub fn columns_to_records(file: &[u8]) -> Result<Vec<u64>, Refusal> {
     let mut out = vec![0; file.len() / LINE_BYTES * RECORD_WORDS];
     let converted = calls::columns_to_records(file, &mut out).records();
     let records = converted.map_err(|refusal| match refusal {
-        Refusal::BadLine { line, .. } => Refusal::BadLine { line, fault: LineFault::of(file, line) },
-        other => with_fault(other, &words(file).unwrap_or_default()),
+        Refusal::BadLine { line, .. } => Refusal::BadLine { line, reason: LineFault::of(file, line) },
+        other => with_reason(other, &words(file).unwrap_or_default()),
     })?;
     out.truncate(records * RECORD_WORDS);
     Ok(out)
@@ -38,7 +38,7 @@ pub fn columns_to_records(file: &[u8]) -> Result<Vec<u64>, Refusal> {
 pub fn records_to_columns(tree: &[u64]) -> Result<Vec<u8>, Refusal> {
     let mut out = vec![0; tree.len() / RECORD_WORDS * LINE_BYTES];
     let converted = calls::records_to_columns(tree, &mut out).records();
-    let records = converted.map_err(|refusal| with_fault(refusal, tree))?;
+    let records = converted.map_err(|refusal| with_reason(refusal, tree))?;
     out.truncate(records * LINE_BYTES);
     Ok(out)
 }
@@ -65,7 +65,7 @@ impl Areas {
         let answer = calls::compile(tree, self.lend());
         let (reply, refusal) = (answer.reply, answer.program().err());
         self.keep(reply);
-        refusal.map_or(Ok(()), |refusal| Err(with_fault(refusal, tree)))
+        refusal.map_or(Ok(()), |refusal| Err(with_reason(refusal, tree)))
     }
 
     /// The same, and where an area is full it is [grown](Areas::grow) and the bundle compiled again,
@@ -74,7 +74,7 @@ impl Areas {
     pub fn compile_growing(&mut self, tree: &[u64], most: usize) -> Result<Program<'_>, Refusal> {
         while let Err(refusal) = self.compile(tree) {
             let Refusal::AreaFull { area } = refusal else { return Err(refusal) };
-            if self.len() + self.words(area).len() > most {
+            if self.len_grown(area) > most {
                 return Err(refusal);
             }
             self.grow(area);

@@ -11,7 +11,7 @@ use std::ops::RangeInclusive;
 /// The rule that a record breaks.
 #[derive(Clone, Copy, Debug, PartialEq, Eq)]
 #[non_exhaustive]
-pub enum Fault {
+pub enum ShapeFault {
     /// There are no records at all.
     NoRecords,
     /// No kind has this number.
@@ -61,39 +61,41 @@ pub enum Fault {
     },
 }
 
-impl Fault {
+impl ShapeFault {
     /// Why the library answers row 3 at this record; none where no rule speaks against it, or where a
     /// record before it breaks one.
-    pub fn of(tree: &[u64], record: u64) -> Option<Fault> {
+    pub fn of(tree: &[u64], record: u64) -> Option<ShapeFault> {
         if tree.is_empty() {
-            return Some(Fault::NoRecords);
+            return Some(ShapeFault::NoRecords);
         }
         let (tree, record) = (Tree(tree), usize::try_from(record).ok()?);
         (record < tree.len()).then(|| tree.fault(record)).flatten()
     }
 }
 
-impl fmt::Display for Fault {
+impl fmt::Display for ShapeFault {
     fn fmt(&self, out: &mut fmt::Formatter<'_>) -> fmt::Result {
         match *self {
-            Fault::NoRecords => write!(out, "there are no records"),
-            Fault::UnknownKind(number) => write!(out, "no kind has the number {number}"),
-            Fault::Misplaced { kind, inside, wanted } => {
+            ShapeFault::NoRecords => write!(out, "there are no records"),
+            ShapeFault::UnknownKind(number) => write!(out, "no kind has the number {number}"),
+            ShapeFault::Misplaced { kind, inside, wanted } => {
                 let place = inside.map_or("a bundle", Kind::word);
                 write!(out, "kind {}, {kind}, may not stand here in {place}: {wanted} may", kind.number())
             }
-            Fault::SpanZero => write!(out, "its span is 0"),
-            Fault::SpanTooLong { span, left } => write!(out, "its span is {span}, and {left} records are left there"),
-            Fault::PositionUnused(kind) => write!(out, "kind {}, {kind}, has position 0 always", kind.number()),
-            Fault::PositionTooLarge => write!(out, "its line or column is over {}", Position::MOST),
-            Fault::Value { kind, value } => {
+            ShapeFault::SpanZero => write!(out, "its span is 0"),
+            ShapeFault::SpanTooLong { span, left } => {
+                write!(out, "its span is {span}, and {left} records are left there")
+            }
+            ShapeFault::PositionUnused(kind) => write!(out, "kind {}, {kind}, has position 0 always", kind.number()),
+            ShapeFault::PositionTooLarge => write!(out, "its line or column is over {}", Position::MOST),
+            ShapeFault::Value { kind, value } => {
                 let (least, most) = values(kind).into_inner();
                 write!(out, "kind {}, {kind}, has a value from {least} to {most}, and not {value}", kind.number())
             }
-            Fault::AnotherThis { text, first } => {
+            ShapeFault::AnotherThis { text, first } => {
                 write!(out, "a `this` parameter is {text} here and {first} before")
             }
-            Fault::PartMissing { kind, part } => write!(out, "kind {}, {kind}, lacks {part}", kind.number()),
+            ShapeFault::PartMissing { kind, part } => write!(out, "kind {}, {kind}, lacks {part}", kind.number()),
         }
     }
 }
@@ -268,38 +270,38 @@ impl Tree<'_> {
         Some(seen)
     }
 
-    fn fault(self, record: usize) -> Option<Fault> {
+    fn fault(self, record: usize) -> Option<ShapeFault> {
         let stand = self.stand(record)?;
         let [number, span, position, value] = self.record(record);
-        let Some(kind) = Kind::from_number(number) else { return Some(Fault::UnknownKind(number)) };
+        let Some(kind) = Kind::from_number(number) else { return Some(ShapeFault::UnknownKind(number)) };
         let place = place(stand.parent, stand.seen, stand.body);
         if !place.admits(kind) {
-            return Some(Fault::Misplaced { kind, inside: stand.parent, wanted: place.word() });
+            return Some(ShapeFault::Misplaced { kind, inside: stand.parent, wanted: place.word() });
         }
         let Some(end) = self.next(record, stand.end) else {
             let left = (stand.end - record) as u64;
-            return Some(if span == 0 { Fault::SpanZero } else { Fault::SpanTooLong { span, left } });
+            return Some(if span == 0 { ShapeFault::SpanZero } else { ShapeFault::SpanTooLong { span, left } });
         };
         self.own(kind, position, value).or_else(|| self.another_this(record, kind)).or_else(|| {
             let part = due(kind, self.children(record, end)?)?;
-            Some(Fault::PartMissing { kind, part })
+            Some(ShapeFault::PartMissing { kind, part })
         })
     }
 
-    fn own(self, kind: Kind, position: u64, value: u64) -> Option<Fault> {
+    fn own(self, kind: Kind, position: u64, value: u64) -> Option<ShapeFault> {
         if !kind.has_position() && position != 0 {
-            return Some(Fault::PositionUnused(kind));
+            return Some(ShapeFault::PositionUnused(kind));
         }
         if !Position::from_word(position).is_known() {
-            return Some(Fault::PositionTooLarge);
+            return Some(ShapeFault::PositionTooLarge);
         }
-        (!values(kind).contains(&value)).then_some(Fault::Value { kind, value })
+        (!values(kind).contains(&value)).then_some(ShapeFault::Value { kind, value })
     }
 
-    fn another_this(self, record: usize, kind: Kind) -> Option<Fault> {
+    fn another_this(self, record: usize, kind: Kind) -> Option<ShapeFault> {
         let first = (0..record).find(|&at| self.kind(at) == Some(Kind::ThisParameter))?;
         let [first, text] = [first, record].map(|at| Text::from_number(self.record(at)[3]));
-        (kind == Kind::ThisParameter && first != text).then_some(Fault::AnotherThis { text, first })
+        (kind == Kind::ThisParameter && first != text).then_some(ShapeFault::AnotherThis { text, first })
     }
 }
 
@@ -308,12 +310,12 @@ mod tests {
     use super::*;
 
     fn said(tree: &[[u64; 4]], record: u64) -> String {
-        Fault::of(&tree.concat(), record).expect("a fault").to_string()
+        ShapeFault::of(&tree.concat(), record).expect("a fault").to_string()
     }
 
     #[test]
     fn each_rule_is_named() {
-        assert_eq!(Fault::of(&[], 0).expect("one").to_string(), "there are no records");
+        assert_eq!(ShapeFault::of(&[], 0).expect("one").to_string(), "there are no records");
         assert_eq!(said(&[[99, 1, 0, 2]], 0), "no kind has the number 99");
         assert_eq!(said(&[[14, 1, 0, 2]], 0), "kind 14, function, may not stand here in a bundle: documents may");
         assert_eq!(said(&[[1, 0, 0, 2]], 0), "its span is 0");

@@ -2,7 +2,7 @@
 
 use crate::areas::Area;
 use crate::column_file::LineFault;
-use crate::fault::Fault;
+use crate::fault::ShapeFault;
 use crate::kind::{Infix, Kind, Prefix};
 use crate::numbered::numbered;
 use crate::position::Position;
@@ -20,7 +20,7 @@ pub enum Refusal {
         /// The first such line, from 1.
         line: u64,
         /// What is wrong with it, where the file was at hand.
-        fault: Option<LineFault>,
+        reason: Option<LineFault>,
     },
     /// Row 2: the words are no records, or too many.
     BadLength,
@@ -29,7 +29,7 @@ pub enum Refusal {
         /// The first such record, from 0.
         record: u64,
         /// Which rule it breaks, where the records were at hand.
-        fault: Option<Fault>,
+        reason: Option<ShapeFault>,
     },
     /// Row 4: a record stands below the deepest level.
     TooDeep {
@@ -73,9 +73,9 @@ impl Refusal {
         let listed = errors.chunks_exact(Area::Errors.entry_words()).take_while(|entry| entry[0] != 0);
         Some(match number {
             0 => return None,
-            1 => Refusal::BadLine { line: place, fault: None },
+            1 => Refusal::BadLine { line: place, reason: None },
             2 => Refusal::BadLength,
-            3 => Refusal::BadShape { record: place, fault: None },
+            3 => Refusal::BadShape { record: place, reason: None },
             4 => Refusal::TooDeep { record: place },
             5 => Refusal::BookTwice { record: place },
             6 => Refusal::BookMissing { file: Text::from_number(place) },
@@ -141,19 +141,22 @@ impl Refusal {
     /// The refusal in a sentence, with the names that the table knows; errors are not in it.
     pub fn spelt(&self, texts: &Texts) -> String {
         let word = self.word();
-        let because = |fault: Option<String>| fault.map_or_else(String::new, |fault| format!(": {fault}"));
+        let because = |reason: Option<String>| reason.map_or_else(String::new, |reason| format!(": {reason}"));
         match self {
-            Refusal::BadLine { line, fault } => {
+            Refusal::BadLine { line, reason } => {
                 format!(
                     "{word}: line {line} of the column file is off its form{}",
-                    because(fault.map(|f| f.to_string()))
+                    because(reason.map(|reason| reason.to_string()))
                 )
             }
             Refusal::BadLength => {
                 format!("{word}: the words are no multiple of {RECORD_WORDS}, or over {MAX_RECORDS} records")
             }
-            Refusal::BadShape { record, fault } => {
-                format!("{word}: record {record} is against the tree rules{}", because(fault.map(|f| f.to_string())))
+            Refusal::BadShape { record, reason } => {
+                format!(
+                    "{word}: record {record} is against the tree rules{}",
+                    because(reason.map(|reason| reason.to_string()))
+                )
             }
             Refusal::TooDeep { record } => format!("{word}: record {record} stands at level {}", MAX_LEVEL + 1),
             Refusal::BookTwice { record } => {
@@ -185,7 +188,7 @@ impl std::error::Error for Refusal {}
 
 numbered! {
     /// What is wrong in a book, with the original's messages.
-    pub enum Complaint {
+    pub enum ErrorKind {
         /// A name is defined twice in a scope.
         VariableExists = 1 "variable already exists",
         /// The left part of an assignment is no target.
@@ -247,7 +250,7 @@ fn other() -> String {
 #[derive(Clone, Copy, Debug, PartialEq, Eq)]
 pub struct Error {
     /// What is wrong.
-    pub complaint: Complaint,
+    pub kind: ErrorKind,
     /// Where.
     pub position: Position,
     /// At which token.
@@ -256,14 +259,14 @@ pub struct Error {
 
 impl Error {
     fn of(entry: &[u64]) -> Error {
-        let known = Complaint::from_number(entry[0]).zip(Kind::from_number(entry[2]));
-        let (complaint, kind) = known.unwrap_or_else(|| unreachable!("a book has no error {entry:?}"));
-        Error { complaint, position: Position::from_word(entry[1]), token: Token { kind, value: entry[3] } }
+        let known = ErrorKind::from_number(entry[0]).zip(Kind::from_number(entry[2]));
+        let (kind, token) = known.unwrap_or_else(|| unreachable!("a book has no error {entry:?}"));
+        Error { kind, position: Position::from_word(entry[1]), token: Token { kind: token, value: entry[3] } }
     }
 
     /// As the original prints it.
     pub fn spelt(&self, texts: &Texts) -> String {
-        format!("at {} near {} - {}", self.position, self.token.spelt(texts), self.complaint)
+        format!("at {} near {} - {}", self.position, self.token.spelt(texts), self.kind)
     }
 }
 
@@ -296,7 +299,7 @@ mod tests {
 
     #[test]
     fn rows_and_places_come_back() {
-        let ring = Complaint::Ring.number();
+        let ring = ErrorKind::Ring.number();
         let errors = [ring, 0, 0, 5, ring, 0, 0, 6, 0, 0, 0, 0];
         for (row, place) in [(1, 4), (2, 0), (3, 5), (4, 64), (5, 2), (6, 8), (7, 2), (8, 2), (9, 7), (9, 0)] {
             let listed = if row == 8 { &errors[..] } else { &[] };

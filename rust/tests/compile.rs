@@ -2,7 +2,7 @@
 #![cfg(feature = "link")]
 
 use clover_back_end::records::{Definitions, Filled, Function, Records, Slot, MAX_LEVEL};
-use clover_back_end::{columns_to_records, compile, Area, Areas, Complaint, Constant, Infix, Instruction};
+use clover_back_end::{columns_to_records, compile, Area, Areas, Constant, ErrorKind, Infix, Instruction};
 use clover_back_end::{OpCode, Position, Prefix, Program, Refusal, Text, AREAS};
 use std::path::Path;
 
@@ -71,14 +71,14 @@ fn signs(slot: Slot, levels: usize) -> Filled {
 #[test]
 fn rows_2_to_6() {
     assert_eq!(refused(&[1, 1, 0]), Refusal::BadLength);
-    assert!(matches!(refused(&[]), Refusal::BadShape { record: 0, fault: Some(_) }));
+    assert!(matches!(refused(&[]), Refusal::BadShape { record: 0, reason: Some(_) }));
     let deep = body(|f| f.body(|body| body.expression(|slot| signs(slot, MAX_LEVEL - 3))));
     assert_eq!(refused(deep.words()), Refusal::TooDeep { record: MAX_LEVEL as u64 });
     assert_eq!(refused(&[1, 1, 0, 2, 1, 1, 0, 2]), Refusal::BookTwice { record: 1 });
     let including = document(2, |book| book.include(text(8), |_| {}));
     assert_eq!(refused(including.words()), Refusal::BookMissing { file: text(8) });
     let far = document(2, |book| book.model(text(3).at(Position::new(1, Position::MOST + 1)), |_| {}));
-    assert!(matches!(refused(far.words()), Refusal::BadShape { record: 1, fault: Some(_) }));
+    assert!(matches!(refused(far.words()), Refusal::BadShape { record: 1, reason: Some(_) }));
 }
 
 #[test]
@@ -95,7 +95,7 @@ fn rows_7_and_8_list_errors() {
     let spelt = "book faulty: text 2 has errors\n  at (2, 7) near Assign - can not assign";
     assert_eq!(refusal.to_string(), spelt);
     let Refusal::BookFaulty { file, errors } = refusal else { panic!("{refusal}") };
-    assert_eq!((file, errors[0].complaint), (text(2), Complaint::CanNotAssign));
+    assert_eq!((file, errors[0].kind), (text(2), ErrorKind::CanNotAssign));
     let itself = refused(document(2, |book| book.include(text(2), |_| {})).words());
     assert_eq!(itself, Refusal::Ring { files: vec![text(2)] });
 }
@@ -207,7 +207,7 @@ impl Listing {
         for (index, error) in (0..).zip(errors) {
             let Position { line, column } = error.position;
             let kind = error.token.kind.number();
-            let middle = [index, error.complaint.number(), u64::from(line), u64::from(column), kind];
+            let middle = [index, error.kind.number(), u64::from(line), u64::from(column), kind];
             self.line(11, &middle, &error.token.value.to_string());
         }
     }

@@ -3,7 +3,7 @@
 
 use clover_back_end::records::{Records, RECORD_WORDS};
 use clover_back_end::{check, columns_to_records, records_to_columns};
-use clover_back_end::{Fault, LineFault, Position, Refusal, Text, LINE_BYTES};
+use clover_back_end::{LineFault, Position, Refusal, ShapeFault, Text, LINE_BYTES};
 use std::path::Path;
 
 fn tree() -> Records {
@@ -28,17 +28,17 @@ fn records_come_back_from_their_file() {
 #[test]
 fn refusals_have_row_place_and_reason() {
     assert_eq!(check(&[1, 1, 0]), Err(Refusal::BadLength));
-    assert_eq!(check(&[]), Err(Refusal::BadShape { record: 0, fault: Some(Fault::NoRecords) }));
-    let fault = Some(Fault::SpanTooLong { span: 2, left: 1 });
-    assert_eq!(check(&[1, 1, 0, 2, 1, 2, 0, 3]), Err(Refusal::BadShape { record: 1, fault }));
-    let fault = Some(LineFault::Length(7));
-    assert_eq!(columns_to_records(b"no line"), Err(Refusal::BadLine { line: 1, fault }));
-    let fault = Some(Fault::UnknownKind(7));
-    assert_eq!(records_to_columns(&[7; 4]), Err(Refusal::BadShape { record: 0, fault }));
+    assert_eq!(check(&[]), Err(Refusal::BadShape { record: 0, reason: Some(ShapeFault::NoRecords) }));
+    let reason = Some(ShapeFault::SpanTooLong { span: 2, left: 1 });
+    assert_eq!(check(&[1, 1, 0, 2, 1, 2, 0, 3]), Err(Refusal::BadShape { record: 1, reason }));
+    let reason = Some(LineFault::Length(7));
+    assert_eq!(columns_to_records(b"no line"), Err(Refusal::BadLine { line: 1, reason }));
+    let reason = Some(ShapeFault::UnknownKind(7));
+    assert_eq!(records_to_columns(&[7; 4]), Err(Refusal::BadShape { record: 0, reason }));
     let file = records_to_columns(tree().words()).expect("good records");
     let doubled = [&file[..LINE_BYTES], &file[..LINE_BYTES]].concat();
-    let fault = Some(Fault::SpanTooLong { span: 4, left: 2 });
-    assert_eq!(columns_to_records(&doubled), Err(Refusal::BadShape { record: 0, fault }));
+    let reason = Some(ShapeFault::SpanTooLong { span: 4, left: 2 });
+    assert_eq!(columns_to_records(&doubled), Err(Refusal::BadShape { record: 0, reason }));
 }
 
 fn example(name: &str) -> Vec<u8> {
@@ -58,7 +58,7 @@ fn every_refused_record_has_a_reason() {
                 let mut tree = good.clone();
                 tree[at] = word;
                 match check(&tree) {
-                    Err(Refusal::BadShape { record, fault: None }) => panic!("{name}: word {at} is {word}: {record}"),
+                    Err(Refusal::BadShape { record, reason: None }) => panic!("{name}: word {at} is {word}: {record}"),
                     Err(_) => refused += 1,
                     Ok(()) => {}
                 }
@@ -76,7 +76,7 @@ fn every_refused_line_has_a_reason() {
         for byte in *b" 0-9\nx" {
             let mut file = good.clone();
             file[at] = byte;
-            if let Err(Refusal::BadLine { line, fault: None }) = columns_to_records(&file) {
+            if let Err(Refusal::BadLine { line, reason: None }) = columns_to_records(&file) {
                 panic!("byte {at} is {byte}: line {line} has no reason");
             }
         }

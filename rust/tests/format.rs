@@ -1,6 +1,6 @@
 //! docs/FORMAT.md says what the crate's enums say, and its example is a bundle.
 
-use clover_back_end::{Area, Complaint, Constant, Infix, Kind, OpCode, Operation, Prefix, Text};
+use clover_back_end::{Area, Constant, ErrorKind, Infix, Kind, OpCode, Operation, Prefix, Text};
 use std::collections::BTreeMap;
 use std::path::Path;
 
@@ -82,7 +82,7 @@ fn areas_rows_and_errors_are_those_of_the_crate() {
         assert!(rows.iter().any(|row| row.len() == 3 && row[..2] == wanted), "{wanted:?}");
     }
     let found = pairs("Errors");
-    assert!(Complaint::ALL.iter().all(|complaint| holds(&found, complaint.number(), complaint.word())));
+    assert!(ErrorKind::ALL.iter().all(|kind| holds(&found, kind.number(), kind.word())));
 }
 
 #[cfg(feature = "link")]

@@ -5,7 +5,7 @@ use crate::input::{Content, Input};
 use crate::sources::Sources;
 use crate::style::{counted, Style};
 use clover_back_end::nodes::{documents, Node};
-use clover_back_end::{Complaint, Error, Kind, Position, Refusal, Text, Texts};
+use clover_back_end::{Error, ErrorKind, Kind, Position, Refusal, Text, Texts};
 
 /// Of rows 1 to 4 while a file is read.
 pub fn input(refusal: &Refusal, input: &Input) -> String {
@@ -82,19 +82,19 @@ fn fault(file: Text, error: &Error, bundle: &Bundle) -> String {
     let style = Style::of_output();
     let Position { line, column } = error.position;
     let place = style.title(format!("{}:{line}:{column}", bundle.texts.spelt(file)));
-    let (token, complaint) = (error.token.spelt(&bundle.texts), error.complaint);
+    let (token, kind) = (error.token.spelt(&bundle.texts), error.kind);
     let source = source_line(&bundle.sources, file, error.position).unwrap_or_default();
-    format!("\n{place}: error {}: {complaint}: {token}\n{source}{}", complaint.number(), advice(complaint))
+    format!("\n{place}: error {}: {kind}: {token}\n{source}{}", kind.number(), advice(kind))
 }
 
 /// What an author may do.
-fn advice(complaint: Complaint) -> &'static str {
-    match complaint {
-        Complaint::RescueInside => {
+fn advice(kind: ErrorKind) -> &'static str {
+    match kind {
+        ErrorKind::RescueInside => {
             "       = `rescue` stands among a function's own statements, outside every if and for\n"
         }
-        Complaint::CanNotAssign => "       = the left part is a name, `instance.name` or `instance[index]`\n",
-        Complaint::ValueNotConstant => "       = a top-level local starts with a number, true, false or null\n",
+        ErrorKind::CanNotAssign => "       = the left part is a name, `instance.name` or `instance[index]`\n",
+        ErrorKind::ValueNotConstant => "       = a top-level local starts with a number, true, false or null\n",
         _ => "",
     }
 }
