@@ -1,7 +1,7 @@
 //! Links the static library of this repository: the one that CLOVER_BACK_END_LIB names, or that of
-//! `rt staticlib clover_back_end`, which is asked at every build. Crates that have not changed since
-//! they were proved are not proved again, so that this takes seconds; the first time takes minutes.
-//! The variable RT names another `rt`.
+//! `rt staticlib clover_back_end`, which is asked whenever a crate of the repository has changed since the
+//! last build. Crates beneath that have not changed are not proved again, so that this takes a minute or
+//! less; the first time takes some ten. The variable RT names another `rt`.
 
 use std::env;
 use std::fs::OpenOptions;
@@ -41,9 +41,15 @@ fn built() -> PathBuf {
     root.join(LIBRARY)
 }
 
+/// The library that a variable names. One that `rt` writes is not listed: it is written at each asking,
+/// and would always be newer than this script's last run.
+fn given(library: &Path) -> PathBuf {
+    println!("cargo:rerun-if-changed={}", library.display());
+    library.to_path_buf()
+}
+
 fn link(library: &Path) {
     let library = library.canonicalize().unwrap_or_else(|e| panic!("{}: {e}", library.display()));
-    println!("cargo:rerun-if-changed={}", library.display());
     let stem = library.file_stem().and_then(|stem| stem.to_str()).expect("a file name");
     println!("cargo:rustc-link-search=native={}", library.parent().expect("a folder").display());
     println!("cargo:rustc-link-lib=static={}", stem.strip_prefix("lib").expect("libNAME.a"));
@@ -54,6 +60,6 @@ fn main() {
     println!("cargo:rerun-if-env-changed={VARIABLE}");
     println!("cargo:rerun-if-env-changed=RT");
     if env::var_os("CARGO_FEATURE_LINK").is_some() {
-        link(&env::var_os(VARIABLE).map_or_else(built, PathBuf::from));
+        link(&env::var_os(VARIABLE).map_or_else(built, |name| given(Path::new(&name))));
     }
 }
