@@ -46,6 +46,7 @@ pub mod calls;
 mod column_file;
 #[cfg(feature = "link")]
 mod compiling;
+mod constant;
 mod fault;
 mod instruction;
 mod kind;
@@ -62,11 +63,12 @@ pub use areas::{Area, Areas, AREAS};
 pub use column_file::{LineFault, LINE_BYTES};
 #[cfg(feature = "link")]
 pub use compiling::{check, columns_to_records, compile, records_to_columns};
+pub use constant::Constant;
 pub use fault::ShapeFault;
 pub use instruction::{Instruction, OpCode, Operand, Operation};
 pub use kind::{Infix, Kind, Prefix};
 pub use position::Position;
-pub use program::{Constant, ContextLocal, Function, Method, Model, Program, PublicName, Totals};
+pub use program::{ContextLocal, Function, Method, Model, Program, PublicName, Totals};
 pub use refusal::{Error, ErrorKind, Refusal, Token};
 pub use reply::{Answer, Checked, Converted, Reply, Version};
 pub use texts::{Text, Texts, TextsError};

@@ -1,7 +1,10 @@
 //! Enums whose cases are numbers of docs/FORMAT.md, each with the word that people read.
 
 macro_rules! numbered {
-    ($(#[$about:meta])* pub enum $name:ident { $($(#[$case_about:meta])* $case:ident = $number:literal $word:literal,)* }) => {
+    (
+        $(#[$about:meta])*
+        pub enum $name:ident { $($(#[$case_about:meta])* $case:ident = $number:literal $word:literal,)* }
+    ) => {
         $(#[$about])*
         #[derive(Clone, Copy, Debug, PartialEq, Eq, Hash, PartialOrd, Ord)]
         pub enum $name {

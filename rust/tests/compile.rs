@@ -150,22 +150,41 @@ impl Listing {
 
     fn program(&mut self, program: &Program) {
         let totals = program.totals();
-        let files = totals.books;
-        let counts =
-            [totals.functions, totals.constants, totals.models, totals.context_locals, totals.entry_point, files];
-        self.line(1, &counts, &totals.global_dependencies.to_string());
-        for (index, f) in (0..).zip(program.functions()) {
+        let counts = [totals.functions, totals.constants, totals.models, totals.context_locals];
+        self.line(
+            1,
+            &[&counts[..], &[totals.entry_point, totals.books]].concat(),
+            &totals.global_dependencies.to_string(),
+        );
+        self.functions(program);
+        program.functions().for_each(|function| self.instructions(&function));
+        self.constants(program);
+        self.models(program);
+        let locals = (0..).zip(program.context_locals());
+        let values = locals.filter_map(|(index, local)| Some([index, local.constant?]));
+        values.for_each(|value| self.line(8, &value, "0"));
+        program.global_dependencies().for_each(|constant| self.line(9, &[constant], "0"));
+        let files = (0..).zip(program.books());
+        files.for_each(|(index, file)| self.line(10, &[index], &file.number().to_string()));
+    }
+
+    fn functions(&mut self, program: &Program) {
+        for f in program.functions() {
             let instance = u64::from(f.is_instance());
-            let middle = [index, f.parameters(), f.locals(), f.rescue_position(), instance, f.file()];
+            let middle = [f.index(), f.parameters(), f.locals(), f.rescue_position(), instance, f.file()];
             self.line(2, &middle, &f.name().number().to_string());
         }
-        for (function, f) in (0..).zip(program.functions()) {
-            for (index, (instruction, at)) in (0..).zip(f.instructions()) {
-                let opcode = instruction.opcode() as u64;
-                let middle = [function, index, u64::from(at.line), u64::from(at.column), opcode];
-                self.line(3, &middle, &instruction.operand().to_string());
-            }
+    }
+
+    fn instructions(&mut self, function: &clover_back_end::Function) {
+        for (index, (instruction, at)) in (0..).zip(function.instructions()) {
+            let opcode = instruction.opcode().number();
+            let middle = [function.index(), index, u64::from(at.line), u64::from(at.column), opcode];
+            self.line(3, &middle, &instruction.operand().to_string());
         }
+    }
+
+    fn constants(&mut self, program: &Program) {
         for (index, constant) in (0..).zip(program.constants()) {
             let value = match constant {
                 Constant::Integer(value) => value.to_string(),
@@ -173,31 +192,18 @@ impl Listing {
             };
             self.line(4, &[index, constant.kind()], &value);
         }
-        for (index, model) in (0..).zip(program.models()) {
-            self.line(5, &[index, model.file()], &model.name().number().to_string());
-        }
-        for (model, m) in (0..).zip(program.models()) {
-            for (index, name) in (0..).zip(m.properties()) {
-                self.line(6, &[model, index], &name.number().to_string());
-            }
-        }
-        for (model, m) in (0..).zip(program.models()) {
+    }
+
+    fn models(&mut self, program: &Program) {
+        program.models().for_each(|m| self.line(5, &[m.index(), m.file()], &m.name().number().to_string()));
+        let properties = program.models().flat_map(|m| (0..).zip(m.properties()).map(move |(at, name)| (m, at, name)));
+        properties.for_each(|(m, at, name)| self.line(6, &[m.index(), at], &name.number().to_string()));
+        for m in program.models() {
             let mut methods: Vec<_> = m.methods().collect();
             methods.sort_by_key(|method| method.name);
-            for method in methods {
-                self.line(7, &[model, method.function], &method.name.number().to_string());
-            }
-        }
-        for (index, local) in (0..).zip(program.context_locals()) {
-            if let Some(constant) = local.constant {
-                self.line(8, &[index, constant], "0");
-            }
-        }
-        for constant in program.global_dependencies() {
-            self.line(9, &[constant], "0");
-        }
-        for (index, file) in (0..).zip(program.books()) {
-            self.line(10, &[index], &file.number().to_string());
+            methods
+                .iter()
+                .for_each(|known| self.line(7, &[m.index(), known.function], &known.name.number().to_string()));
         }
     }
 

@@ -24,22 +24,12 @@ fn longest<T: PartialEq>(old: &[T], new: &[T]) -> Vec<(usize, usize)> {
     if old.is_empty() || new.is_empty() || (old.len() + 1).saturating_mul(wide) > MOST_CELLS {
         return Vec::new();
     }
-    let mut best = vec![0u32; (old.len() + 1) * wide];
-    for one in (0..old.len()).rev() {
-        for two in (0..new.len()).rev() {
-            best[one * wide + two] = if old[one] == new[two] {
-                best[(one + 1) * wide + two + 1] + 1
-            } else {
-                best[(one + 1) * wide + two].max(best[one * wide + two + 1])
-            };
-        }
-    }
+    let best = lengths(old, new);
     let (mut one, mut two, mut pairs) = (0, 0, Vec::new());
     while one < old.len() && two < new.len() {
         if old[one] == new[two] {
             pairs.push((one, two));
-            one += 1;
-            two += 1;
+            (one, two) = (one + 1, two + 1);
         } else if best[(one + 1) * wide + two] >= best[one * wide + two + 1] {
             one += 1;
         } else {
@@ -47,6 +37,21 @@ fn longest<T: PartialEq>(old: &[T], new: &[T]) -> Vec<(usize, usize)> {
         }
     }
     pairs
+}
+
+/// How long a common subsequence can be from each pair of places on, row by row.
+fn lengths<T: PartialEq>(old: &[T], new: &[T]) -> Vec<u32> {
+    let wide = new.len() + 1;
+    let mut best = vec![0u32; (old.len() + 1) * wide];
+    let cells = (0..old.len()).rev().flat_map(|one| (0..new.len()).rev().map(move |two| (one, two)));
+    for (one, two) in cells {
+        best[one * wide + two] = if old[one] == new[two] {
+            best[(one + 1) * wide + two + 1] + 1
+        } else {
+            best[(one + 1) * wide + two].max(best[one * wide + two + 1])
+        };
+    }
+    best
 }
 
 /// Items that do not belong together: runs of both lists between two pairs.

@@ -138,31 +138,32 @@ fn reach(blocks: &mut [Block]) {
     }
 }
 
-/// A way to an earlier block closes a loop. Its blocks are those that lead to it without passing its head.
+/// A way to an earlier block closes a loop.
 fn loops(blocks: &mut [Block]) {
-    let back: Vec<(usize, usize)> = (0..blocks.len())
-        .flat_map(|from| blocks[from].ways.iter().map(move |&(_, to)| (from, to)))
-        .filter(|(from, to)| to <= from)
-        .collect();
     let mut before = vec![Vec::new(); blocks.len()];
-    for (from, block) in blocks.iter().enumerate() {
-        block.ways.iter().for_each(|&(_, to)| before[to].push(from));
-    }
-    for (tail, head) in back {
-        let mut inside = BTreeSet::from([head]);
-        let mut open = vec![tail];
-        while let Some(at) = open.pop() {
-            if inside.insert(at) {
-                open.extend(&before[at]);
-            }
-        }
+    let ways = |from: usize| blocks[from].ways.iter().map(move |&(_, to)| (from, to));
+    let all: Vec<(usize, usize)> = (0..blocks.len()).flat_map(ways).collect();
+    all.iter().for_each(|&(from, to)| before[to].push(from));
+    for (tail, head) in all.into_iter().filter(|(from, to)| to <= from) {
         blocks[head].head = true;
-        inside.into_iter().for_each(|at| blocks[at].loops.push(head));
+        inside(tail, head, &before).into_iter().for_each(|at| blocks[at].loops.push(head));
     }
     for block in blocks {
         block.loops.sort_unstable();
         block.loops.dedup();
     }
+}
+
+/// The blocks of a loop: those that lead to its tail without passing its head.
+fn inside(tail: usize, head: usize, before: &[Vec<usize>]) -> BTreeSet<usize> {
+    let mut inside = BTreeSet::from([head]);
+    let mut open = vec![tail];
+    while let Some(at) = open.pop() {
+        if inside.insert(at) {
+            open.extend(&before[at]);
+        }
+    }
+    inside
 }
 
 /// Labels of jump targets: `L1`, `L2` in their order.

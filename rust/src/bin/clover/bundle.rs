@@ -63,3 +63,13 @@ fn compile(tree: &[u64], mut areas: Areas, most: usize) -> (Areas, Option<Refusa
     let refusal = areas.compile_growing(tree, most).err();
     (areas, refusal)
 }
+
+#[cfg(test)]
+impl Bundle {
+    /// A bundle of records that are delivered, without sources.
+    pub fn of(tree: Vec<u64>, texts: Texts) -> Bundle {
+        let mut areas = Areas::for_tree(&tree);
+        areas.compile_growing(&tree, MEMORY * MIB / WORD_BYTES).expect("delivered");
+        Bundle { name: String::new(), tree, texts, sources: Sources::default(), areas }
+    }
+}

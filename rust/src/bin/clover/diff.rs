@@ -87,9 +87,11 @@ impl Report {
                 Some(_) => {}
             }
         }
-        for entry in new.iter().filter(|(key, _)| !old.contains_key(*key)).map(|(_, entry)| entry) {
-            self.say(&entry.place, &format!("{what} {} is new{}", entry.name, after(": ", &entry.value, "")));
-        }
+        let added = new.iter().filter(|(key, _)| !old.contains_key(*key));
+        added.for_each(|(_, entry)| {
+            let value = after(": ", &entry.value, "");
+            self.say(&entry.place, &format!("{what} {} is new{value}", entry.name));
+        });
     }
 
     fn say(&mut self, place: &str, what: &str) {
@@ -167,9 +169,7 @@ fn compare(old: &Side, new: &Side, distances: bool) -> (bool, String) {
     let texts = old.bundle.texts.len() > 1 && new.bundle.texts.len() > 1;
     let reading = if texts && !distances { Reading::Names } else { Reading::Distances };
     let mut report = Report { style: Style::of_output(), out: String::new(), changed: 0, same: 0, moved: 0 };
-    for (what, of) in SECTIONS {
-        report.entries(what, &of(old), &of(new), new);
-    }
+    SECTIONS.iter().for_each(|(what, of)| report.entries(what, &of(old), &of(new), new));
     let (was, is) = (old.functions(), new.functions());
     for (key, &function) in &was {
         match is.get(key) {
@@ -177,10 +177,11 @@ fn compare(old: &Side, new: &Side, distances: bool) -> (bool, String) {
             None => report.say(&key.0, &format!("function {} is gone", key.1)),
         }
     }
-    for (key, &function) in is.iter().filter(|(key, _)| !was.contains_key(*key)) {
+    let added = is.iter().filter(|(key, _)| !was.contains_key(*key));
+    added.for_each(|(key, function)| {
         let code = counted(function.instructions().len(), "instruction");
         report.say(&key.0, &format!("function {} is new: {code}", key.1));
-    }
+    });
     report.end()
 }
 

@@ -96,23 +96,24 @@ impl Grid {
         for (at, size) in sizes.iter().enumerate() {
             grid.put(Spot { width: size.width, row: boxes[at], of: Some(at) });
         }
-        for edge in edges {
-            let mut chain = vec![edge.from];
-            for row in boxes[edge.from] + 1..boxes[edge.to] {
-                chain.push(grid.put(Spot { width: LANE, row, of: None }));
-            }
-            chain.push(edge.to);
-            for pair in chain.windows(2) {
-                let passing = pair.iter().filter(|&&spot| grid.spots[spot].of.is_none()).count();
-                let weight = [1.0, 2.0, 8.0][passing];
-                grid.below[pair[0]].push((pair[1], weight));
-                grid.above[pair[1]].push((pair[0], weight));
-            }
-            grid.chains.push(chain);
-        }
+        edges.iter().for_each(|edge| grid.lay(edge));
         grid.centre = vec![0.0; grid.spots.len()];
         grid.first_order(sizes.len());
         grid
+    }
+
+    /// Gives an edge its places in the rows that it passes.
+    fn lay(&mut self, edge: &Edge) {
+        let passed = self.spots[edge.from].row + 1..self.spots[edge.to].row;
+        let lanes: Vec<usize> = passed.map(|row| self.put(Spot { width: LANE, row, of: None })).collect();
+        let chain: Vec<usize> = [edge.from].into_iter().chain(lanes).chain([edge.to]).collect();
+        for pair in chain.windows(2) {
+            let passing = pair.iter().filter(|&&spot| self.spots[spot].of.is_none()).count();
+            let weight = [1.0, 2.0, 8.0][passing];
+            self.below[pair[0]].push((pair[1], weight));
+            self.above[pair[1]].push((pair[0], weight));
+        }
+        self.chains.push(chain);
     }
 
     /// Rows in the order in which a walk along the edges, as they are given, first comes to their spots.

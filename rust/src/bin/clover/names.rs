@@ -80,8 +80,13 @@ impl<'a> Names<'a> {
         Ok(found)
     }
 
+    /// What a text says, on one line.
     pub fn text(&self, text: Text) -> String {
-        self.texts.spelt(text).into_owned()
+        let known = self.texts.spelt(text);
+        if known.contains(char::is_control) {
+            return known.escape_debug().to_string();
+        }
+        known.into_owned()
     }
 
     /// The book that a file index names.

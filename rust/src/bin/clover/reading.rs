@@ -9,6 +9,9 @@ use clover_back_end::{Constant, Function, Instruction, OpCode, Operation};
 /// A value that came on more than one way, or that is not known.
 const MET: &str = "(the value)";
 
+/// The end of a line that decides where control goes.
+pub const CONDITION: &str = " ?";
+
 /// How tightly an expression holds together, as the original's parser has it.
 #[derive(Clone, Copy, Debug, PartialEq, Eq, PartialOrd, Ord)]
 enum Rank {
@@ -235,7 +238,7 @@ impl Reader<'_> {
             }
             OpCode::JumpIf => {
                 let value = self.pop().text;
-                self.lines.push(format!("{value} ?"));
+                self.lines.push(format!("{value}{CONDITION}"));
             }
             OpCode::Iterate => self.lines.push(format!("step {named}")),
             OpCode::Jump => {}
@@ -243,15 +246,104 @@ impl Reader<'_> {
         }
     }
 
-    /// What this block leaves on the stack is a line of it too.
+    /// What this block leaves on the stack is a line of it too; a condition stays the last.
     fn finish(mut self, block: &Block, length: usize) -> (Vec<String>, Vec<Value>) {
         let waits = block.ways.iter().any(|&(way, _)| way == Way::Next);
         let kept = self.stack.len() - usize::from(waits && !self.stack.is_empty());
         let own = self.stack.iter().take(kept).skip(self.floor).map(|value| value.text.clone());
-        self.lines.extend(own);
+        let decides = self.lines.last().is_some_and(|line| line.ends_with(CONDITION));
+        let condition = if decides { self.lines.pop() } else { None };
+        self.lines.extend(own.chain(condition));
         if self.lines.is_empty() && block.start == length {
             self.lines.push("end of the function".to_string());
         }
         (self.lines, self.stack)
+    }
+}
+
+#[cfg(test)]
+mod tests {
+    use super::*;
+    use crate::bundle::Bundle;
+    use clover_back_end::records::{Filled, Records, Slot};
+    use clover_back_end::{Infix, Position, Prefix, Text, Texts};
+
+    const NONE: Position = Position::NONE;
+    const A: Text = Text::from_number(4);
+    const B: Text = Text::from_number(5);
+
+    /// The lines of each block of `function f(a, b)` with one expression.
+    fn blocks(value: impl FnOnce(Slot) -> Filled) -> Vec<Vec<String>> {
+        let mut texts = Texts::new();
+        let [file, f, a, b] = ["f.clover", "f", "a", "b"].map(|text| texts.intern(text));
+        assert_eq!((a, b), (A, B));
+        let mut tree = Records::new();
+        tree.document(file, |book| {
+            book.function(f).parameter(a).parameter(b).body(|body| body.expression(value));
+        });
+        let bundle = Bundle::of(tree.into_words(), texts);
+        let names = Names::of(&bundle);
+        let function = names.program.function(0).expect("f");
+        read(&names, function, &Flow::of(function))
+    }
+
+    fn single(value: impl FnOnce(Slot) -> Filled) -> String {
+        let lines = blocks(value).concat();
+        assert_eq!(lines.len(), 1, "{lines:?}");
+        lines[0].strip_prefix("return ").expect("a return").to_string()
+    }
+
+    fn a(slot: Slot) -> Filled {
+        slot.identifier(A)
+    }
+
+    fn b(slot: Slot) -> Filled {
+        slot.identifier(B)
+    }
+
+    fn pair(slot: Slot, infix: Infix, left: fn(Slot) -> Filled, right: fn(Slot) -> Filled) -> Filled {
+        slot.infix(infix, NONE).left(left).right(right)
+    }
+
+    #[test]
+    fn brackets_stand_where_they_are_needed() {
+        use Infix::{And, Equal, Minus, NotEqual, Or, Plus, Star};
+        assert_eq!(single(|slot| pair(slot, Minus, a, |slot| pair(slot, Minus, b, a))), "a - (b - a)");
+        assert_eq!(single(|slot| pair(slot, Minus, |slot| pair(slot, Minus, a, b), a)), "a - b - a");
+        assert_eq!(single(|slot| pair(slot, Star, |slot| pair(slot, Plus, a, b), a)), "(a + b) * a");
+        assert_eq!(single(|slot| pair(slot, Plus, |slot| pair(slot, Star, a, b), a)), "a * b + a");
+        assert_eq!(single(|slot| pair(slot, And, a, |slot| pair(slot, Or, a, b))), "a and (a or b)");
+        assert_eq!(single(|slot| pair(slot, NotEqual, a, b)), "a != b");
+        let negated = |slot: Slot| slot.prefix(Prefix::Not, NONE, |slot| pair(slot, And, a, b));
+        assert_eq!(single(negated), "not (a and b)");
+        let equal = |slot: Slot| pair(slot, Equal, |slot| pair(slot, Equal, a, b), a);
+        assert_eq!(single(|slot| slot.prefix(Prefix::Not, NONE, equal)), "not (a == b == a)");
+        let minus = |slot: Slot| slot.prefix(Prefix::Minus, NONE, |slot| pair(slot, Star, a, b));
+        assert_eq!(single(minus), "-(a * b)");
+    }
+
+    #[test]
+    fn gets_calls_and_assignments() {
+        let index = |slot: Slot| slot.index_get(NONE).instance(a).index(b);
+        assert_eq!(single(index), "a[b]");
+        let call = |slot: Slot| slot.call(NONE).function(a).parameters(|values| values.value(b));
+        assert_eq!(single(call), "a(b)");
+        assert_eq!(single(|slot| pair(slot, Infix::Assign, a, b)), "a = b");
+        assert_eq!(single(|slot| pair(slot, Infix::PlusAssign, a, b)), "a = a + b");
+        let named = |slot: Slot| slot.instance_get(NONE).instance(a).index(|slot| slot.string(B));
+        assert_eq!(single(named), "a.b");
+        assert_eq!(single(|slot| slot.infix(Infix::Assign, NONE).left(named).right(b)), "a.b = b");
+    }
+
+    #[test]
+    fn values_that_meet_have_no_other_name() {
+        let found = blocks(|slot| {
+            let out = slot.infix(Infix::Plus, NONE).left(a);
+            out.right(|slot| {
+                let out = slot.if_expression().condition(b).then(|body| body.expression(a));
+                out.otherwise(|body| body.expression(b))
+            })
+        });
+        assert_eq!(found, [vec!["a", "b ?"], vec!["b"], vec!["a"], vec!["return a + (the value)"]]);
     }
 }

@@ -3,11 +3,14 @@
 use crate::blocks::{Block, Way};
 use crate::graph::{span, Picture};
 use crate::layout::{place, Edge, Layout, Size};
+use crate::reading::CONDITION;
 
 const LETTER: f64 = 7.55;
 const SMALL_LETTER: f64 = 6.1;
 const TITLE_LETTER: f64 = 8.9;
 const LINE: f64 = 17.0;
+/// Room for the mark of a loop.
+const BAR: f64 = 5.0;
 const PAD: f64 = 24.0;
 const INSIDE: f64 = 12.0;
 /// Title and the line under it.
@@ -18,9 +21,10 @@ const LETTERS: usize = 46;
 const SHEET: f64 = 1240.0;
 
 const STYLE: &str = "\
-text{font-family:ui-monospace,SFMono-Regular,Menlo,Consolas,'DejaVu Sans Mono',monospace;font-size:12.5px;fill:#0f172a}\
+text{font-family:ui-monospace,SFMono-Regular,Menlo,Consolas,'DejaVu Sans Mono',monospace;font-size:12.5px}\
+text{fill:#0f172a;white-space:pre}\
 .t{font-weight:700;font-size:14.5px}.s{font-size:10.5px;fill:#64748b}.w{font-size:10.5px}\
-.p{fill:#fff;stroke:#e2e8f0}.b{fill:#f8fafc;stroke:#94a3b8}.c{fill:#eff6ff;stroke:#3b82f6}.r{fill:#f0fdf4;stroke:#16a34a}\
+.m{text-anchor:middle}.z{text-anchor:end}.p{fill:#fff;stroke:#e2e8f0}.b{fill:#f8fafc;stroke:#94a3b8}.c{fill:#eff6ff;stroke:#3b82f6}.r{fill:#f0fdf4;stroke:#16a34a}\
 .l{fill:#f5f3ff;stroke:#7c3aed}.x{fill:#fff7ed;stroke:#ea580c}.i{fill:#c4b5fd}.n{fill:#fff;stroke:#94a3b8}\
 path{fill:none;stroke-width:1.5}.a{stroke:#64748b}.y{stroke:#16a34a}.o{stroke:#dc2626}.k{stroke:#7c3aed;stroke-width:2}\
 .e{stroke:#ea580c;stroke-dasharray:5 4}text.w{paint-order:stroke;stroke:#fff;stroke-width:4px}\
@@ -35,6 +39,13 @@ struct Shape {
     lines: Vec<String>,
     /// Loops around it.
     depth: usize,
+}
+
+impl Shape {
+    /// Whether there is a line above its lines.
+    fn has_head(&self) -> bool {
+        !self.small.is_empty() || self.mark.is_some()
+    }
 }
 
 /// A way between boxes.
@@ -110,7 +121,7 @@ fn shape(picture: &Picture, at: usize) -> Shape {
     let class = match block {
         Block { rescue: true, .. } => "x",
         Block { head: true, .. } => "l",
-        _ if last.ends_with(" ?") => "c",
+        _ if last.ends_with(CONDITION) => "c",
         _ if block.ways.is_empty() => "r",
         _ => "b",
     };
@@ -131,8 +142,8 @@ fn size(shape: &Shape) -> Size {
     let letters = shape.lines.iter().map(|line| line.chars().count()).max().unwrap_or(0) as f64;
     let mark = shape.mark.map_or(0, |(word, _)| word.len() + 2);
     let small = (shape.small.chars().count() + mark) as f64 * SMALL_LETTER;
-    let head = if shape.small.is_empty() && shape.mark.is_none() { 0.0 } else { LINE };
-    let bars = 5.0 * shape.depth as f64;
+    let head = if shape.has_head() { LINE } else { 0.0 };
+    let bars = BAR * shape.depth as f64;
     let width = (letters * LETTER).max(small) + 2.0 * INSIDE + bars;
     let height = head + LINE * shape.lines.len() as f64 + 13.0;
     match shape.class {
@@ -211,10 +222,11 @@ impl<'a> Panel<'a> {
     fn draw(&self) -> String {
         let (title, about) = (escaped(&self.picture.title), escaped(&self.picture.about));
         let mut out = format!(
-            "<rect class=\"p\" x=\".5\" y=\".5\" width=\"{:.0}\" height=\"{:.0}\" rx=\"10\"/>\n\
-             <text class=\"t\" x=\"{PAD}\" y=\"30\">{title}</text><text class=\"s\" x=\"{PAD}\" y=\"47\">{about}</text>\n",
+            "<rect class=\"p\" x=\".5\" y=\".5\" width=\"{:.0}\" height=\"{:.0}\" rx=\"10\"/>\n{}{}\n",
             self.width - 1.0,
-            self.height - 1.0
+            self.height - 1.0,
+            text("t", (PAD, 30.0), &title),
+            text("s", (PAD, 47.0), &about)
         );
         let aside = (self.width - self.layout.width) / 2.0;
         out += &format!("<g transform=\"translate({aside:.1} {:.1})\">\n", HEAD + PAD / 2.0);
@@ -224,7 +236,7 @@ impl<'a> Panel<'a> {
         let below = HEAD + PAD + self.layout.height + 14.0;
         for (at, note) in self.small_lines().iter().enumerate() {
             let y = below + 15.0 * at as f64;
-            out += &format!("<text class=\"s\" x=\"{PAD}\" y=\"{y:.0}\">{}</text>\n", escaped(note));
+            out += &format!("{}\n", text("s", (PAD, y), &escaped(note)));
         }
         out
     }
@@ -252,7 +264,7 @@ impl<'a> Panel<'a> {
             String::new()
         } else {
             let (x, y) = ((points[1].0 + points[2].0) / 2.0, (points[1].1 + points[2].1) / 2.0 + 2.0);
-            format!("<text class=\"w {class}\" x=\"{x:.1}\" y=\"{y:.1}\" text-anchor=\"middle\">{word}</text>")
+            text(&format!("w {class} m"), (x, y), word)
         };
         format!("<path class=\"{class}\" marker-end=\"url(#{class})\" d=\"{path}\"/>{label}\n")
     }
@@ -294,48 +306,39 @@ fn cornered(points: &[(f64, f64)]) -> String {
     out + &format!("L{x:.1} {:.1}", y - ARROW)
 }
 
+/// A text at a place.
+fn text(class: &str, (x, y): (f64, f64), words: &str) -> String {
+    format!("<text class=\"{class}\" x=\"{x:.1}\" y=\"{y:.1}\">{words}</text>")
+}
+
 fn box_of(shape: &Shape, (x, y): (f64, f64)) -> String {
     let Size { width, height } = size(shape);
-    let round = if shape.class == "n" { height / 2.0 } else { 6.0 };
-    let (class, small) = (shape.class, &shape.small);
-    let mut out = format!(
-        "<rect class=\"{class}\" x=\"{x:.1}\" y=\"{y:.1}\" width=\"{width:.1}\" height=\"{height:.1}\" rx=\"{round:.0}\"/>"
-    );
-    for bar in 0..shape.depth {
-        let left = x + 5.0 + 5.0 * bar as f64;
-        let (top, tall) = (y + 6.0, height - 12.0);
-        out +=
-            &format!("<rect class=\"i\" x=\"{left:.1}\" y=\"{top:.1}\" width=\"2.5\" height=\"{tall:.1}\" rx=\"1\"/>");
+    let (class, round) = (shape.class, if shape.class == "n" { height / 2.0 } else { 6.0 });
+    let place = format!("x=\"{x:.1}\" y=\"{y:.1}\" width=\"{width:.1}\" height=\"{height:.1}\"");
+    let frame = format!("<rect class=\"{class}\" {place} rx=\"{round:.0}\"/>");
+    if class == "n" {
+        let middle = (x + width / 2.0, y + LINE - 0.5);
+        let words = shape.lines.first().map_or_else(String::new, |word| text("s m", middle, &escaped(word)));
+        return format!("{frame}{words}\n");
     }
-    let text = x + INSIDE + 5.0 * shape.depth as f64;
-    let mut line = y + 6.0;
-    if !small.is_empty() || shape.mark.is_some() {
-        line += LINE;
-        out += &format!("<text class=\"s\" x=\"{text:.1}\" y=\"{:.1}\">{small}</text>", line - 5.0);
-    }
-    if let Some((word, class)) = shape.mark {
-        let right = x + width - INSIDE;
-        let top = line - 5.0;
-        out += &format!("<text class=\"w {class}\" x=\"{right:.1}\" y=\"{top:.1}\" text-anchor=\"end\">{word}</text>");
-    }
-    for words in &shape.lines {
-        line += LINE;
-        out += &match shape.class {
-            "n" => {
-                let middle = x + width / 2.0;
-                let words = escaped(words);
-                format!(
-                    "<text class=\"s\" x=\"{middle:.1}\" y=\"{:.1}\" text-anchor=\"middle\">{words}</text>",
-                    line - 6.5
-                )
-            }
-            _ => {
-                let words = marked(words);
-                format!("<text xml:space=\"preserve\" x=\"{text:.1}\" y=\"{:.1}\">{words}</text>", line - 3.5)
-            }
-        };
-    }
-    out + "\n"
+    let bars: String = (0..shape.depth).map(|bar| bar_of(x + BAR * (bar + 1) as f64, y, height)).collect();
+    let left = x + INSIDE + BAR * shape.depth as f64;
+    let head = if shape.has_head() { LINE } else { 0.0 };
+    let small = text("s", (left, y + LINE + 1.0), &shape.small);
+    let mark =
+        shape.mark.map(|(word, class)| text(&format!("w {class} z"), (x + width - INSIDE, y + LINE + 1.0), word));
+    let lines: String = (1..)
+        .zip(&shape.lines)
+        .map(|(at, line)| text("q", (left, y + 2.5 + head + LINE * f64::from(at)), &marked(line)))
+        .collect();
+    let head = if shape.has_head() { small + &mark.unwrap_or_default() } else { String::new() };
+    format!("{frame}{bars}{head}{lines}\n")
+}
+
+/// A loop around a block.
+fn bar_of(x: f64, y: f64, height: f64) -> String {
+    let (top, tall) = (y + 6.0, height - 12.0);
+    format!("<rect class=\"i\" x=\"{x:.1}\" y=\"{top:.1}\" width=\"2.5\" height=\"{tall:.1}\" rx=\"1\"/>")
 }
 
 const COLOURS: [(&str, &str); 5] =
@@ -345,7 +348,8 @@ fn arrows() -> String {
     let arrow = |(name, colour): &(&str, &str)| {
         format!(
             "<marker id=\"{name}\" viewBox=\"0 0 8 8\" refX=\"6\" refY=\"4\" markerWidth=\"8\" markerHeight=\"8\" \
-             markerUnits=\"userSpaceOnUse\" orient=\"auto\"><path d=\"M0 0L8 4L0 8Z\" style=\"fill:{colour};stroke:none\"/></marker>"
+             markerUnits=\"userSpaceOnUse\" orient=\"auto\">\
+             <path d=\"M0 0L8 4L0 8Z\" style=\"fill:{colour};stroke:none\"/></marker>"
         )
     };
     format!("<defs>{}</defs>\n", COLOURS.iter().map(arrow).collect::<String>())
@@ -374,8 +378,8 @@ pub fn draw(pictures: &[Picture]) -> String {
     let (width, height) = (width.ceil(), height.ceil());
     let titles: Vec<String> = pictures.iter().map(|picture| escaped(&picture.title)).collect();
     let mut out = format!(
-        "<svg xmlns=\"http://www.w3.org/2000/svg\" width=\"{width}\" height=\"{height}\" viewBox=\"0 0 {width} {height}\">\n\
-         <title>{}</title>\n<style>{STYLE}</style>\n{}",
+        "<svg xmlns=\"http://www.w3.org/2000/svg\" xml:space=\"preserve\" width=\"{width}\" height=\"{height}\" \
+         viewBox=\"0 0 {width} {height}\">\n<title>{}</title>\n<style>{STYLE}</style>\n{}",
         titles.join("; "),
         arrows()
     );
