@@ -31,7 +31,7 @@ fn records(tree: &[u64]) -> String {
 }
 
 fn shape(arguments: &Arguments, name: &str) -> Result<Said, Failure> {
-    let input = Input::read(arguments, name)?;
+    let input = Input::bundle(arguments, name)?;
     let checked = input.records().and_then(|tree| check(&tree).map(|()| tree));
     Ok(match checked {
         Ok(tree) => (true, format!("{name}: well formed, {}\n", records(&tree))),
@@ -44,6 +44,9 @@ fn whole(arguments: &Arguments, name: &str) -> Result<Said, Failure> {
         Ok(bundle) => bundle,
         Err(report) => return Ok((false, report)),
     };
+    if bundle.is_listed() {
+        return Err(Failure::new(format!("{name} is the listing of a program, and no bundle")));
+    }
     let totals = bundle.program().totals();
     let counts = [(totals.functions, "function"), (totals.code, "instruction"), (totals.constants, "constant")];
     let counts = counts.map(|(number, what)| counted(number as usize, what));

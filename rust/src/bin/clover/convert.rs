@@ -41,8 +41,8 @@ fn converted(input: &Input, to: usize) -> Result<Vec<u8>, Refusal> {
 }
 
 fn run(arguments: &Arguments) -> Result<(Verdict, String), Failure> {
-    let to = arguments.one_of("--to", &FORMS)?;
-    let input = Input::read(arguments, &arguments.files[0])?;
+    let to = arguments.one_of("--to", &FORMS[..2])?;
+    let input = Input::bundle(arguments, &arguments.files[0])?;
     let from = usize::from(matches!(input.content, Content::Words(_)));
     let bytes = match converted(&input, to.unwrap_or(1 - from)) {
         Ok(bytes) => bytes,

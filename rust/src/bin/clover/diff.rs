@@ -15,11 +15,12 @@ pub const COMMAND: Command = Command {
     name: "diff",
     operands: "OLD NEW",
     files: (2, 2),
-    about: "says what changed between two bundles, by function",
+    about: "says what changed between two bundles or two programs, by function",
     details: "\
 Compiles both bundles and says what changed: top-level values, models, and function by function the
 instructions, with constants read as values, locals and top-level names by name and jumps by where they
-lead. What only moved to other lines is not a change. With --distances a top-level name is read as its
+lead. What only moved to other lines is not a change. Programs may be given by their listings too; then
+locals and top-level names go by their numbers. With --distances a top-level name is read as its
 distance from the book's first one, as document 02 has it (2026-11); so it is too where a bundle has no
 table of texts.
 
@@ -194,6 +195,9 @@ fn run(arguments: &Arguments) -> Result<(Verdict, String), Failure> {
         }
     }
     let (old, new) = (Side::new(&bundles[0]), Side::new(&bundles[1]));
+    if bundles[0].is_listed() != bundles[1].is_listed() {
+        return Err(Failure::new("one is a bundle and one the listing of a program: compare two of a kind"));
+    }
     let _progress = Progress::of("comparing".to_string());
     let (changed, text) = compare(&old, &new, arguments.has("--distances"));
     let verdict = if changed && arguments.has("--exit-code") { Verdict::Changed } else { Verdict::Delivered };

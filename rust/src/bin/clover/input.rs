@@ -1,19 +1,20 @@
-//! Reads a bundle: a column file or words, with the texts beside it.
+//! Reads a bundle, as a column file or as words, or a program by its listing, with the texts beside it.
 
 use crate::arguments::{Arguments, Choice, Failure};
+use crate::listing::Listing;
 use clover_back_end::{columns_to_records, Refusal, Texts, LINE_BYTES};
 use std::io::Read;
 use std::path::{Path, PathBuf};
 
-pub const FORMS: [&str; 2] = ["columns", "words"];
+/// Forms of a bundle, and of a program.
+pub const FORMS: [&str; 3] = ["columns", "words", "listing"];
+const LISTING: usize = 2;
+/// Bytes of a line of a listing.
+const LISTING_LINE_BYTES: usize = 74;
 
 /// Options of every command that reads a bundle.
 pub const CHOICES: &[Choice] = &[
-    Choice {
-        name: "--from",
-        value: Some("FORM"),
-        about: "the bundle is `columns` or `words`; else its first line tells",
-    },
+    Choice { name: "--from", value: Some("FORM"), about: "`columns`, `words` or `listing`; else the first line tells" },
     Choice {
         name: "--texts",
         value: Some("FILE"),
@@ -26,6 +27,8 @@ pub const CHOICES: &[Choice] = &[
 pub enum Content {
     Columns(Vec<u8>),
     Words(Vec<u64>),
+    /// A program, and no bundle.
+    Listing(Box<Listing>),
 }
 
 pub struct Input {
@@ -44,6 +47,7 @@ impl Input {
         let form = arguments.one_of("--from", &FORMS)?;
         let content = match form.unwrap_or_else(|| form_of(&bytes)) {
             0 => Content::Columns(bytes),
+            LISTING => Content::Listing(Box::new(listing(name, &bytes)?)),
             _ => Content::Words(words(name, &bytes)?),
         };
         let own = (name != "-").then(|| Path::new(name));
@@ -59,11 +63,21 @@ impl Input {
         Ok(Input { name: name.to_string(), content, texts, folder })
     }
 
-    /// The records; rows 1 to 4 for a column file. Words are taken as they are.
+    /// The records; rows 1 to 4 for a column file. Words are taken as they are. A program has none.
     pub fn records(&self) -> Result<Vec<u64>, Refusal> {
         match &self.content {
             Content::Columns(file) => columns_to_records(file),
             Content::Words(words) => Ok(words.clone()),
+            Content::Listing(_) => Ok(Vec::new()),
+        }
+    }
+
+    /// For commands that take bundles alone.
+    pub fn bundle(arguments: &Arguments, name: &str) -> Result<Input, Failure> {
+        let input = Input::read(arguments, name)?;
+        match input.content {
+            Content::Listing(_) => Err(Failure::new(format!("{name} is the listing of a program, and no bundle"))),
+            _ => Ok(input),
         }
     }
 }
@@ -79,11 +93,19 @@ fn bytes(name: &str) -> Result<Vec<u8>, Failure> {
     Ok(out)
 }
 
-/// By its first line: a line of a column file has one length, and words are digits and blanks.
+/// By its first line: lines of a column file have one length, those of a listing another, and words are
+/// digits and blanks.
 fn form_of(bytes: &[u8]) -> usize {
-    let first = bytes.iter().position(|&byte| byte == b'\n').unwrap_or(bytes.len());
+    let first = bytes.iter().position(|&byte| byte == b'\n').unwrap_or(bytes.len()) + 1;
     let plain = bytes.iter().all(|byte| byte.is_ascii_digit() || byte.is_ascii_whitespace());
-    usize::from(first + 1 != LINE_BYTES && plain && !bytes.is_empty())
+    if first == LISTING_LINE_BYTES {
+        return LISTING;
+    }
+    usize::from(first != LINE_BYTES && plain && !bytes.is_empty())
+}
+
+fn listing(name: &str, bytes: &[u8]) -> Result<Listing, Failure> {
+    Listing::read(&String::from_utf8_lossy(bytes)).map_err(|why| Failure::new(format!("{name}: no listing: {why}")))
 }
 
 /// Numbers between blanks and newlines.
@@ -113,6 +135,8 @@ mod tests {
     fn forms_are_told_apart() {
         let line = format!("{:>width$}\n", "1", width = LINE_BYTES - 1);
         assert_eq!(form_of(line.as_bytes()), 0);
+        let listed = format!("{:>width$}\n", "1", width = LISTING_LINE_BYTES - 1);
+        assert_eq!(form_of(listed.as_bytes()), LISTING);
         assert_eq!(form_of(b"1 1 0 2\n"), 1);
         assert_eq!(form_of(format!("{:>21}\n", 1).as_bytes()), 1);
         assert_eq!(form_of(b""), 0);

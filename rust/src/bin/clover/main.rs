@@ -16,6 +16,7 @@ mod dot;
 mod graph;
 mod input;
 mod layout;
+mod listing;
 mod locals;
 mod names;
 mod progress;
@@ -43,6 +44,7 @@ Usage: clover COMMAND [OPTION ..] FILE ..
 const MORE: &str = "
 A FILE is a bundle as a column file or as words (docs/FORMAT.md); `-` is standard input. Where the
 bundle is NAME.col, its texts are looked for in NAME.texts and the sources of its books beside it.
+`show`, `graph` and `diff` take a program by its listing too.
 
 Exit status: 0 delivered, 1 refused, 2 the program was called wrongly or a file can not be read.
 `clover help COMMAND` says more of one command; `clover version` says which library is linked.

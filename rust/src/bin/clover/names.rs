@@ -145,7 +145,7 @@ impl<'a> Names<'a> {
 
     /// The name of a context local.
     pub fn context(&self, index: u64) -> String {
-        let local = self.program.context_local(index);
+        let local = self.program.context_local(index).filter(|local| local.name.number() > 0);
         local.map_or_else(|| format!("context local {index}"), |local| self.text(local.name))
     }
 

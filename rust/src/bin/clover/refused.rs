@@ -12,7 +12,7 @@ pub fn input(refusal: &Refusal, input: &Input) -> String {
     let line = match (refusal, &input.content) {
         (Refusal::BadLine { line, .. }, Content::Columns(file)) => raw_line(file, *line),
         (_, Content::Columns(file)) => refusal.record().and_then(|record| raw_line(file, record + 1)),
-        (_, Content::Words(_)) => None,
+        (_, Content::Words(_) | Content::Listing(_)) => None,
     };
     format!("{}{}", head(&input.name, refusal, &input.texts), line.unwrap_or_default())
 }

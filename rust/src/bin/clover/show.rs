@@ -19,7 +19,8 @@ pub const COMMAND: Command = Command {
     details: "\
 Compiles a bundle and shows every book: its top-level names with their values, its models, and each
 function with its instructions by name, constants by value, jumps as labels and locals by their names,
-under the source lines that they come from. The totals are at the end.",
+under the source lines that they come from. The totals are at the end. A program may be given by its
+listing too; then nothing is compiled, and locals and top-level names go by their numbers.",
     choices: &[
         &[
             Choice { name: "--function", value: Some("NAME"), about: "one function: `name`, or `Model.name`" },
@@ -181,6 +182,17 @@ impl<'a> Shown<'a> {
         say!(self, "");
     }
 
+    /// Values of top-level names that a listing does not give to a book.
+    fn loose_values(&mut self) {
+        let names = &self.names;
+        let locals = (0..).zip(names.program.context_locals()).filter(|(_, local)| local.name.number() == 0);
+        let values = locals.filter_map(|(index, _)| Some((names.context(index), names.context_value(index)?)));
+        let lines: String = values.map(|(name, value)| format!("{name} = {value}\n")).collect();
+        if !lines.is_empty() {
+            self.out += &format!("{lines}\n");
+        }
+    }
+
     fn totals(&mut self) {
         let names = &self.names;
         let totals = names.program.totals();
@@ -222,6 +234,7 @@ fn run(arguments: &Arguments) -> Result<(Verdict, String), Failure> {
         shown.book(index, file);
         say!(shown, "");
     }
+    shown.loose_values();
     if arguments.has("--constants") {
         shown.constants();
     }

@@ -12,11 +12,10 @@ pub struct Sources {
 }
 
 impl Sources {
-    /// Reads the source of each document, by the name that its file has in the table.
-    pub fn read(folder: Option<&Path>, tree: &[u64], texts: &Texts) -> Sources {
+    /// Reads the source of each book, by the name that its file has in the table.
+    pub fn read(folder: Option<&Path>, files: &[Text], texts: &Texts) -> Sources {
         let Some(folder) = folder else { return Sources::default() };
-        let files = documents(tree).filter_map(|document| document.text());
-        let found = files.filter_map(|file| {
+        let found = files.iter().filter_map(|&file| {
             let source = std::fs::read_to_string(folder.join(texts.get(file)?)).ok()?;
             Some((file, source.lines().map(str::to_string).collect()))
         });

@@ -70,7 +70,9 @@ fn locals(side: &Side) -> Entries {
     let mut out = BTreeMap::new();
     for (index, local) in (0..).zip(names.program.context_locals()) {
         let constant = local.constant.and_then(|constant| Some((constant, names.program.constant(constant)?)));
+        let unknown = local.name.number() == 0;
         let value = match constant {
+            None | Some((_, Constant::Function(_) | Constant::Model(_))) if unknown => continue,
             None => "no value".to_string(),
             Some((_, Constant::Function(function))) if own_function(side, local.file, function) => continue,
             Some((_, Constant::Model(model))) if own_model(side, local.file, model) => continue,
@@ -78,7 +80,9 @@ fn locals(side: &Side) -> Entries {
             Some((_, value)) => value.spelt(names.texts),
         };
         let line = names.program.book(local.file).map_or(0, |file| defined(side, file, local.name).line);
-        let mut entry = entry(names.text(local.name), value, place(side, local.file, line));
+        let place = if unknown { String::new() } else { place(side, local.file, line) };
+        let name = if unknown { format!("{index} of the context") } else { names.text(local.name) };
+        let mut entry = entry(name, value, place);
         entry.context = Some(index);
         out.insert((names.book(local.file), entry.name.clone()), entry);
     }
