@@ -105,7 +105,7 @@ fn notes(names: &Names, flow: &Flow) -> Vec<String> {
 
 /// The functions of the bundle's first book, which is compiled last.
 fn of_root<'a>(names: &Names<'a>) -> Vec<Function<'a>> {
-    let root = names.program.books().len() as u64 - 1;
+    let root = names.program.books().len().saturating_sub(1) as u64;
     names.program.functions().filter(|function| function.file() == root).collect()
 }
 
