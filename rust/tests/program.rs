@@ -29,7 +29,14 @@ fn run(words: &[&str]) -> Run {
     let made = command.args(words).current_dir(root()).env("NO_COLOR", "1").stdin(input).output();
     let made = made.expect("the program runs");
     let errors = String::from_utf8(made.stderr).expect("text");
+    let errors = errors.lines().filter(|line| !is_progress(line)).map(|line| format!("{line}\n")).collect();
     Run { output: made.stdout, errors, status: made.status.code().expect("it ends by itself") }
+}
+
+/// A busy machine may take longer than a second, and then says so: `clover: drawing, 1 s`.
+fn is_progress(line: &str) -> bool {
+    let words = ["compiling", "drawing", "writing", "comparing"];
+    words.iter().any(|word| line.starts_with(&format!("clover: {word}"))) && line.ends_with(" s")
 }
 
 /// Holds what was made to a stored file, or writes it.
