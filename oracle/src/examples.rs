@@ -3,65 +3,50 @@
 
 use crate::areas::{answer, UNLIMITED};
 use crate::columns::lines;
-use crate::flattening::{Flattening, Numbers};
 use crate::listing::listing;
 use crate::model::compile;
 use crate::real::{run, Outcome};
-use crate::records::{flatten, records, Node, MAIN};
+use crate::records::records;
 use clover::frontend::parser::parse;
+use clover_back_end::records::Records;
+use clover_back_end::{ast, Texts};
 use std::collections::BTreeMap;
 use std::path::{Path, PathBuf};
 
 /// Sources of each bundle without their ending, the root first; the bundle has the root's name.
-const BUNDLES: [&[&str]; 5] =
-    [&["snow"], &["drift", "snow"], &["combination"], &["utilisation", "combination"], &["faulty"]];
+const BUNDLES: [&[&str]; 7] = [
+    &["snow"],
+    &["drift", "snow"],
+    &["combination"],
+    &["utilisation", "combination"],
+    &["faulty"],
+    &["revised/snow"],
+    &["revised/combination"],
+];
 
 pub fn folder() -> PathBuf {
     Path::new(env!("CARGO_MANIFEST_DIR")).join("../examples")
 }
 
-/// Texts in the order of their coming; `main` is the first.
-struct Table {
-    texts: Vec<String>,
+/// The bundle of sources, the root first. A book's file is its source's file name.
+fn bundle(sources: &[&Path]) -> Result<(Vec<u64>, Texts), String> {
+    let (mut texts, mut records) = (Texts::new(), Records::new());
+    for path in sources {
+        let told = |what: &dyn std::fmt::Display| format!("{}: {what}", path.display());
+        let source = std::fs::read_to_string(path).map_err(|error| told(&error))?;
+        let file = path.file_name().and_then(|name| name.to_str()).ok_or_else(|| told(&"is no file name"))?;
+        let document = parse(&source, file).map_err(|errors| told(&errors))?;
+        ast::flatten(&document, &mut texts, &mut records);
+    }
+    Ok((records.into_words(), texts))
 }
 
-impl Table {
-    fn new() -> Table {
-        let table = Table { texts: vec!["main".to_string()] };
-        assert_eq!(table.texts.len() as u64, MAIN);
-        table
-    }
-
-    fn lines(&self) -> String {
-        (1..).zip(&self.texts).map(|(number, text)| format!("{number:>8} {text}\n")).collect()
-    }
-}
-
-impl Numbers for Table {
-    fn number(&mut self, text: &str) -> u64 {
-        let known = self.texts.iter().position(|known| known == text);
-        let at = known.unwrap_or_else(|| {
-            self.texts.push(text.to_string());
-            self.texts.len() - 1
-        });
-        at as u64 + 1
-    }
-}
-
-fn bundle(folder: &Path, names: &[&str]) -> (Vec<u64>, Table) {
-    let mut table = Table::new();
-    let mut flattening = Flattening { numbers: &mut table };
-    let documents: Vec<Node> = names
-        .iter()
-        .map(|name| {
-            let file = format!("{name}.clover");
-            let path = folder.join(&file);
-            let source = std::fs::read_to_string(&path).unwrap_or_else(|e| panic!("{}: {e}", path.display()));
-            let document = parse(&source, &file).unwrap_or_else(|errors| panic!("{file}: {errors}"));
-            flattening.document(&document)
-        })
-        .collect();
-    (flatten(&documents), table)
+/// `ROOT.col` and `ROOT.texts` of sources, beside the first.
+pub fn flattened(sources: &[&Path]) -> Result<[(PathBuf, Vec<u8>); 2], String> {
+    let root = sources.first().ok_or("there is no source")?;
+    let (words, texts) = bundle(sources)?;
+    let columns = (root.with_extension("col"), lines(&words));
+    Ok([columns, (root.with_extension("texts"), texts.to_lines().into_bytes())])
 }
 
 /// File name to content: `NAME.col`, `NAME.listing` and `NAME.texts`. The Rust itself is asked too.
@@ -69,13 +54,15 @@ pub fn files() -> BTreeMap<String, Vec<u8>> {
     let mut files = BTreeMap::new();
     for names in BUNDLES {
         let name = names[0];
-        let (words, table) = bundle(&folder(), names);
+        let sources: Vec<PathBuf> = names.iter().map(|name| folder().join(format!("{name}.clover"))).collect();
+        let sources: Vec<&Path> = sources.iter().map(PathBuf::as_path).collect();
+        let (words, texts) = bundle(&sources).unwrap_or_else(|message| panic!("{message}"));
         let made = compile(&words, &UNLIMITED);
         let made = answer(&made.reply, &made.areas);
         assert_eq!(run(&records(&words)), Outcome::Answer(made.clone()), "{name}");
         files.insert(format!("{name}.col"), lines(&words));
         files.insert(format!("{name}.listing"), listing(&made));
-        files.insert(format!("{name}.texts"), table.lines().into_bytes());
+        files.insert(format!("{name}.texts"), texts.to_lines().into_bytes());
     }
     files
 }
@@ -83,6 +70,11 @@ pub fn files() -> BTreeMap<String, Vec<u8>> {
 #[cfg(test)]
 mod tests {
     use super::*;
+    use crate::documents::{Builder, Positions};
+    use crate::generate::{case, Sizes};
+    use crate::records::kind;
+    use crate::shape::check;
+    use std::collections::BTreeSet;
 
     #[test]
     fn the_examples_are_current() {
@@ -91,9 +83,43 @@ mod tests {
             let kept = std::fs::read(folder().join(name)).unwrap_or_else(|e| panic!("{name}: {e}; run `examples`"));
             assert!(kept == *content, "{name} is not what the examples command writes");
         }
-        let sources: std::collections::BTreeSet<&str> =
-            BUNDLES.iter().flat_map(|names| names.iter().copied()).collect();
-        let kept = std::fs::read_dir(folder()).expect("the examples are there").count();
-        assert_eq!(kept, files.len() + sources.len() + 1, "a file beside the examples and their README");
+        let sources = BUNDLES.iter().flat_map(|names| names.iter()).map(|name| format!("{name}.clover"));
+        let ours = |name: &String| [".clover", ".col", ".listing", ".texts"].iter().any(|end| name.ends_with(end));
+        let there = ["", "revised/"].iter().flat_map(|inside| {
+            let entries = std::fs::read_dir(folder().join(inside)).expect("the examples are there");
+            let names = entries.map(|entry| entry.expect("a file").file_name().into_string().expect("a plain name"));
+            names.map(|name| format!("{inside}{name}")).collect::<Vec<_>>()
+        });
+        let known: BTreeSet<String> = files.keys().cloned().chain(sources).collect();
+        assert_eq!(there.filter(ours).collect::<BTreeSet<_>>(), known);
+    }
+
+    /// The table in which each text is the string that the Rust is given for it.
+    fn texts(builder: &Builder) -> Texts {
+        let numbers: BTreeSet<u64> =
+            builder.records.iter().filter(|r| kind::holds_text(r.kind)).map(|r| r.value).collect();
+        let lines: String = numbers.iter().map(|&n| format!("{n:>8} {}\n", builder.texts.string(n))).collect();
+        Texts::from_lines(&lines).expect("a table")
+    }
+
+    /// Records, documents, records again.
+    #[test]
+    fn generated_bundles_come_back() {
+        let mut tried = 0;
+        for index in 0..1000 {
+            let words = case(41, index, Sizes::Mixed).words;
+            let list = records(&words);
+            // A name that is `this` by its number alone is none of a parser's.
+            if check(&words).is_err() || list.iter().any(|r| r.kind == kind::THIS_PARAMETER) {
+                continue;
+            }
+            let texts = crate::documents::Texts::new(&list);
+            let builder = Builder { records: &list, texts, positions: Positions::Given };
+            let (mut texts, mut back) = (self::texts(&builder), Records::new());
+            builder.documents().iter().for_each(|(_, _, document)| ast::flatten(document, &mut texts, &mut back));
+            assert!(back.words() == words, "case {index}");
+            tried += 1;
+        }
+        assert!(tried > 300);
     }
 }

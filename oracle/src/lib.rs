@@ -3,6 +3,7 @@
 
 pub mod alive;
 pub mod areas;
+pub mod arguments;
 #[cfg(feature = "link")]
 pub mod bench;
 pub mod books;
@@ -14,7 +15,6 @@ pub mod damage;
 pub mod documents;
 pub mod error_words;
 pub mod examples;
-pub mod flattening;
 pub mod generate;
 pub mod hostile;
 pub mod listing;

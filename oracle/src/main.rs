@@ -1,6 +1,8 @@
 //! Commands of the oracle; see README.md.
 
 use oracle::areas::Memory;
+use oracle::arguments::Arguments;
+use oracle::arguments::Flag::{self, Number, Switch, Word};
 use oracle::compare::{compare, judge_side, Difference, Model, Plan, Side};
 use oracle::convert::Converters;
 use oracle::generate::{case, Sizes};
@@ -43,22 +45,15 @@ oracle sample
     writes the files of sample/ anew
 oracle examples
     writes the column files, listings and tables of texts of ../examples anew, from the sources there
+oracle flatten ROOT.clover [OTHER.clover ..]
+    writes ROOT.col and ROOT.texts beside the first source: the bundle of these books
 ";
 
 /// Areas of the `listing` command, in entries; more than any column file on a screen needs.
 const PLENTY: usize = 1 << 20;
 
-fn number(arguments: &[String], flag: &str, default: u64) -> u64 {
-    let place = arguments.iter().position(|argument| argument == flag);
-    place.map_or(default, |at| arguments.get(at + 1).and_then(|text| text.parse().ok()).expect("a number follows"))
-}
-
-fn has(arguments: &[String], flag: &str) -> bool {
-    arguments.iter().any(|argument| argument == flag)
-}
-
-fn sizes(arguments: &[String]) -> Sizes {
-    if has(arguments, "--large") {
+fn sizes(arguments: &Arguments) -> Sizes {
+    if arguments.has("--large") {
         Sizes::Large
     } else {
         Sizes::Mixed
@@ -72,7 +67,7 @@ fn library() -> Box<dyn Side + Send> {
 
 #[cfg(not(feature = "link"))]
 fn library() -> Box<dyn Side + Send> {
-    panic!("the library is there with --features link");
+    unreachable!("`needs_library` holds it back");
 }
 
 #[cfg(feature = "link")]
@@ -82,7 +77,7 @@ fn converters() -> Box<dyn Converters> {
 
 #[cfg(not(feature = "link"))]
 fn converters() -> Box<dyn Converters> {
-    panic!("the library is there with --features link");
+    unreachable!("`needs_library` holds it back");
 }
 
 fn report(first: &Difference) {
@@ -93,13 +88,13 @@ fn report(first: &Difference) {
     }
 }
 
-fn run_compare(arguments: &[String]) -> ExitCode {
-    let (seed, count) = (number(arguments, "--seed", 1), number(arguments, "--count", 1000));
-    let (sizes, stop) = (sizes(arguments), has(arguments, "--stop"));
-    let mut ours = has(arguments, "--ours").then(library);
+fn run_compare(arguments: &Arguments) -> ExitCode {
+    let (seed, count) = (arguments.number("--seed", 1), arguments.number("--count", 1000));
+    let (sizes, stop) = (sizes(arguments), arguments.has("--stop"));
+    let mut ours = arguments.has("--ours").then(library);
     let mut columns = Vec::new();
     let mut code = ExitCode::SUCCESS;
-    for seed in seed..seed + number(arguments, "--seeds", 1) {
+    for seed in seed..seed + arguments.number("--seeds", 1) {
         let (start, processor) = (Instant::now(), clock::now());
         let side = ours.as_mut().map(|side| &mut **side as &mut dyn Side);
         println!("seed {seed}");
@@ -111,7 +106,7 @@ fn run_compare(arguments: &[String]) -> ExitCode {
             report(first);
             code = ExitCode::FAILURE;
         }
-        let large = if has(arguments, "--large") { " with `--large`" } else { "" };
+        let large = if arguments.has("--large") { " with `--large`" } else { "" };
         let head = format!("seed {seed}, {}{large}", table::grouped(count));
         columns.push(Column { head, tally, minutes: elapsed / 60.0, seconds: clock::now() - processor });
     }
@@ -119,9 +114,9 @@ fn run_compare(arguments: &[String]) -> ExitCode {
     code
 }
 
-fn run_case(arguments: &[String]) -> ExitCode {
-    let made = case(number(arguments, "--seed", 1), number(arguments, "--index", 0), sizes(arguments));
-    if has(arguments, "--column") {
+fn run_case(arguments: &Arguments) -> ExitCode {
+    let made = case(arguments.number("--seed", 1), arguments.number("--index", 0), sizes(arguments));
+    if arguments.has("--column") {
         std::io::stdout().write_all(&columns::lines(&made.words)).expect("standard output is open");
     } else {
         for record in made.words.chunks(4) {
@@ -131,10 +126,10 @@ fn run_case(arguments: &[String]) -> ExitCode {
     ExitCode::SUCCESS
 }
 
-fn run_listing(arguments: &[String]) -> ExitCode {
+fn run_listing(arguments: &Arguments) -> ExitCode {
     let mut bytes = Vec::new();
     std::io::stdin().read_to_end(&mut bytes).expect("standard input is readable");
-    let out = if has(arguments, "--program") {
+    let out = if arguments.has("--program") {
         listing::printed(&bytes)
     } else {
         listing::listing_of_column(&bytes, &[PLENTY * 8; 12])
@@ -143,12 +138,12 @@ fn run_listing(arguments: &[String]) -> ExitCode {
     ExitCode::SUCCESS
 }
 
-fn run_hostile(arguments: &[String]) -> ExitCode {
-    let mut side: Box<dyn Side + Send> = if has(arguments, "--ours") { library() } else { Box::new(Model) };
-    let stack = number(arguments, "--stack", 1 << 20) as usize;
+fn run_hostile(arguments: &Arguments) -> ExitCode {
+    let mut side: Box<dyn Side + Send> = if arguments.has("--ours") { library() } else { Box::new(Model) };
+    let stack = arguments.number("--stack", 1 << 20) as usize;
     let mut code = ExitCode::SUCCESS;
     println!("threads with a stack of {stack} bytes, processor seconds of the call");
-    for bundle in hostile::bundles(number(arguments, "--size", 100_000)) {
+    for bundle in hostile::bundles(arguments.number("--size", 100_000)) {
         print!("{}: {} records", bundle.name, bundle.words.len() / 4);
         std::io::stdout().flush().expect("standard output is open");
         let mut narrow = Narrow { side: &mut *side, stack, seconds: 0.0 };
@@ -163,11 +158,11 @@ fn run_hostile(arguments: &[String]) -> ExitCode {
     code
 }
 
-fn run_convert(arguments: &[String]) -> ExitCode {
-    let (seed, count) = (number(arguments, "--seed", 1), number(arguments, "--count", 1000));
+fn run_convert(arguments: &Arguments) -> ExitCode {
+    let (seed, count) = (arguments.number("--seed", 1), arguments.number("--count", 1000));
     let mut side = converters();
     let start = Instant::now();
-    let seen = if has(arguments, "--limits") {
+    let seen = if arguments.has("--limits") {
         convert::compare_limits(&mut *side)
     } else {
         convert::compare(&mut *side, seed, count, sizes(arguments))
@@ -184,32 +179,35 @@ fn run_convert(arguments: &[String]) -> ExitCode {
 }
 
 #[cfg(feature = "link")]
-fn run_bench(arguments: &[String]) -> ExitCode {
-    oracle::bench::run(number(arguments, "--runs", 15) as usize);
+fn run_bench(arguments: &Arguments) -> ExitCode {
+    oracle::bench::run(arguments.number("--runs", 15) as usize);
     ExitCode::SUCCESS
 }
 
 #[cfg(not(feature = "link"))]
-fn run_bench(_: &[String]) -> ExitCode {
-    panic!("the library is there with --features link");
+fn run_bench(_: &Arguments) -> ExitCode {
+    unreachable!("`needs_library` holds it back");
 }
 
-fn run_speed(arguments: &[String]) -> ExitCode {
-    let (runs, longest) = (number(arguments, "--runs", 15), number(arguments, "--longest", 60));
-    let sizes: &[usize] = if has(arguments, "--small") { &speed::SMALL } else { &speed::SIZES };
+fn run_speed(arguments: &Arguments) -> ExitCode {
+    let (runs, longest) = (arguments.number("--runs", 15), arguments.number("--longest", 60));
+    let sizes: &[usize] = if arguments.has("--small") { &speed::SMALL } else { &speed::SIZES };
     speed::run(&mut *library(), runs as usize, longest as f64, sizes);
     ExitCode::SUCCESS
 }
 
-fn run_shapes() -> ExitCode {
+fn run_shapes(_: &Arguments) -> ExitCode {
     speed::SHAPES.iter().for_each(|shape| println!("{}", shape.name));
     ExitCode::SUCCESS
 }
 
-fn run_once(arguments: &[String]) -> ExitCode {
-    let name = arguments.iter().position(|argument| argument == "--shape").and_then(|at| arguments.get(at + 1));
-    let words = speed::Shape::named(name.expect("--shape NAME")).words(number(arguments, "--records", 10_000) as usize);
-    if has(arguments, "--original") {
+fn run_once(arguments: &Arguments) -> ExitCode {
+    let Some(shape) = arguments.word("--shape").and_then(speed::Shape::named) else {
+        eprintln!("oracle: `--shape` is followed by a name that `oracle shapes` prints");
+        return ExitCode::from(WRONGLY_CALLED);
+    };
+    let words = shape.words(arguments.number("--records", 10_000) as usize);
+    if arguments.has("--original") {
         let (_, program) = Prepared::new(&records(&words)).compile();
         println!("{} records, {} functions", words.len() / 4, program.functions.len());
     } else {
@@ -229,23 +227,93 @@ fn write_files(folder: &Path, files: &BTreeMap<String, Vec<u8>>) -> ExitCode {
     ExitCode::SUCCESS
 }
 
+fn run_sample(_: &Arguments) -> ExitCode {
+    write_files(&Path::new(env!("CARGO_MANIFEST_DIR")).join("sample"), &sample::files())
+}
+
+fn run_examples(_: &Arguments) -> ExitCode {
+    write_files(&examples::folder(), &examples::files())
+}
+
+fn run_flatten(arguments: &Arguments) -> ExitCode {
+    let sources: Vec<&Path> = arguments.files.iter().map(Path::new).collect();
+    match examples::flattened(&sources) {
+        Ok(files) => {
+            files.iter().for_each(|(path, content)| std::fs::write(path, content).expect("the folder is writable"));
+            ExitCode::SUCCESS
+        }
+        Err(message) => {
+            eprintln!("oracle: {message}");
+            ExitCode::from(WRONGLY_CALLED)
+        }
+    }
+}
+
+/// Exit status of a call that names no command, an unknown flag or a bad number.
+const WRONGLY_CALLED: u8 = 2;
+
+/// A command, its flags, whether it takes files, and what it does.
+type Command = (&'static str, &'static [Flag], bool, fn(&Arguments) -> ExitCode);
+
+const COMMANDS: [Command; 12] = [
+    (
+        "compare",
+        &[
+            Number("--seed"),
+            Number("--seeds"),
+            Number("--count"),
+            Switch("--large"),
+            Switch("--ours"),
+            Switch("--stop"),
+        ],
+        false,
+        run_compare,
+    ),
+    ("case", &[Number("--seed"), Number("--index"), Switch("--large"), Switch("--column")], false, run_case),
+    ("listing", &[Switch("--program")], false, run_listing),
+    ("hostile", &[Switch("--ours"), Number("--stack"), Number("--size")], false, run_hostile),
+    ("convert", &[Number("--seed"), Number("--count"), Switch("--large"), Switch("--limits")], false, run_convert),
+    ("bench", &[Number("--runs")], false, run_bench),
+    ("speed", &[Number("--runs"), Number("--longest"), Switch("--small")], false, run_speed),
+    ("shapes", &[], false, run_shapes),
+    ("once", &[Word("--shape"), Number("--records"), Switch("--original")], false, run_once),
+    ("sample", &[], false, run_sample),
+    ("examples", &[], false, run_examples),
+    ("flatten", &[], true, run_flatten),
+];
+
+fn needs_library(command: &str, arguments: &Arguments) -> bool {
+    match command {
+        "compare" | "hostile" => arguments.has("--ours"),
+        "convert" | "bench" | "speed" => true,
+        "once" => !arguments.has("--original"),
+        _ => false,
+    }
+}
+
 fn main() -> ExitCode {
-    let arguments: Vec<String> = std::env::args().skip(1).collect();
-    match arguments.first().map(String::as_str) {
-        Some("compare") => run_compare(&arguments),
-        Some("case") => run_case(&arguments),
-        Some("listing") => run_listing(&arguments),
-        Some("hostile") => run_hostile(&arguments),
-        Some("convert") => run_convert(&arguments),
-        Some("bench") => run_bench(&arguments),
-        Some("speed") => run_speed(&arguments),
-        Some("shapes") => run_shapes(),
-        Some("once") => run_once(&arguments),
-        Some("sample") => write_files(&Path::new(env!("CARGO_MANIFEST_DIR")).join("sample"), &sample::files()),
-        Some("examples") => write_files(&examples::folder(), &examples::files()),
-        _ => {
-            print!("{USAGE}");
-            ExitCode::FAILURE
+    let words: Vec<String> = std::env::args().skip(1).collect();
+    let Some((name, rest)) = words.split_first() else {
+        eprint!("{USAGE}");
+        return ExitCode::from(WRONGLY_CALLED);
+    };
+    if matches!(name.as_str(), "help" | "--help" | "-h") {
+        print!("{USAGE}");
+        return ExitCode::SUCCESS;
+    }
+    let Some((_, flags, files, run)) = COMMANDS.iter().find(|command| command.0 == name) else {
+        eprint!("oracle: there is no command `{name}`\n\n{USAGE}");
+        return ExitCode::from(WRONGLY_CALLED);
+    };
+    match Arguments::read(flags, *files, rest) {
+        Ok(arguments) if needs_library(name, &arguments) && !cfg!(feature = "link") => {
+            eprintln!("oracle {name}: the library is there with `--features link`");
+            ExitCode::from(WRONGLY_CALLED)
+        }
+        Ok(arguments) => run(&arguments),
+        Err(message) => {
+            eprintln!("oracle {name}: {message}");
+            ExitCode::from(WRONGLY_CALLED)
         }
     }
 }

@@ -5,7 +5,7 @@ use crate::areas::Lent;
 use crate::compare::Side;
 use crate::convert::Converters;
 use crate::views::Answered;
-use clover_back_end::{lent, Converted};
+use clover_back_end::{calls, Converted};
 
 pub struct Library;
 
@@ -15,7 +15,7 @@ impl Side for Library {
     }
 
     fn compile<'a>(&mut self, words: &[u64], areas: Lent<'a>) -> Answered<'a> {
-        lent::compile(words, areas)
+        calls::compile(words, areas)
     }
 }
 
@@ -25,15 +25,15 @@ fn plain(converted: Converted) -> [u64; 3] {
 
 impl Converters for Library {
     fn check(&mut self, words: &[u64]) -> [u64; 2] {
-        let found = lent::check(words);
+        let found = calls::check(words);
         [found.number, found.place as u64]
     }
 
     fn to_records(&mut self, file: &[u8], out: &mut [u64]) -> [u64; 3] {
-        plain(lent::columns_to_records(file, out))
+        plain(calls::columns_to_records(file, out))
     }
 
     fn to_columns(&mut self, words: &[u64], out: &mut [u8]) -> [u64; 3] {
-        plain(lent::records_to_columns(words, out))
+        plain(calls::records_to_columns(words, out))
     }
 }

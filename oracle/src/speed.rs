@@ -188,8 +188,8 @@ pub const SHAPES: [Shape; 9] = [
 ];
 
 impl Shape {
-    pub fn named(name: &str) -> &'static Shape {
-        SHAPES.iter().find(|shape| shape.name == name).expect("a shape of that name")
+    pub fn named(name: &str) -> Option<&'static Shape> {
+        SHAPES.iter().find(|shape| shape.name == name)
     }
 
     pub fn words(&self, count: usize) -> Vec<u64> {
@@ -303,7 +303,13 @@ pub fn run(side: &mut dyn Side, runs: usize, longest: f64, sizes: &[usize]) {
     }
     println!();
     let all = |wanted: fn(&Shape) -> bool| {
-        median(ratios.iter().filter(|&&(name, _, _)| wanted(Shape::named(name))).map(|&(_, _, ratio)| ratio).collect())
+        median(
+            ratios
+                .iter()
+                .filter(|&&(name, _, _)| Shape::named(name).is_some_and(wanted))
+                .map(|&(_, _, ratio)| ratio)
+                .collect(),
+        )
     };
     println!(
         "Median of the ratios: {:.2}; of the shapes where nothing is searched: {:.2}",

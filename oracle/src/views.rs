@@ -5,7 +5,7 @@ use crate::areas::{
     area, entries, Answer, Delivery, ErrorAnswer, FunctionAnswer, ModelAnswer, Reply, AREAS, ENTRY_WORDS,
 };
 use crate::real::MESSAGES;
-use clover_back_end::{Area, Constant, Error, Function, Model, Position, Program, Refusal, Totals};
+use clover_back_end::{Area, Constant, Error, ErrorKind, Function, Model, Position, Program, Refusal, Totals};
 use std::collections::BTreeMap;
 
 /// A reply of the crate's form, and the areas as the call left them.
@@ -95,7 +95,7 @@ fn position(at: Position) -> u64 {
 
 fn delivered(program: &Program, answered: &Answered) -> Result<Viewed, String> {
     let totals = program.totals();
-    for (i, known) in Area::ALL.into_iter().enumerate() {
+    for (i, &known) in Area::ALL.iter().enumerate() {
         let used = totals.of(known) as usize * ENTRY_WORDS[i];
         agree("an area's words", program.words(known), &answered.areas[i][..used])?;
     }
@@ -107,9 +107,14 @@ fn delivered(program: &Program, answered: &Answered) -> Result<Viewed, String> {
         globals: totals.global_dependencies,
     };
     let public = listed("public names", program.public_names())?;
-    let flat: Vec<u64> = public.iter().flat_map(|name| [name.file, name.name, name.constant]).collect();
+    let flat: Vec<u64> = public.iter().flat_map(|name| [name.file, name.name.number(), name.constant]).collect();
     agree("the order of public names", &flat[..], program.words(Area::PublicNames))?;
     let context = listed("context locals", program.context_locals())?;
+    for (index, &local) in (0..).zip(&context) {
+        agree("a context local by its index", program.context_local(index), Some(local))?;
+    }
+    let books: Vec<u64> = listed("books", program.books())?.iter().map(|file| file.number()).collect();
+    agree("a book behind the last", program.book(books.len() as u64), None)?;
     let globals: Vec<u64> = program.global_dependencies().collect();
     agree("global dependencies", globals.len() as u64, totals.global_dependencies)?;
     let delivery = Delivery {
@@ -117,23 +122,24 @@ fn delivered(program: &Program, answered: &Answered) -> Result<Viewed, String> {
         constants: constants(program)?,
         globals,
         models: models(program)?,
-        context: context.iter().map(|local| (local.file, local.name, local.constant)).collect(),
-        public: public.iter().map(|name| ((name.file, name.name), name.constant)).collect(),
+        context: context.iter().map(|local| (local.file, local.name.number(), local.constant)).collect(),
+        public: public.iter().map(|name| ((name.file, name.name.number()), name.constant)).collect(),
         entry_point: totals.entry_point,
-        books: program.books().to_vec(),
+        books,
     };
     Ok(Viewed { reply, answer: Answer::Delivered(delivery) })
 }
 
-fn header(function: Function) -> ([u64; 5], bool, usize) {
-    let numbers =
-        [function.parameters(), function.locals(), function.rescue_position(), function.file(), function.name()];
+fn header(function: Function) -> ([u64; 6], bool, usize) {
+    let [rescue, file, name] = [function.rescue_position(), function.file(), function.name().number()];
+    let numbers = [function.index(), function.parameters(), function.locals(), rescue, file, name];
     (numbers, function.is_instance(), function.code().as_ptr() as usize)
 }
 
 fn functions(program: &Program) -> Result<Vec<FunctionAnswer>, String> {
     let all = listed("functions", program.functions())?;
     for (index, &function) in (0..).zip(&all) {
+        agree("a function's index", function.index(), index)?;
         agree("a function by its index", program.function(index).map(header), Some(header(function)))?;
     }
     let entry = program.totals().entry_point as usize;
@@ -157,21 +163,13 @@ fn function(function: Function) -> Result<FunctionAnswer, String> {
         rescue: function.rescue_position(),
         instance: function.is_instance(),
         file: function.file(),
-        name: function.name(),
+        name: function.name().number(),
         code,
     })
 }
 
 fn constant(constant: Constant) -> (u64, u64) {
-    match constant {
-        Constant::Null => (0, 0),
-        Constant::Boolean(value) => (1, u64::from(value)),
-        Constant::Integer(value) => (2, value as u64),
-        Constant::Float(value) => (3, value.to_bits()),
-        Constant::Text(text) => (4, text),
-        Constant::Model(index) => (5, index),
-        Constant::Function(index) => (6, index),
-    }
+    (constant.kind(), constant.value())
 }
 
 fn constants(program: &Program) -> Result<Vec<(u64, u64)>, String> {
@@ -187,8 +185,9 @@ fn constants(program: &Program) -> Result<Vec<(u64, u64)>, String> {
 type PlainModel = (u64, u64, Vec<u64>, Vec<(u64, u64)>);
 
 fn model(model: Model) -> PlainModel {
-    let methods = model.methods().map(|method| (method.name, method.function)).collect();
-    (model.file(), model.name(), model.properties().collect(), methods)
+    let methods = model.methods().map(|method| (method.name.number(), method.function)).collect();
+    let properties = model.properties().map(|name| name.number()).collect();
+    (model.file(), model.name().number(), properties, methods)
 }
 
 fn models(program: &Program) -> Result<Vec<ModelAnswer>, String> {
@@ -212,16 +211,27 @@ fn models(program: &Program) -> Result<Vec<ModelAnswer>, String> {
 const RING: (u64, &str) = (11, "there may have cycle reference in this files");
 
 fn error(error: &Error) -> Result<ErrorAnswer, String> {
-    let known = (error.number as usize).checked_sub(1).and_then(|at| MESSAGES.get(at)).copied();
-    let message = if error.number == RING.0 { Some(RING.1) } else { known };
-    agree("a message", Some(error.message()), message)?;
-    Ok([error.number, position(error.position), error.token.kind, error.token.value])
+    let number = error.kind.number();
+    agree("a message", Some(error.kind.word()), MESSAGES.get(number as usize - 1).copied())?;
+    Ok([number, position(error.position), error.token.kind.number(), error.token.value])
+}
+
+fn errors(refusal: &Refusal) -> Result<Vec<ErrorAnswer>, String> {
+    match refusal {
+        Refusal::BookFaulty { errors, .. } => errors.iter().map(error).collect(),
+        Refusal::Ring { files } => {
+            agree("the message of a ring", (ErrorKind::Ring.number(), ErrorKind::Ring.word()), RING)?;
+            Ok(files.iter().map(|file| [RING.0, 0, 0, file.number()]).collect())
+        }
+        _ => Ok(Vec::new()),
+    }
 }
 
 fn refused(refusal: &Refusal) -> Result<Viewed, String> {
-    let (row, place) = (refusal.row.number(), refusal.place);
+    let (row, place) = (refusal.row(), refusal.place());
     let full = (1..=AREAS as u64).find(|&number| row == 9 && number == place);
-    agree("the full area", refusal.full_area().map(Area::number), full)?;
-    let errors = refusal.errors.iter().map(error).collect::<Result<_, _>>()?;
+    let area = if let Refusal::AreaFull { area } = refusal { Some(area.number()) } else { None };
+    agree("the full area", area, full)?;
+    let errors = errors(refusal)?;
     Ok(Viewed { reply: Reply::refusal(row, place), answer: Answer::Refused { row, place, errors } })
 }

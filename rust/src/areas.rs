@@ -1,51 +1,46 @@
 //! The twelve areas of lent memory.
 
-use std::fmt;
+use crate::kind::Kind;
+use crate::numbered::numbered;
+use crate::program::Program;
+use crate::records::RECORD_WORDS;
+use crate::reply::{Answer, Reply};
+use std::ops::Range;
 
+/// How many areas there are.
 pub const AREAS: usize = 12;
 
-/// An area by its number.
-#[derive(Clone, Copy, Debug, PartialEq, Eq, Hash, PartialOrd, Ord)]
-pub enum Area {
-    Code = 1,
-    Constants,
-    Functions,
-    Models,
-    Properties,
-    Methods,
-    ContextLocals,
-    PublicNames,
-    ScopeNames,
-    Breaks,
-    Errors,
-    Books,
+numbered! {
+    /// An area by its number.
+    pub enum Area {
+        /// Instructions with their positions.
+        Code = 1 "code",
+        /// Constants with their global mark.
+        Constants = 2 "constants",
+        /// Functions.
+        Functions = 3 "functions",
+        /// Models.
+        Models = 4 "models",
+        /// Properties of models.
+        Properties = 5 "properties",
+        /// Methods of models.
+        Methods = 6 "methods",
+        /// Top-level names of the books.
+        ContextLocals = 7 "context locals",
+        /// Names that other books may include.
+        PublicNames = 8 "public names",
+        /// Names inside the function under compilation.
+        ScopeNames = 9 "scope names",
+        /// Breaks of the function under compilation.
+        Breaks = 10 "breaks",
+        /// Errors.
+        Errors = 11 "errors",
+        /// Books in the order of compiling.
+        Books = 12 "books",
+    }
 }
 
 impl Area {
-    pub const ALL: [Area; AREAS] = [
-        Area::Code,
-        Area::Constants,
-        Area::Functions,
-        Area::Models,
-        Area::Properties,
-        Area::Methods,
-        Area::ContextLocals,
-        Area::PublicNames,
-        Area::ScopeNames,
-        Area::Breaks,
-        Area::Errors,
-        Area::Books,
-    ];
-
-    /// From 1 to 12.
-    pub fn number(self) -> u64 {
-        self as u64
-    }
-
-    pub fn from_number(number: u64) -> Option<Area> {
-        Area::ALL.into_iter().find(|area| area.number() == number)
-    }
-
     /// Words of one entry.
     pub fn entry_words(self) -> usize {
         match self {
@@ -60,68 +55,141 @@ impl Area {
     pub(crate) fn index(self) -> usize {
         self as usize - 1
     }
-}
 
-impl fmt::Display for Area {
-    fn fmt(&self, out: &mut fmt::Formatter<'_>) -> fmt::Result {
-        out.write_str(match self {
-            Area::Code => "code",
-            Area::Constants => "constants",
-            Area::Functions => "functions",
-            Area::Models => "models",
-            Area::Properties => "properties",
-            Area::Methods => "methods",
-            Area::ContextLocals => "context locals",
-            Area::PublicNames => "public names",
-            Area::ScopeNames => "scope names",
-            Area::Breaks => "breaks",
-            Area::Errors => "errors",
-            Area::Books => "books",
-        })
+    /// One for each area, in the order of their numbers.
+    pub(crate) fn each<T>(mut each: impl FnMut(Area) -> T) -> [T; AREAS] {
+        std::array::from_fn(|at| each(Area::ALL[at]))
     }
 }
 
-/// Memory to lend to [`compile`](crate::compile). Every call overwrites all of it, so that its cost
-/// counts in each call; keep areas for the next call rather than making new ones.
+/// Memory to lend to a compile call, all areas in one piece, and the program that the last call left
+/// in it. Every call overwrites all of it, so that its cost counts in each call; keep areas for the
+/// next call rather than making new ones.
 #[derive(Clone, Debug)]
 pub struct Areas {
-    words: [Vec<u64>; AREAS],
+    memory: Vec<u64>,
+    /// Room of each area.
+    entries: [usize; AREAS],
+    /// Of the last call; none since the areas were made or grown.
+    reply: Option<Reply>,
+}
+
+/// Entries that a record of a kind takes in most bundles, in code and in constants.
+fn weight(kind: Option<Kind>) -> (usize, usize) {
+    match kind {
+        Some(Kind::For) => (12, 1),
+        Some(Kind::If) => (5, 0),
+        Some(Kind::Function | Kind::PublicFunction | Kind::Return | Kind::Rescue) => (2, 1),
+        Some(Kind::Infix) => (3, 0),
+        Some(Kind::Model | Kind::PublicModel) => (0, 1),
+        Some(Kind::Identifier | Kind::Integer | Kind::Float | Kind::String) => (1, 1),
+        _ => (1, 0),
+    }
 }
 
 impl Areas {
     /// Room for so many entries, in the order of the areas' numbers.
     pub fn with_entries(entries: [usize; AREAS]) -> Areas {
-        Areas { words: Area::ALL.map(|area| vec![0; entries[area.index()] * area.entry_words()]) }
+        let words = Area::each(|area| entries[area.index()] * area.entry_words());
+        Areas { memory: vec![0; words.iter().sum()], entries, reply: None }
     }
 
-    /// Room for most bundles of so many records. None suffices for all: compound assignments inside
-    /// each other's targets double the code at each level. Where an area is full, [`grow`](Areas::grow) it.
-    pub fn for_records(records: usize) -> Areas {
-        let mut entries = [records; AREAS];
-        entries[Area::Code.index()] = 4 * records + 8;
-        entries[Area::Constants.index()] = 2 * records + 3;
-        Areas::with_entries(entries)
+    /// Room for most bundles of these records. None suffices for all: a compound assignment compiles
+    /// its target twice, so that code can double at every second level. Where an area is full,
+    /// [`grow`](Areas::grow) it.
+    pub fn for_tree(tree: &[u64]) -> Areas {
+        let kinds = || tree.chunks_exact(RECORD_WORDS).map(|record| Kind::from_number(record[0]));
+        let count = |wanted: &[Kind]| kinds().flatten().filter(|kind| wanted.contains(kind)).count();
+        let (code, constants) = kinds().map(weight).fold((8, 8), |sum, more| (sum.0 + more.0, sum.1 + more.1));
+        let functions = count(&[Kind::Function, Kind::PublicFunction]);
+        let models = count(&[Kind::Model, Kind::PublicModel]);
+        let names = count(&[Kind::Name, Kind::ThisParameter]);
+        Areas::with_entries(Area::each(|area| match area {
+            Area::Code => code,
+            Area::Constants => constants,
+            Area::Functions | Area::Methods => functions,
+            Area::Models => models,
+            Area::Properties | Area::ScopeNames => names,
+            Area::ContextLocals => names + functions + models,
+            Area::PublicNames => count(&[Kind::PublicFunction, Kind::PublicModel]),
+            Area::Breaks => count(&[Kind::Break]),
+            Area::Errors => 64,
+            Area::Books => count(&[Kind::Document]),
+        }))
     }
 
-    /// Makes an area twice as long and at least 64 entries.
+    /// Makes an area twice as long and at least 64 entries. The program that was there is given up.
     pub fn grow(&mut self, area: Area) {
-        let words = &mut self.words[area.index()];
-        let length = (2 * words.len()).max(64 * area.entry_words());
-        words.resize(length, 0);
+        *self = Areas::with_entries(self.grown(area));
+    }
+
+    fn grown(&self, area: Area) -> [usize; AREAS] {
+        let mut entries = self.entries;
+        entries[area.index()] = (2 * entries[area.index()]).max(64);
+        entries
+    }
+
+    /// Words of all areas together, once an area is grown.
+    #[cfg(feature = "link")]
+    pub(crate) fn len_grown(&self, area: Area) -> usize {
+        let more = self.grown(area)[area.index()] - self.entries(area);
+        self.len() + more * area.entry_words()
     }
 
     /// Room of an area in entries.
     pub fn entries(&self, area: Area) -> usize {
-        self.words(area).len() / area.entry_words()
+        self.entries[area.index()]
     }
 
+    /// Words of all areas together.
+    pub fn len(&self) -> usize {
+        self.memory.len()
+    }
+
+    /// Whether no area has room for a word.
+    pub fn is_empty(&self) -> bool {
+        self.memory.is_empty()
+    }
+
+    fn range(&self, area: Area) -> Range<usize> {
+        let before: usize = Area::ALL[..area.index()].iter().map(|&area| self.words_of(area)).sum();
+        before..before + self.words_of(area)
+    }
+
+    fn words_of(&self, area: Area) -> usize {
+        self.entries(area) * area.entry_words()
+    }
+
+    /// An area whole, as the last call left it.
     pub fn words(&self, area: Area) -> &[u64] {
-        &self.words[area.index()]
+        &self.memory[self.range(area)]
     }
 
-    /// The areas as slices, in the order of their numbers.
+    /// The areas as slices, in the order of their numbers, for a call that is made by hand.
     pub fn lend(&mut self) -> [&mut [u64]; AREAS] {
-        self.words.each_mut().map(Vec::as_mut_slice)
+        self.reply = None;
+        let lengths = Area::each(|area| self.words_of(area));
+        let mut rest = self.memory.as_mut_slice();
+        lengths.map(|length| {
+            let (area, after) = std::mem::take(&mut rest).split_at_mut(length);
+            rest = after;
+            area
+        })
+    }
+
+    #[cfg(feature = "link")]
+    pub(crate) fn keep(&mut self, reply: Reply) {
+        self.reply = Some(reply);
+    }
+
+    /// The last call's reply with the areas; none since they were made, grown or lent by hand.
+    pub fn answer(&self) -> Option<Answer<'_>> {
+        Some(Answer { reply: self.reply?, areas: Area::each(|area| self.words(area)) })
+    }
+
+    /// The program that the last call delivered; none after a refusal.
+    pub fn program(&self) -> Option<Program<'_>> {
+        self.answer()?.program().ok()
     }
 }
 
@@ -131,8 +199,8 @@ mod tests {
 
     #[test]
     fn numbers_and_words() {
-        assert_eq!(Area::ALL.map(Area::number), [1, 2, 3, 4, 5, 6, 7, 8, 9, 10, 11, 12]);
-        assert_eq!(Area::ALL.map(Area::entry_words), [2, 3, 8, 2, 2, 3, 4, 3, 2, 1, 4, 1]);
+        assert_eq!(Area::each(Area::number), [1, 2, 3, 4, 5, 6, 7, 8, 9, 10, 11, 12]);
+        assert_eq!(Area::each(Area::entry_words), [2, 3, 8, 2, 2, 3, 4, 3, 2, 1, 4, 1]);
         assert_eq!(Area::from_number(12), Some(Area::Books));
         assert_eq!((Area::from_number(0), Area::from_number(13)), (None, None));
     }
@@ -140,11 +208,24 @@ mod tests {
     #[test]
     fn areas_grow() {
         let mut areas = Areas::with_entries([0; AREAS]);
-        assert_eq!(areas.entries(Area::Functions), 0);
+        assert_eq!((areas.entries(Area::Functions), areas.is_empty()), (0, true));
         areas.grow(Area::Functions);
         assert_eq!((areas.entries(Area::Functions), areas.words(Area::Functions).len()), (64, 512));
         areas.grow(Area::Functions);
-        assert_eq!(areas.entries(Area::Functions), 128);
-        assert_eq!(Areas::for_records(10).entries(Area::Code), 48);
+        assert_eq!((areas.entries(Area::Functions), areas.len()), (128, 1024));
+        assert!(areas.program().is_none());
+    }
+
+    #[test]
+    fn areas_lie_one_after_the_other() {
+        let mut areas = Areas::with_entries(std::array::from_fn(|at| at + 1));
+        for (number, area) in (1..).zip(areas.lend()) {
+            area.fill(number);
+        }
+        for &area in Area::ALL {
+            let words = areas.words(area);
+            assert_eq!(words.len(), area.number() as usize * area.entry_words());
+            assert!(words.iter().all(|&word| word == area.number()));
+        }
     }
 }

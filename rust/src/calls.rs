@@ -1,37 +1,106 @@
-//! The library's calls with memory of this crate's own, and results for replies.
+//! The library's calls, over memory that the caller has: slices go to the library as they are, and the
+//! replies come back as docs/FORMAT.md has them. Nothing is allocated. All else is made of these, and
+//! no other file has `unsafe` or names a symbol.
+//!
+//! ```
+//! use clover_back_end::{calls, AREAS};
+//!
+//! // One piece of memory, a twelfth of it for each area; file 2 is empty.
+//! let mut memory = vec![0u64; 32 * AREAS];
+//! let mut parts = memory.chunks_exact_mut(32);
+//! let areas = std::array::from_fn(|_| parts.next().expect("twelve parts"));
+//! let answer = calls::compile(&[1, 1, 0, 2], areas);
+//! assert_eq!((answer.reply.number, answer.reply.totals.books), (0, 1));
+//! assert_eq!(answer.program().expect("no refusal").books().count(), 1);
+//! ```
 
-use crate::areas::Areas;
-use crate::lent;
-use crate::program::Program;
-use crate::records::RECORD_WORDS;
-use crate::refusal::Refusal;
+use crate::areas::AREAS;
+use crate::reply::{Answer, Checked, Converted, Reply, Version};
+use std::sync::Once;
 
-/// Bytes of a line of a column file.
-const LINE_BYTES: usize = 46;
+/// The layout that this crate was written for. The first call holds the library's to it.
+pub const LAYOUT: u64 = 1;
+
+extern "C" {
+    fn clover_version() -> Version;
+    fn clover_check(tree: *const u64, words: usize) -> Checked;
+    fn clover_columns_to_records(file: *const u8, bytes: usize, out: *mut u64, words: usize) -> Converted;
+    fn clover_records_to_columns(tree: *const u64, words: usize, out: *mut u8, bytes: usize) -> Converted;
+}
+
+#[rustfmt::skip]
+extern "C" {
+    fn clover_compile(
+        tree: *const u64, tree_words: usize,
+        code: *mut u64, code_words: usize,
+        constants: *mut u64, constants_words: usize,
+        functions: *mut u64, functions_words: usize,
+        models: *mut u64, models_words: usize,
+        properties: *mut u64, properties_words: usize,
+        methods: *mut u64, methods_words: usize,
+        locals: *mut u64, locals_words: usize,
+        publics: *mut u64, publics_words: usize,
+        names: *mut u64, names_words: usize,
+        breaks: *mut u64, breaks_words: usize,
+        errors: *mut u64, errors_words: usize,
+        books: *mut u64, books_words: usize,
+    ) -> Reply;
+}
+
+/// Which library is linked.
+pub fn version() -> Version {
+    // Nothing goes in; a struct of two words comes back.
+    unsafe { clover_version() }
+}
+
+/// Ends the program where the linked library has another layout: its replies would be misread.
+fn hold_to_layout() {
+    static HELD: Once = Once::new();
+    HELD.call_once(|| {
+        let Version { version, layout } = version();
+        assert!(
+            layout == LAYOUT,
+            "the linked library (version {version}) has layout {layout}, and this crate is for layout {LAYOUT}: \
+             build both from one checkout"
+        );
+    });
+}
 
 /// Rows 2 to 4 on any words.
-pub fn check(tree: &[u64]) -> Result<(), Refusal> {
-    lent::check(tree).result()
+pub fn check(tree: &[u64]) -> Checked {
+    hold_to_layout();
+    // The words outlive the call, which only reads them.
+    unsafe { clover_check(tree.as_ptr(), tree.len()) }
 }
 
-/// A column file to records, or rows 1 to 4.
-pub fn columns_to_records(file: &[u8]) -> Result<Vec<u64>, Refusal> {
-    let mut out = vec![0; file.len() / LINE_BYTES * RECORD_WORDS];
-    let records = lent::columns_to_records(file, &mut out).records()?;
-    out.truncate(records * RECORD_WORDS);
-    Ok(out)
+/// A column file to records, or rows 1 to 4, or row 9 with place 0 where the output is too short.
+pub fn columns_to_records(file: &[u8], out: &mut [u64]) -> Converted {
+    hold_to_layout();
+    // Both slices outlive the call, and the output is another than the file.
+    unsafe { clover_columns_to_records(file.as_ptr(), file.len(), out.as_mut_ptr(), out.len()) }
 }
 
-/// Records to a column file, or rows 2 to 4.
-pub fn records_to_columns(tree: &[u64]) -> Result<Vec<u8>, Refusal> {
-    let mut out = vec![0; tree.len() / RECORD_WORDS * LINE_BYTES];
-    let records = lent::records_to_columns(tree, &mut out).records()?;
-    out.truncate(records * LINE_BYTES);
-    Ok(out)
+/// Records to a column file, or rows 2 to 4, or row 9 with place 0 where the output is too short.
+pub fn records_to_columns(tree: &[u64], out: &mut [u8]) -> Converted {
+    hold_to_layout();
+    // Both slices outlive the call, and the output is another than the tree.
+    unsafe { clover_records_to_columns(tree.as_ptr(), tree.len(), out.as_mut_ptr(), out.len()) }
 }
 
-/// Compiles a bundle; the program lies in the areas. After a refusal they hold nothing but the listed
-/// errors, which the refusal has too.
-pub fn compile<'a>(tree: &[u64], areas: &'a mut Areas) -> Result<Program<'a>, Refusal> {
-    lent::compile(tree, areas.lend()).program()
+/// Compiles a bundle into areas in the order of their numbers. A tail shorter than an entry is zeroed.
+pub fn compile<'a>(tree: &[u64], areas: [&'a mut [u64]; AREAS]) -> Answer<'a> {
+    hold_to_layout();
+    let mut areas = areas;
+    let lent = areas.each_mut().map(|words| (words.as_mut_ptr(), words.len()));
+    // The slices outlive the call, and no two of them overlap: each is borrowed for itself.
+    #[rustfmt::skip]
+    let reply = unsafe {
+        clover_compile(
+            tree.as_ptr(), tree.len(),
+            lent[0].0, lent[0].1, lent[1].0, lent[1].1, lent[2].0, lent[2].1, lent[3].0, lent[3].1,
+            lent[4].0, lent[4].1, lent[5].0, lent[5].1, lent[6].0, lent[6].1, lent[7].0, lent[7].1,
+            lent[8].0, lent[8].1, lent[9].0, lent[9].1, lent[10].0, lent[10].1, lent[11].0, lent[11].1,
+        )
+    };
+    Answer { reply, areas: areas.map(|words| &*words) }
 }

@@ -2,28 +2,32 @@
 //! static library; this crate wraps its calls and gives types to what they write.
 //!
 //! A bundle of books goes in as records, four words each ([`records`] writes them); a program comes
-//! out in memory that the caller lends ([`Areas`], or slices of its own through `lent`), read through
-//! [`Program`]. Texts are numbers throughout: what they say is the caller's own.
+//! out in memory that the caller lends ([`Areas`], or slices of its own through `calls`), read through
+//! [`Program`]. Texts are numbers throughout; a [`Texts`] knows what they say.
 //!
 //! ```
 //! # #[cfg(feature = "link")]
-//! # fn main() {
-//! use clover_back_end::records::{kind, Records};
-//! use clover_back_end::{compile, Areas, Constant, OpCode};
+//! # fn main() -> Result<(), clover_back_end::Refusal> {
+//! use clover_back_end::records::Records;
+//! use clover_back_end::{Areas, Constant, OpCode, Position, Texts};
 //!
-//! // File 2 holds `function f() 7 end`; text 3 is `f`.
-//! let mut tree = Records::new();
-//! tree.node(kind::DOCUMENT, 0, 2, |tree| {
-//!     tree.node(kind::FUNCTION, 0, 3, |tree| {
-//!         tree.node(kind::EXPRESSION, 0, 0, |tree| tree.leaf(kind::INTEGER, 0, 7));
-//!     });
+//! // File `seven.clover` holds `function f() 7 end`.
+//! let mut texts = Texts::new();
+//! let (file, f) = (texts.intern("seven.clover"), texts.intern("f"));
+//! let mut bundle = Records::new();
+//! bundle.document(file, |book| {
+//!     let seven = Position::new(1, 14);
+//!     book.function(f.at(Position::new(1, 10))).body(|body| body.expression(|slot| slot.integer(7, seven)));
 //! });
-//! let mut areas = Areas::for_records(tree.len());
-//! let program = compile(tree.words(), &mut areas).expect("no refusal");
+//!
+//! let mut areas = Areas::for_tree(bundle.words());
+//! // At most a million words; a full area is made longer until then.
+//! let program = areas.compile_growing(bundle.words(), 1_000_000)?;
 //! let f = program.functions().next().expect("one function");
 //! let (first, _) = f.instructions().next().expect("two instructions");
-//! assert_eq!((first.opcode(), first.operand()), (OpCode::PushConstant, 3));
-//! assert_eq!(program.constant(3), Some(Constant::Integer(7)));
+//! assert_eq!(first.opcode(), OpCode::PushConstant);
+//! assert_eq!(program.constant(first.operand()), Some(Constant::Integer(7)));
+//! # Ok(())
 //! # }
 //! # #[cfg(not(feature = "link"))]
 //! # fn main() {}
@@ -32,21 +36,39 @@
 //! What is promised of a call, and the form of records, areas and reply: `docs/PROMISES.md` and
 //! `docs/FORMAT.md` of the repository. This crate itself is not proved; its `unsafe` is the calls.
 
+#![warn(missing_docs)]
+
 mod areas;
+#[cfg(feature = "clover-ast")]
+pub mod ast;
 #[cfg(feature = "link")]
-mod calls;
+pub mod calls;
+mod column_file;
+#[cfg(feature = "link")]
+mod compiling;
+mod constant;
+mod fault;
 mod instruction;
-#[cfg(feature = "link")]
-pub mod lent;
+mod kind;
+pub mod nodes;
+mod numbered;
+mod position;
 mod program;
 pub mod records;
 mod refusal;
 mod reply;
+mod texts;
 
 pub use areas::{Area, Areas, AREAS};
+pub use column_file::{LineFault, LINE_BYTES};
 #[cfg(feature = "link")]
-pub use calls::{check, columns_to_records, compile, records_to_columns};
-pub use instruction::{Instruction, OpCode, Position};
-pub use program::{Constant, ContextLocal, Function, Method, Model, Program, PublicName, Totals};
-pub use refusal::{Error, Refusal, Row, Token};
-pub use reply::{Answer, Checked, Converted, Reply};
+pub use compiling::{check, columns_to_records, compile, records_to_columns};
+pub use constant::Constant;
+pub use fault::ShapeFault;
+pub use instruction::{Instruction, OpCode, Operand, Operation};
+pub use kind::{Infix, Kind, Prefix};
+pub use position::Position;
+pub use program::{ContextLocal, Function, Method, Model, Program, PublicName, Totals};
+pub use refusal::{Error, ErrorKind, Refusal, Token};
+pub use reply::{Answer, Checked, Converted, Reply, Version};
+pub use texts::{Text, Texts, TextsError};

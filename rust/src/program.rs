@@ -1,31 +1,48 @@
 //! A delivered program, read in the areas where it lies.
 
 use crate::areas::{Area, AREAS};
-use crate::instruction::{Instruction, Position};
+use crate::constant::Constant;
+use crate::instruction::Instruction;
+use crate::position::Position;
+use crate::texts::Text;
 use std::fmt;
 
 /// How many entries each area holds, and two numbers beside them.
 #[repr(C)]
 #[derive(Clone, Copy, Debug, Default, PartialEq, Eq)]
 pub struct Totals {
+    /// Instructions.
     pub code: u64,
+    /// Constants.
     pub constants: u64,
+    /// Functions.
     pub functions: u64,
+    /// Models.
     pub models: u64,
+    /// Properties of models.
     pub properties: u64,
+    /// Methods of models.
     pub methods: u64,
+    /// Top-level names.
     pub context_locals: u64,
+    /// Names that others may include.
     pub public_names: u64,
+    /// Always 0: they are given up.
     pub scope_names: u64,
+    /// Always 0: they are given up.
     pub breaks: u64,
+    /// Always 0: a book with errors is refused.
     pub errors: u64,
+    /// Books compiled.
     pub books: u64,
     /// A function; 0 where there are none.
     pub entry_point: u64,
+    /// Constants that name globals.
     pub global_dependencies: u64,
 }
 
 impl Totals {
+    /// The total of an area.
     pub fn of(&self, area: Area) -> u64 {
         match area {
             Area::Code => self.code,
@@ -57,9 +74,10 @@ impl<'a> Program<'a> {
     /// The areas must hold a delivery with these totals.
     pub(crate) fn new(areas: &[&'a [u64]; AREAS], totals: Totals) -> Program<'a> {
         let used = |area: Area| &areas[area.index()][..totals.of(area) as usize * area.entry_words()];
-        Program { areas: Area::ALL.map(used), totals }
+        Program { areas: Area::each(used), totals }
     }
 
+    /// How many entries there are, the entry point and the number of global dependencies.
     pub fn totals(&self) -> Totals {
         self.totals
     }
@@ -80,14 +98,17 @@ impl<'a> Program<'a> {
         self.words(area).get(at..)?.first_chunk()
     }
 
+    /// The functions, by index.
     pub fn functions(&self) -> impl ExactSizeIterator<Item = Function<'a>> + Clone {
         let code = self.words(Area::Code);
-        self.entries(Area::Functions).map(move |entry| Function { entry, code })
+        let made = move |(index, entry)| Function { index: index as u64, entry, code };
+        self.entries(Area::Functions).enumerate().map(made)
     }
 
+    /// The function with an index.
     pub fn function(&self, index: u64) -> Option<Function<'a>> {
         let entry = self.entry(Area::Functions, index)?;
-        Some(Function { entry, code: self.words(Area::Code) })
+        Some(Function { index, entry, code: self.words(Area::Code) })
     }
 
     /// The function to start with; none where there are no functions.
@@ -95,10 +116,12 @@ impl<'a> Program<'a> {
         self.function(self.totals.entry_point)
     }
 
+    /// The pool, by index. The first three are null, true and false.
     pub fn constants(&self) -> impl ExactSizeIterator<Item = Constant> + Clone + 'a {
         self.entries(Area::Constants).map(|&[kind, value, _]| Constant::of(kind, value))
     }
 
+    /// The constant with an index.
     pub fn constant(&self, index: u64) -> Option<Constant> {
         self.entry(Area::Constants, index).map(|&[kind, value, _]| Constant::of(kind, value))
     }
@@ -108,32 +131,42 @@ impl<'a> Program<'a> {
         (0..).zip(self.entries(Area::Constants)).filter(|(_, &[_, _, mark])| mark == 1).map(|(index, _)| index)
     }
 
+    /// The models, by index.
     pub fn models(&self) -> impl ExactSizeIterator<Item = Model<'a>> + Clone {
         let program = *self;
-        let made = move |(index, &[file, name]): (usize, &[u64; 2])| Model { program, index: index as u64, file, name };
+        let made = move |(index, entry): (usize, _)| Model::of(program, index as u64, entry);
         self.entries(Area::Models).enumerate().map(made)
     }
 
+    /// The model with an index.
     pub fn model(&self, index: u64) -> Option<Model<'a>> {
-        let &[file, name] = self.entry(Area::Models, index)?;
-        Some(Model { program: *self, index, file, name })
+        self.entry(Area::Models, index).map(|entry| Model::of(*self, index, entry))
     }
 
+    /// The books' top-level names, by index.
     pub fn context_locals(&self) -> impl ExactSizeIterator<Item = ContextLocal> + Clone + 'a {
-        self.entries(Area::ContextLocals).map(|&[file, name, mark, constant]| ContextLocal {
-            file,
-            name,
-            constant: (mark == 1).then_some(constant),
-        })
+        self.entries(Area::ContextLocals).map(ContextLocal::of)
     }
 
+    /// The top-level name with an index.
+    pub fn context_local(&self, index: u64) -> Option<ContextLocal> {
+        self.entry(Area::ContextLocals, index).map(ContextLocal::of)
+    }
+
+    /// What the books let others include, each name once a book.
     pub fn public_names(&self) -> impl ExactSizeIterator<Item = PublicName> + Clone + 'a {
-        self.entries(Area::PublicNames).map(|&[file, name, constant]| PublicName { file, name, constant })
+        let made = |&[file, name, constant]: &[u64; 3]| PublicName { file, name: Text::from_number(name), constant };
+        self.entries(Area::PublicNames).map(made)
     }
 
-    /// File numbers in the order of compiling.
-    pub fn books(&self) -> &'a [u64] {
-        self.words(Area::Books)
+    /// The files of the books in the order of compiling.
+    pub fn books(&self) -> impl ExactSizeIterator<Item = Text> + Clone + 'a {
+        self.words(Area::Books).iter().map(|&file| Text::from_number(file))
+    }
+
+    /// The file of the book with an index.
+    pub fn book(&self, index: u64) -> Option<Text> {
+        self.books().nth(usize::try_from(index).ok()?)
     }
 }
 
@@ -145,42 +178,54 @@ impl fmt::Debug for Program<'_> {
             .field("models", &self.models().collect::<Vec<_>>())
             .field("context_locals", &self.context_locals().collect::<Vec<_>>())
             .field("public_names", &self.public_names().collect::<Vec<_>>())
-            .field("books", &self.books())
+            .field("books", &self.books().collect::<Vec<_>>())
             .field("entry_point", &self.totals.entry_point)
             .finish()
     }
 }
 
+/// A function of a program.
 #[derive(Clone, Copy)]
 pub struct Function<'a> {
+    index: u64,
     entry: &'a [u64; 8],
     code: &'a [u64],
 }
 
 impl<'a> Function<'a> {
+    /// Its index in the program.
+    pub fn index(&self) -> u64 {
+        self.index
+    }
+
+    /// How many parameters it has; they are its first locals.
     pub fn parameters(&self) -> u64 {
         self.entry[0]
     }
 
+    /// How many locals it has, parameters among them.
     pub fn locals(&self) -> u64 {
         self.entry[1]
     }
 
-    /// 0 where there is none.
+    /// The instruction that an error leads to; 0 where there is no rescue.
     pub fn rescue_position(&self) -> u64 {
         self.entry[2]
     }
 
+    /// Whether it has a parameter `this`.
     pub fn is_instance(&self) -> bool {
         self.entry[3] == 1
     }
 
+    /// The index of its book.
     pub fn file(&self) -> u64 {
         self.entry[6]
     }
 
-    pub fn name(&self) -> u64 {
-        self.entry[7]
+    /// Its name.
+    pub fn name(&self) -> Text {
+        Text::from_number(self.entry[7])
     }
 
     /// The part of code memory that the function occupies: an instruction and its position in turn.
@@ -211,69 +256,57 @@ impl fmt::Debug for Function<'_> {
     }
 }
 
-/// A constant of the pool. Texts are numbers, models and functions indices.
-#[derive(Clone, Copy, Debug, PartialEq)]
-pub enum Constant {
-    Null,
-    Boolean(bool),
-    Integer(i64),
-    Float(f64),
-    Text(u64),
-    Model(u64),
-    Function(u64),
-}
-
-impl Constant {
-    fn of(kind: u64, value: u64) -> Constant {
-        match kind {
-            0 => Constant::Null,
-            1 => Constant::Boolean(value == 1),
-            2 => Constant::Integer(value as i64),
-            3 => Constant::Float(f64::from_bits(value)),
-            4 => Constant::Text(value),
-            5 => Constant::Model(value),
-            6 => Constant::Function(value),
-            other => unreachable!("no delivered program has a constant of kind {other}"),
-        }
-    }
-}
-
+/// A model of a program.
 #[derive(Clone, Copy)]
 pub struct Model<'a> {
     program: Program<'a>,
     index: u64,
     file: u64,
-    name: u64,
+    name: Text,
 }
 
 /// A name of a model, and its function.
 #[derive(Clone, Copy, Debug, PartialEq, Eq)]
 pub struct Method {
-    pub name: u64,
+    /// The name.
+    pub name: Text,
+    /// The function's index.
     pub function: u64,
 }
 
 impl<'a> Model<'a> {
+    fn of(program: Program<'a>, index: u64, &[file, name]: &[u64; 2]) -> Model<'a> {
+        Model { program, index, file, name: Text::from_number(name) }
+    }
+
+    /// Its index in the program.
+    pub fn index(&self) -> u64 {
+        self.index
+    }
+
+    /// The index of its book.
     pub fn file(&self) -> u64 {
         self.file
     }
 
-    pub fn name(&self) -> u64 {
+    /// Its name.
+    pub fn name(&self) -> Text {
         self.name
     }
 
     /// Names in their order.
-    pub fn properties(&self) -> impl Iterator<Item = u64> + Clone + 'a {
+    pub fn properties(&self) -> impl Iterator<Item = Text> + Clone + 'a {
         let index = self.index;
         let entries = self.program.entries(Area::Properties);
-        entries.filter(move |&&[model, _]| model == index).map(|&[_, name]| name)
+        entries.filter(move |&&[model, _]| model == index).map(|&[_, name]| Text::from_number(name))
     }
 
     /// In the order in which each name first came.
     pub fn methods(&self) -> impl Iterator<Item = Method> + Clone + 'a {
         let index = self.index;
         let entries = self.program.entries(Area::Methods);
-        entries.filter(move |&&[model, _, _]| model == index).map(|&[_, name, function]| Method { name, function })
+        let made = |&[_, name, function]: &[u64; 3]| Method { name: Text::from_number(name), function };
+        entries.filter(move |&&[model, _, _]| model == index).map(made)
     }
 }
 
@@ -291,16 +324,28 @@ impl fmt::Debug for Model<'_> {
 /// A top-level name of a book, with its first value if it has one.
 #[derive(Clone, Copy, Debug, PartialEq, Eq)]
 pub struct ContextLocal {
+    /// The index of its book.
     pub file: u64,
-    pub name: u64,
+    /// The name.
+    pub name: Text,
+    /// The constant that it starts with.
     pub constant: Option<u64>,
+}
+
+impl ContextLocal {
+    fn of(&[file, name, mark, constant]: &[u64; 4]) -> ContextLocal {
+        ContextLocal { file, name: Text::from_number(name), constant: (mark == 1).then_some(constant) }
+    }
 }
 
 /// What a book lets others include.
 #[derive(Clone, Copy, Debug, PartialEq, Eq)]
 pub struct PublicName {
+    /// The index of its book.
     pub file: u64,
-    pub name: u64,
+    /// The name.
+    pub name: Text,
+    /// The constant behind it: a function or a model.
     pub constant: u64,
 }
 
@@ -310,13 +355,17 @@ mod tests {
     use crate::instruction::OpCode;
 
     fn word(opcode: OpCode, operand: u64) -> u64 {
-        (opcode as u64) << 56 | operand
+        Instruction::new(opcode, operand).word()
+    }
+
+    fn text(number: u64) -> Text {
+        Text::from_number(number)
     }
 
     /// Entries behind the total are none of the program's.
     fn areas(filled: &[(Area, &[u64])]) -> [Vec<u64>; AREAS] {
         let words = |area: Area| filled.iter().find(|(filled, _)| *filled == area).map_or(&[][..], |(_, words)| words);
-        Area::ALL.map(|area| [words(area), &vec![0; 2 * area.entry_words()]].concat())
+        Area::each(|area| [words(area), &vec![0; 2 * area.entry_words()]].concat())
     }
 
     fn program(areas: &[Vec<u64>; AREAS], totals: Totals) -> Program<'_> {
@@ -352,7 +401,7 @@ mod tests {
         let program = program(&areas, totals);
         let f = program.entry_point().expect("one function");
         assert_eq!((f.parameters(), f.locals(), f.rescue_position()), (1, 1, 0));
-        assert_eq!((f.is_instance(), f.file(), f.name()), (false, 0, 3));
+        assert_eq!((f.is_instance(), f.file(), f.name()), (false, 0, text(3)));
         assert_eq!(f.code(), code);
         let (last, place) = f.instructions().last().expect("six instructions");
         assert_eq!((last.opcode(), place), (OpCode::Return, Position::new(3, 5)));
@@ -361,9 +410,10 @@ mod tests {
         let first = [Constant::Null, Constant::Boolean(true), Constant::Boolean(false), Constant::Function(0)];
         assert_eq!(constants, first);
         assert_eq!((program.constant(3), program.constant(4)), (Some(Constant::Function(0)), None));
-        let local = ContextLocal { file: 0, name: 3, constant: Some(3) };
+        let local = ContextLocal { file: 0, name: text(3), constant: Some(3) };
         assert_eq!(program.context_locals().collect::<Vec<_>>(), [local]);
-        assert_eq!(program.books(), [2]);
+        assert!(program.books().eq([text(2)]));
+        assert_eq!((program.book(0), program.book(1)), (Some(text(2)), None));
         assert_eq!((program.models().len(), program.public_names().len()), (0, 0));
         assert!(format!("{program:?}").contains("(JumpIf, 4)"));
     }
@@ -377,7 +427,8 @@ mod tests {
         let program = program(&areas, totals);
         let second = program.entry_point().expect("the second function");
         assert_eq!(second.instructions().map(|(i, _)| i.operand()).collect::<Vec<_>>(), [2, 3, 4]);
-        assert_eq!((second.parameters(), second.locals(), second.file(), second.name()), (4, 5, 1, 9));
+        assert_eq!((second.parameters(), second.locals(), second.file(), second.name()), (4, 5, 1, text(9)));
+        assert_eq!(second.index(), 1);
         let first = program.function(0).expect("the first");
         assert_eq!((first.rescue_position(), first.is_instance(), first.instructions().len()), (2, true, 2));
         assert!(program.function(2).is_none());
@@ -392,10 +443,12 @@ mod tests {
         let program = program(&areas, Totals { constants: 6, ..Totals::default() });
         assert_eq!(program.constant(0), Some(Constant::Integer(i64::MIN)));
         assert_eq!(program.constant(1), Some(Constant::Float(0.5)));
-        assert_eq!(program.constant(2), Some(Constant::Text(7)));
+        assert_eq!(program.constant(2), Some(Constant::Text(text(7))));
         assert_eq!(program.constant(3), Some(Constant::Model(2)));
         assert_eq!(program.global_dependencies().collect::<Vec<_>>(), [2, 5]);
         assert!(program.entry_point().is_none());
+        let words = program.words(Area::Constants);
+        assert!(program.constants().zip(words.chunks(3)).all(|(c, entry)| [c.kind(), c.value()] == entry[..2]));
     }
 
     #[test]
@@ -411,14 +464,15 @@ mod tests {
             Totals { models: 2, properties: 3, methods: 3, public_names: 1, context_locals: 2, ..Totals::default() };
         let program = program(&areas, totals);
         let second = program.model(1).expect("two models");
-        assert_eq!((second.file(), second.name()), (1, 21));
-        assert_eq!(second.properties().collect::<Vec<_>>(), [30]);
-        let methods = [Method { name: 40, function: 3 }, Method { name: 41, function: 0 }];
+        assert_eq!((second.file(), second.name()), (1, text(21)));
+        assert!(second.properties().eq([text(30)]));
+        let methods = [Method { name: text(40), function: 3 }, Method { name: text(41), function: 0 }];
         assert_eq!(second.methods().collect::<Vec<_>>(), methods);
-        assert_eq!(program.models().next().expect("one").properties().collect::<Vec<_>>(), [30, 31]);
-        assert_eq!(program.public_names().collect::<Vec<_>>(), [PublicName { file: 1, name: 21, constant: 6 }]);
+        assert!(program.models().next().expect("one").properties().eq([text(30), text(31)]));
+        assert!(program.public_names().eq([PublicName { file: 1, name: text(21), constant: 6 }]));
         let values: Vec<Option<u64>> = program.context_locals().map(|local| local.constant).collect();
         assert_eq!(values, [None, Some(0)]);
+        assert_eq!(program.context_local(1).map(|local| local.name), Some(text(51)));
         assert!(program.model(2).is_none());
     }
 }

@@ -1,228 +1,278 @@
-//! Refusals, and the errors that rows 7 and 8 list.
+//! Refusals, and the errors that a faulty book has.
 
 use crate::areas::Area;
-use crate::instruction::Position;
-use crate::records::kind;
+use crate::column_file::LineFault;
+use crate::fault::ShapeFault;
+use crate::kind::{Infix, Kind, Prefix};
+use crate::numbered::numbered;
+use crate::position::Position;
+use crate::records::{MAX_LEVEL, MAX_RECORDS, RECORD_WORDS};
+use crate::texts::{Text, Texts};
 use std::fmt;
 
-/// The rows of refusals.
-#[derive(Clone, Copy, Debug, PartialEq, Eq, Hash, PartialOrd, Ord)]
-pub enum Row {
-    /// Column file only; place: the line, from 1.
-    BadLine = 1,
-    /// Place: 0.
-    BadLength,
-    /// Place: the record.
-    BadShape,
-    /// Place: the record.
-    TooDeep,
-    /// Place: the document's record.
-    BookTwice,
-    /// Place: the file number.
-    BookMissing,
-    /// Place: the file number; the errors are listed.
-    BookFaulty,
-    /// Place: how many books are left; an error for each.
-    Ring,
-    /// Place: the area's number; 0 for a converter's output.
-    AreaFull,
-}
-
-impl Row {
-    const ALL: [Row; 9] = [
-        Row::BadLine,
-        Row::BadLength,
-        Row::BadShape,
-        Row::TooDeep,
-        Row::BookTwice,
-        Row::BookMissing,
-        Row::BookFaulty,
-        Row::Ring,
-        Row::AreaFull,
-    ];
-
-    /// From 1 to 9.
-    pub fn number(self) -> u64 {
-        self as u64
-    }
-
-    pub fn from_number(number: u64) -> Option<Row> {
-        Row::ALL.into_iter().find(|row| row.number() == number)
-    }
-}
-
-impl fmt::Display for Row {
-    fn fmt(&self, out: &mut fmt::Formatter<'_>) -> fmt::Result {
-        out.write_str(match self {
-            Row::BadLine => "bad line",
-            Row::BadLength => "bad length",
-            Row::BadShape => "bad shape",
-            Row::TooDeep => "too deep",
-            Row::BookTwice => "book twice",
-            Row::BookMissing => "book missing",
-            Row::BookFaulty => "book faulty",
-            Row::Ring => "ring",
-            Row::AreaFull => "area full",
-        })
-    }
-}
-
-/// Why a call delivers nothing.
+/// Why a call delivers nothing. Each case is a row of docs/FORMAT.md, 'Refusals', with what its place
+/// means.
 #[derive(Clone, Debug, PartialEq, Eq)]
-pub struct Refusal {
-    pub row: Row,
-    pub place: u64,
-    /// After rows 7 and 8.
-    pub errors: Vec<Error>,
+#[non_exhaustive]
+pub enum Refusal {
+    /// Row 1: a line of a column file is off its form.
+    BadLine {
+        /// The first such line, from 1.
+        line: u64,
+        /// What is wrong with it, where the file was at hand.
+        reason: Option<LineFault>,
+    },
+    /// Row 2: the words are no records, or too many.
+    BadLength,
+    /// Row 3: a record breaks the tree rules.
+    BadShape {
+        /// The first such record, from 0.
+        record: u64,
+        /// Which rule it breaks, where the records were at hand.
+        reason: Option<ShapeFault>,
+    },
+    /// Row 4: a record stands below the deepest level.
+    TooDeep {
+        /// The first such record.
+        record: u64,
+    },
+    /// Row 5: two documents have one file number.
+    BookTwice {
+        /// The second of them.
+        record: u64,
+    },
+    /// Row 6: a needed book is not in the bundle.
+    BookMissing {
+        /// Its file.
+        file: Text,
+    },
+    /// Row 7: a book has errors.
+    BookFaulty {
+        /// Its file.
+        file: Text,
+        /// The errors, as they came.
+        errors: Vec<Error>,
+    },
+    /// Row 8: books that include each other in a ring, and those that wait for them.
+    Ring {
+        /// Their files.
+        files: Vec<Text>,
+    },
+    /// Row 9: an area has no room.
+    AreaFull {
+        /// The area.
+        area: Area,
+    },
+    /// Row 9, place 0: a converter's output has no room.
+    OutputShort,
 }
 
 impl Refusal {
-    /// The refusal of a reply; none where its number is 0.
+    /// The refusal of a reply and its errors area; none where the number is 0.
     pub(crate) fn of(number: u64, place: u64, errors: &[u64]) -> Option<Refusal> {
-        if number == 0 {
-            return None;
-        }
-        let row = Row::from_number(number).unwrap_or_else(|| unreachable!("no reply has the number {number}"));
-        let listed = errors.chunks_exact(Area::Errors.entry_words()).map(Error::of);
-        Some(Refusal { row, place, errors: listed.take_while(|error| error.number != 0).collect() })
+        let listed = errors.chunks_exact(Area::Errors.entry_words()).take_while(|entry| entry[0] != 0);
+        Some(match number {
+            0 => return None,
+            1 => Refusal::BadLine { line: place, reason: None },
+            2 => Refusal::BadLength,
+            3 => Refusal::BadShape { record: place, reason: None },
+            4 => Refusal::TooDeep { record: place },
+            5 => Refusal::BookTwice { record: place },
+            6 => Refusal::BookMissing { file: Text::from_number(place) },
+            7 => Refusal::BookFaulty { file: Text::from_number(place), errors: listed.map(Error::of).collect() },
+            8 => Refusal::Ring { files: listed.map(|entry| Text::from_number(entry[3])).collect() },
+            9 => Area::from_number(place).map_or(Refusal::OutputShort, |area| Refusal::AreaFull { area }),
+            other => unreachable!("no reply of this layout has the number {other}"),
+        })
     }
 
-    /// The area that is full; none for other rows and for a converter's output.
-    pub fn full_area(&self) -> Option<Area> {
-        if self.row != Row::AreaFull {
-            return None;
+    /// Its row.
+    pub fn row(&self) -> u64 {
+        match self {
+            Refusal::BadLine { .. } => 1,
+            Refusal::BadLength => 2,
+            Refusal::BadShape { .. } => 3,
+            Refusal::TooDeep { .. } => 4,
+            Refusal::BookTwice { .. } => 5,
+            Refusal::BookMissing { .. } => 6,
+            Refusal::BookFaulty { .. } => 7,
+            Refusal::Ring { .. } => 8,
+            Refusal::AreaFull { .. } | Refusal::OutputShort => 9,
         }
-        Area::from_number(self.place)
+    }
+
+    /// Its place.
+    pub fn place(&self) -> u64 {
+        match self {
+            Refusal::BadLength | Refusal::OutputShort => 0,
+            Refusal::BadLine { line, .. } => *line,
+            Refusal::BadShape { record, .. } | Refusal::TooDeep { record } | Refusal::BookTwice { record } => *record,
+            Refusal::BookMissing { file } | Refusal::BookFaulty { file, .. } => file.number(),
+            Refusal::Ring { files } => files.len() as u64,
+            Refusal::AreaFull { area } => area.number(),
+        }
+    }
+
+    /// The row in a word or two.
+    pub fn word(&self) -> &'static str {
+        match self {
+            Refusal::BadLine { .. } => "bad line",
+            Refusal::BadLength => "bad length",
+            Refusal::BadShape { .. } => "bad shape",
+            Refusal::TooDeep { .. } => "too deep",
+            Refusal::BookTwice { .. } => "book twice",
+            Refusal::BookMissing { .. } => "book missing",
+            Refusal::BookFaulty { .. } => "book faulty",
+            Refusal::Ring { .. } => "ring",
+            Refusal::AreaFull { .. } | Refusal::OutputShort => "area full",
+        }
+    }
+
+    /// The record that is refused, for rows that name one.
+    pub fn record(&self) -> Option<u64> {
+        match self {
+            Refusal::BadShape { record, .. } | Refusal::TooDeep { record } | Refusal::BookTwice { record } => {
+                Some(*record)
+            }
+            _ => None,
+        }
+    }
+
+    /// The refusal in a sentence, with the names that the table knows; errors are not in it.
+    pub fn spelt(&self, texts: &Texts) -> String {
+        let word = self.word();
+        let because = |reason: Option<String>| reason.map_or_else(String::new, |reason| format!(": {reason}"));
+        match self {
+            Refusal::BadLine { line, reason } => {
+                format!(
+                    "{word}: line {line} of the column file is off its form{}",
+                    because(reason.map(|reason| reason.to_string()))
+                )
+            }
+            Refusal::BadLength => {
+                format!("{word}: the words are no multiple of {RECORD_WORDS}, or over {MAX_RECORDS} records")
+            }
+            Refusal::BadShape { record, reason } => {
+                format!(
+                    "{word}: record {record} is against the tree rules{}",
+                    because(reason.map(|reason| reason.to_string()))
+                )
+            }
+            Refusal::TooDeep { record } => format!("{word}: record {record} stands at level {}", MAX_LEVEL + 1),
+            Refusal::BookTwice { record } => {
+                format!("{word}: record {record}, a document, has an earlier one's file number")
+            }
+            Refusal::BookMissing { file } => format!("{word}: {} is needed and absent", texts.spelt(*file)),
+            Refusal::BookFaulty { file, .. } => format!("{word}: {} has errors", texts.spelt(*file)),
+            Refusal::Ring { files } => {
+                let names: Vec<_> = files.iter().map(|&file| texts.spelt(file)).collect();
+                format!("{word}: no book is ready, and {} are left: {}", files.len(), names.join(", "))
+            }
+            Refusal::AreaFull { area } => format!("{word}: area {}, {area}, has no room", area.number()),
+            Refusal::OutputShort => format!("{word}: the output is too short"),
+        }
     }
 }
 
 impl fmt::Display for Refusal {
     fn fmt(&self, out: &mut fmt::Formatter<'_>) -> fmt::Result {
-        let (row, place) = (self.row, self.place);
-        match row {
-            Row::BadLine => write!(out, "{row}: line {place} of the column file is off its form"),
-            Row::BadLength => write!(out, "{row}: the words are no multiple of 4, or over 1048576 records"),
-            Row::BadShape => write!(out, "{row}: record {place} is against the tree rules"),
-            Row::TooDeep => write!(out, "{row}: record {place} stands at level 65"),
-            Row::BookTwice => write!(out, "{row}: record {place}, a document, has an earlier one's file number"),
-            Row::BookMissing => write!(out, "{row}: file {place} is needed and absent"),
-            Row::BookFaulty => write!(out, "{row}: file {place} has errors"),
-            Row::Ring => write!(out, "{row}: no book is ready, and {place} are left"),
-            Row::AreaFull => match self.full_area() {
-                Some(area) => write!(out, "{row}: area {place}, {area}, has no room"),
-                None => write!(out, "{row}: the output is too short"),
-            },
-        }?;
-        self.errors.iter().try_for_each(|error| write!(out, "\n  {error}"))
+        out.write_str(&self.spelt(&Texts::new()))?;
+        match self {
+            Refusal::BookFaulty { errors, .. } => errors.iter().try_for_each(|error| write!(out, "\n  {error}")),
+            _ => Ok(()),
+        }
     }
 }
 
 impl std::error::Error for Refusal {}
 
+numbered! {
+    /// What is wrong in a book, with the original's messages.
+    pub enum ErrorKind {
+        /// A name is defined twice in a scope.
+        VariableExists = 1 "variable already exists",
+        /// The left part of an assignment is no target.
+        CanNotAssign = 2 "can not assign",
+        /// No operation has this token.
+        UnknownOperation = 3 "unknown operation",
+        /// A rescue inside an if or a loop.
+        RescueInside = 4 "rescue can only in the layer of function",
+        /// A local definition with another value than a constant.
+        ValueNotConstant = 5 "value in local definition can be constant only",
+        /// A property is named twice.
+        PropertyExists = 6 "property already exists",
+        /// A parameter is named twice.
+        ParameterExists = 7 "parameter already exists",
+        /// A function with `this` outside an implement.
+        InstanceFunctionOutside = 8 "instance function can inside implement block only",
+        /// The name is known and no model's.
+        NotAModel = 9 "is not a model",
+        /// The name is not known.
+        ModelNotFound = 10 "can not found model",
+        /// Of row 8 alone: a book of a ring, or one that waits for it.
+        Ring = 11 "there may have cycle reference in this files",
+    }
+}
+
 /// A token as its record's kind and value.
 #[derive(Clone, Copy, Debug, PartialEq, Eq)]
 pub struct Token {
-    pub kind: u64,
+    /// The record's kind.
+    pub kind: Kind,
+    /// The record's value.
     pub value: u64,
 }
 
-/// The original's names of infix tokens, by value.
-const INFIX: [&str; 20] = [
-    "Assign",
-    "Plus",
-    "Minus",
-    "Star",
-    "Slash",
-    "Percent",
-    "PlusAssign",
-    "MinusAssign",
-    "StarAssign",
-    "SlashAssign",
-    "PercentAssign",
-    "Equal",
-    "NotEqual",
-    "Greater",
-    "Less",
-    "GreaterEqual",
-    "LessEqual",
-    "And",
-    "Or",
-    "another infix",
-];
-const PREFIX: [&str; 3] = ["Minus", "Not", "another prefix"];
-
 impl Token {
-    /// As the original prints it; `text` says what a text is.
-    pub fn spelt(self, text: impl Fn(u64) -> String) -> String {
-        let named = |names: &[&str]| names.get(self.value as usize).copied().unwrap_or("another token").to_string();
-        match self.kind {
-            kind::MODEL..=kind::IMPLEMENT | kind::IDENTIFIER | kind::STRING | kind::NAME => text(self.value),
-            kind::INTEGER => (self.value as i64).to_string(),
-            kind::FLOAT => f64::from_bits(self.value).to_string(),
-            kind::BOOLEAN => (self.value == 1).to_string(),
-            kind::NULL => "Null".to_string(),
-            kind::THIS | kind::THIS_PARAMETER => "this".to_string(),
-            kind::RESCUE => "Rescue".to_string(),
-            kind::PREFIX => named(&PREFIX),
-            kind::INFIX => named(&INFIX),
-            _ => "another token".to_string(),
+    /// As the original prints it.
+    pub fn spelt(self, texts: &Texts) -> String {
+        let Token { kind, value } = self;
+        match kind {
+            Kind::Integer => (value as i64).to_string(),
+            Kind::Float => f64::from_bits(value).to_string(),
+            Kind::Boolean => (value == 1).to_string(),
+            Kind::Null => "Null".to_string(),
+            Kind::This | Kind::ThisParameter => "this".to_string(),
+            Kind::Rescue => "Rescue".to_string(),
+            Kind::Prefix => Prefix::from_number(value).map_or_else(other, |prefix| format!("{prefix:?}")),
+            Kind::Infix => Infix::from_number(value).map_or_else(other, |infix| format!("{infix:?}")),
+            kind if kind.holds_text() => texts.spelt(Text::from_number(value)).into_owned(),
+            _ => other(),
         }
     }
 }
 
-/// The original's messages by number; the last is `compile_to`'s.
-const MESSAGES: [&str; 11] = [
-    "variable already exists",
-    "can not assign",
-    "unknown operation",
-    "rescue can only in the layer of function",
-    "value in local definition can be constant only",
-    "property already exists",
-    "parameter already exists",
-    "instance function can inside implement block only",
-    "is not a model",
-    "can not found model",
-    "there may have cycle reference in this files",
-];
-const RING_ERROR: u64 = 11;
+fn other() -> String {
+    "another token".to_string()
+}
 
 /// An error of a book.
 #[derive(Clone, Copy, Debug, PartialEq, Eq)]
 pub struct Error {
-    pub number: u64,
+    /// What is wrong.
+    pub kind: ErrorKind,
+    /// Where.
     pub position: Position,
-    /// For error 11 its value is the file number.
+    /// At which token.
     pub token: Token,
 }
 
 impl Error {
     fn of(entry: &[u64]) -> Error {
-        Error {
-            number: entry[0],
-            position: Position::from_word(entry[1]),
-            token: Token { kind: entry[2], value: entry[3] },
-        }
+        let known = ErrorKind::from_number(entry[0]).zip(Kind::from_number(entry[2]));
+        let (kind, token) = known.unwrap_or_else(|| unreachable!("a book has no error {entry:?}"));
+        Error { kind, position: Position::from_word(entry[1]), token: Token { kind: token, value: entry[3] } }
     }
 
-    /// The original's message.
-    pub fn message(&self) -> &'static str {
-        let known = (self.number as usize).checked_sub(1).and_then(|at| MESSAGES.get(at));
-        known.copied().unwrap_or("unknown error")
-    }
-
-    /// As the original prints it; `text` says what a text is.
-    pub fn spelt(&self, text: impl Fn(u64) -> String) -> String {
-        if self.number == RING_ERROR {
-            return format!("{} [{}]", self.message(), text(self.token.value));
-        }
-        let Position { line, column } = self.position;
-        format!("at ({line}, {column}) near {} - {}", self.token.spelt(text), self.message())
+    /// As the original prints it.
+    pub fn spelt(&self, texts: &Texts) -> String {
+        format!("at {} near {} - {}", self.position, self.token.spelt(texts), self.kind)
     }
 }
 
 impl fmt::Display for Error {
     fn fmt(&self, out: &mut fmt::Formatter<'_>) -> fmt::Result {
-        out.write_str(&self.spelt(|text| format!("text {text}")))
+        out.write_str(&self.spelt(&Texts::new()))
     }
 }
 
@@ -241,39 +291,53 @@ mod tests {
         assert_eq!(spelt(3, 5), "bad shape: record 5 is against the tree rules");
         assert_eq!(spelt(4, 64), "too deep: record 64 stands at level 65");
         assert_eq!(spelt(5, 2), "book twice: record 2, a document, has an earlier one's file number");
-        assert_eq!(spelt(6, 8), "book missing: file 8 is needed and absent");
-        assert_eq!(spelt(7, 2), "book faulty: file 2 has errors");
-        assert_eq!(spelt(8, 3), "ring: no book is ready, and 3 are left");
+        assert_eq!(spelt(6, 8), "book missing: text 8 is needed and absent");
+        assert_eq!(spelt(7, 2), "book faulty: text 2 has errors");
         assert_eq!(spelt(9, 7), "area full: area 7, context locals, has no room");
         assert_eq!(spelt(9, 0), "area full: the output is too short");
     }
 
     #[test]
+    fn rows_and_places_come_back() {
+        let ring = ErrorKind::Ring.number();
+        let errors = [ring, 0, 0, 5, ring, 0, 0, 6, 0, 0, 0, 0];
+        for (row, place) in [(1, 4), (2, 0), (3, 5), (4, 64), (5, 2), (6, 8), (7, 2), (8, 2), (9, 7), (9, 0)] {
+            let listed = if row == 8 { &errors[..] } else { &[] };
+            let refusal = Refusal::of(row, place, listed).expect("a row");
+            assert_eq!((refusal.row(), refusal.place()), (row, place));
+        }
+        let ring = Refusal::of(8, 2, &errors).expect("row 8");
+        assert_eq!(ring.to_string(), "ring: no book is ready, and 2 are left: text 5, text 6");
+    }
+
+    #[test]
     fn errors_are_read_up_to_the_zeros() {
-        let words = [2, 131_079, kind::INFIX, 0, 1, 65_548, kind::NAME, 4, 0, 0, 0, 0, 0, 0];
+        let at = |line, column| Position::new(line, column).word();
+        let (infix, name) = (Kind::Infix.number(), Kind::Name.number());
+        let words = [2, at(2, 7), infix, 0, 1, at(1, 12), name, 2, 0, 0, 0, 0, 0, 0];
         let refusal = Refusal::of(7, 2, &words).expect("row 7");
-        assert_eq!(refusal.errors.len(), 2);
-        let names = |text: u64| ["", "main", "", "", "x"][text as usize].to_string();
-        assert_eq!(refusal.errors[0].spelt(names), "at (2, 7) near Assign - can not assign");
-        assert_eq!(refusal.errors[1].spelt(names), "at (1, 12) near x - variable already exists");
-        let whole = "book faulty: file 2 has errors\n  at (2, 7) near Assign - can not assign\n  \
-                     at (1, 12) near text 4 - variable already exists";
+        let mut texts = Texts::new();
+        texts.intern("x");
+        let Refusal::BookFaulty { errors, .. } = &refusal else { panic!("{refusal:?}") };
+        let spelt: Vec<String> = errors.iter().map(|error| error.spelt(&texts)).collect();
+        let both = ["at (2, 7) near Assign - can not assign", "at (1, 12) near x - variable already exists"];
+        assert_eq!(spelt, both);
+        let whole = "book faulty: text 2 has errors\n  at (2, 7) near Assign - can not assign\n  \
+                     at (1, 12) near text 2 - variable already exists";
         assert_eq!(refusal.to_string(), whole);
     }
 
     #[test]
     fn tokens_are_spelt_as_the_original_does() {
-        let spelt = |kind, value| Token { kind, value }.spelt(|text| format!("t{text}"));
-        assert_eq!(spelt(kind::INTEGER, u64::MAX), "-1");
-        assert_eq!(spelt(kind::FLOAT, 0.5f64.to_bits()), "0.5");
-        assert_eq!(spelt(kind::BOOLEAN, 1), "true");
-        assert_eq!(spelt(kind::NULL, 0), "Null");
-        assert_eq!(spelt(kind::THIS_PARAMETER, 7), "this");
-        assert_eq!(spelt(kind::IMPLEMENT, 9), "t9");
-        assert_eq!(spelt(kind::INFIX, 19), "another infix");
-        assert_eq!(spelt(kind::PREFIX, 2), "another prefix");
-        assert_eq!(spelt(kind::OTHER_TOKEN, 0), "another token");
-        let ring = Error::of(&[11, 0, 0, 5]);
-        assert_eq!(ring.to_string(), "there may have cycle reference in this files [text 5]");
+        let spelt = |kind, value| Token { kind, value }.spelt(&Texts::new());
+        assert_eq!(spelt(Kind::Integer, u64::MAX), "-1");
+        assert_eq!(spelt(Kind::Float, 0.5f64.to_bits()), "0.5");
+        assert_eq!(spelt(Kind::Boolean, 1), "true");
+        assert_eq!(spelt(Kind::Null, 0), "Null");
+        assert_eq!(spelt(Kind::ThisParameter, 7), "this");
+        assert_eq!(spelt(Kind::Implement, 1), "main");
+        assert_eq!(spelt(Kind::Infix, 6), "PlusAssign");
+        assert_eq!(spelt(Kind::Prefix, 1), "Not");
+        assert_eq!(spelt(Kind::OtherToken, 0), "another token");
     }
 }

@@ -4,16 +4,28 @@ use crate::areas::{Area, AREAS};
 use crate::program::{Program, Totals};
 use crate::refusal::Refusal;
 
+/// Which library is linked.
+#[repr(C)]
+#[derive(Clone, Copy, Debug, Default, PartialEq, Eq)]
+pub struct Version {
+    /// The library's release.
+    pub version: u64,
+    /// The form of records, areas and replies.
+    pub layout: u64,
+}
+
 /// Of the shape check.
 #[repr(C)]
 #[derive(Clone, Copy, Debug, Default, PartialEq, Eq)]
 pub struct Checked {
     /// The refusal's row, or 0.
     pub number: u64,
+    /// The refusal's place, or 0.
     pub place: usize,
 }
 
 impl Checked {
+    /// Why the words are refused, without the reason of a row 3.
     pub fn result(self) -> Result<(), Refusal> {
         Refusal::of(self.number, self.place as u64, &[]).map_or(Ok(()), Err)
     }
@@ -25,6 +37,7 @@ impl Checked {
 pub struct Converted {
     /// The refusal's row, or 0.
     pub number: u64,
+    /// The refusal's place, or 0.
     pub place: usize,
     /// Records converted; 0 after a refusal.
     pub total: usize,
@@ -43,6 +56,7 @@ impl Converted {
 pub struct Reply {
     /// The refusal's row, or 0.
     pub number: u64,
+    /// The refusal's place, or 0.
     pub place: u64,
     /// All 0 after a refusal.
     pub totals: Totals,
@@ -51,7 +65,9 @@ pub struct Reply {
 /// A compile call's reply, and the areas whole as it left them: entries, then zeros.
 #[derive(Clone, Copy, Debug)]
 pub struct Answer<'a> {
+    /// The reply.
     pub reply: Reply,
+    /// The areas, in the order of their numbers.
     pub areas: [&'a [u64]; AREAS],
 }
 

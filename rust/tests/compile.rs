@@ -1,25 +1,30 @@
 //! The compile call of the linked library: 01's example, each row, and the rule books of `examples/`.
 #![cfg(feature = "link")]
 
-use clover_back_end::records::{infix, kind, Records, MAX_LEVEL};
-use clover_back_end::{
-    columns_to_records, compile, Area, Areas, Constant, OpCode, Position, Program, Refusal, Row, AREAS,
-};
+use clover_back_end::records::{Definitions, Filled, Function, Records, Slot, MAX_LEVEL};
+use clover_back_end::{columns_to_records, compile, Area, Areas, Constant, ErrorKind, Infix, Instruction};
+use clover_back_end::{OpCode, Position, Prefix, Program, Refusal, Text, AREAS};
 use std::path::Path;
 
-fn document(file: u64, inside: impl FnOnce(&mut Records)) -> Records {
+const NONE: Position = Position::NONE;
+
+fn text(number: u64) -> Text {
+    Text::from_number(number)
+}
+
+fn document(file: u64, inside: impl FnOnce(&mut Definitions)) -> Records {
     let mut tree = Records::new();
-    tree.node(kind::DOCUMENT, 0, file, inside);
+    tree.document(text(file), inside);
     tree
 }
 
 /// File 2 with function f, text 3.
-fn body(inside: impl FnOnce(&mut Records)) -> Records {
-    document(2, |tree| tree.node(kind::FUNCTION, Position::new(1, 10).word(), 3, inside))
+fn body(inside: impl FnOnce(Function)) -> Records {
+    document(2, |book| inside(book.function(text(3).at(Position::new(1, 10)))))
 }
 
-fn statement(tree: &mut Records, inside: impl FnOnce(&mut Records)) {
-    tree.node(kind::EXPRESSION, 0, 0, inside);
+fn seven() -> Records {
+    body(|f| f.body(|body| body.expression(|slot| slot.integer(7, NONE))))
 }
 
 fn refused(tree: &[u64]) -> Refusal {
@@ -28,19 +33,18 @@ fn refused(tree: &[u64]) -> Refusal {
 
 #[test]
 fn the_example_of_01() {
-    let tree = body(|tree| {
-        tree.leaf(kind::NAME, Position::new(1, 12).word(), 4);
-        statement(tree, |tree| {
-            tree.node(kind::IF, 0, 0, |tree| {
-                tree.leaf(kind::IDENTIFIER, Position::new(2, 6).word(), 4);
-                tree.node(kind::BLOCK, 0, 0, |tree| tree.leaf(kind::RETURN, Position::new(3, 5).word(), 0));
+    let x = text(4);
+    let tree = body(|f| {
+        f.parameter(x.at(Position::new(1, 12))).body(|body| {
+            body.expression(|slot| {
+                let out = slot.if_expression().condition(|slot| slot.identifier(x.at(Position::new(2, 6))));
+                out.then(|body| body.return_statement(Position::new(3, 5))).end()
             });
         });
     });
-    let mut areas = Areas::for_records(tree.len());
+    let mut areas = Areas::for_tree(tree.words());
     let program = compile(tree.words(), &mut areas).expect("no refusal");
     let f = program.entry_point().expect("a function");
-    let code: Vec<(OpCode, u64)> = f.instructions().map(|(i, _)| (i.opcode(), i.operand())).collect();
     let expected = [
         (OpCode::LocalGet, 0),
         (OpCode::JumpIf, 4),
@@ -49,72 +53,86 @@ fn the_example_of_01() {
         (OpCode::PushConstant, 0),
         (OpCode::Return, 0),
     ];
-    assert_eq!(code, expected);
-    assert_eq!((f.parameters(), f.locals(), f.name()), (1, 1, 3));
+    let expected = expected.map(|(opcode, operand)| Instruction::new(opcode, operand));
+    assert!(f.instructions().map(|(instruction, _)| instruction).eq(expected));
+    assert_eq!((f.parameters(), f.locals(), f.name()), (1, 1, text(3)));
     assert_eq!(program.constant(3), Some(Constant::Function(0)));
-    assert_eq!(program.books(), [2]);
+    assert!(program.books().eq([text(2)]));
+}
+
+/// So many signs before a null.
+fn signs(slot: Slot, levels: usize) -> Filled {
+    if levels == 0 {
+        return slot.null(NONE);
+    }
+    slot.prefix(Prefix::Not, NONE, |slot| signs(slot, levels - 1))
 }
 
 #[test]
 fn rows_2_to_6() {
-    let row = |tree: &[u64]| {
-        let refusal = refused(tree);
-        (refusal.row, refusal.place)
-    };
-    assert_eq!(row(&[1, 1, 0]), (Row::BadLength, 0));
-    assert_eq!(row(&[]), (Row::BadShape, 0));
-    let mut deep = Records::new();
-    fn down(tree: &mut Records, levels: usize) {
-        if levels == 0 {
-            return tree.leaf(kind::NULL, 0, 0);
-        }
-        tree.node(kind::PREFIX, 0, 1, |tree| down(tree, levels - 1));
-    }
-    deep.node(kind::DOCUMENT, 0, 2, |tree| {
-        tree.node(kind::FUNCTION, 0, 3, |tree| statement(tree, |tree| down(tree, MAX_LEVEL - 3)));
-    });
-    assert_eq!(row(deep.words()), (Row::TooDeep, MAX_LEVEL as u64));
-    assert_eq!(row(&[1, 1, 0, 2, 1, 1, 0, 2]), (Row::BookTwice, 1));
-    assert_eq!(row(document(2, |tree| tree.leaf(kind::INCLUDE, 0, 8)).words()), (Row::BookMissing, 8));
+    assert_eq!(refused(&[1, 1, 0]), Refusal::BadLength);
+    assert!(matches!(refused(&[]), Refusal::BadShape { record: 0, reason: Some(_) }));
+    let deep = body(|f| f.body(|body| body.expression(|slot| signs(slot, MAX_LEVEL - 3))));
+    assert_eq!(refused(deep.words()), Refusal::TooDeep { record: MAX_LEVEL as u64 });
+    assert_eq!(refused(&[1, 1, 0, 2, 1, 1, 0, 2]), Refusal::BookTwice { record: 1 });
+    let including = document(2, |book| book.include(text(8), |_| {}));
+    assert_eq!(refused(including.words()), Refusal::BookMissing { file: text(8) });
+    let far = document(2, |book| book.model(text(3).at(Position::new(1, Position::MOST + 1)), |_| {}));
+    assert!(matches!(refused(far.words()), Refusal::BadShape { record: 1, reason: Some(_) }));
 }
 
 #[test]
 fn rows_7_and_8_list_errors() {
-    let assigned = body(|tree| {
-        statement(tree, |tree| {
-            tree.node(kind::INFIX, Position::new(2, 7).word(), infix::ASSIGN, |tree| {
-                tree.leaf(kind::INTEGER, 0, 1);
-                tree.leaf(kind::NULL, 0, 0);
+    let assigned = body(|f| {
+        f.body(|body| {
+            body.expression(|slot| {
+                let out = slot.infix(Infix::Assign, Position::new(2, 7)).left(|slot| slot.integer(1, NONE));
+                out.right(|slot| slot.null(NONE))
             });
         });
     });
     let refusal = refused(assigned.words());
-    let spelt = "book faulty: file 2 has errors\n  at (2, 7) near Assign - can not assign";
+    let spelt = "book faulty: text 2 has errors\n  at (2, 7) near Assign - can not assign";
     assert_eq!(refusal.to_string(), spelt);
-    let itself = refused(document(2, |tree| tree.leaf(kind::INCLUDE, 0, 2)).words());
-    assert_eq!((itself.row, itself.place, itself.errors.len()), (Row::Ring, 1, 1));
+    let Refusal::BookFaulty { file, errors } = refusal else { panic!("{refusal}") };
+    assert_eq!((file, errors[0].kind), (text(2), ErrorKind::CanNotAssign));
+    let itself = refused(document(2, |book| book.include(text(2), |_| {})).words());
+    assert_eq!(itself, Refusal::Ring { files: vec![text(2)] });
 }
 
 #[test]
 fn a_full_area_is_named_and_grown() {
-    let tree = body(|tree| statement(tree, |tree| tree.leaf(kind::INTEGER, 0, 7)));
+    let tree = seven();
     let mut areas = Areas::with_entries([0; AREAS]);
     let mut grown = Vec::new();
-    while let Err(refusal) = compile(tree.words(), &mut areas) {
-        let full = refusal.full_area().expect("row 9");
-        grown.push(full);
-        areas.grow(full);
+    while let Err(refusal) = areas.compile(tree.words()) {
+        let Refusal::AreaFull { area } = refusal else { panic!("{refusal}") };
+        grown.push(area);
+        areas.grow(area);
     }
+    assert_eq!(areas.program().expect("delivered").functions().len(), 1);
     grown.sort();
     assert_eq!(grown, [Area::Code, Area::Constants, Area::Functions, Area::ContextLocals, Area::Books]);
 }
 
 #[test]
+fn growing_ends_at_the_limit() {
+    let tree = seven();
+    let mut areas = Areas::with_entries([0; AREAS]);
+    assert_eq!(areas.compile_growing(tree.words(), 10_000).expect("room").functions().len(), 1);
+    let mut areas = Areas::with_entries([0; AREAS]);
+    areas.grow(Area::Constants);
+    let refusal = areas.compile_growing(tree.words(), areas.len()).map(|_| ()).expect_err("no room");
+    assert!(matches!(refusal, Refusal::AreaFull { .. }), "{refusal}");
+}
+
+#[test]
 fn areas_serve_again() {
     let mut areas = Areas::with_entries([100; AREAS]);
-    let seven = body(|tree| statement(tree, |tree| tree.leaf(kind::INTEGER, 0, 7)));
+    let seven = seven();
     let code = compile(seven.words(), &mut areas).expect("no refusal").words(Area::Code).to_vec();
     compile(&[], &mut areas).expect_err("a refusal");
+    assert!(areas.program().is_none());
     assert!(Area::ALL.iter().all(|&area| areas.words(area).iter().all(|&word| word == 0)));
     assert_eq!(compile(seven.words(), &mut areas).expect("no refusal").words(Area::Code), code);
 }
@@ -132,67 +150,70 @@ impl Listing {
 
     fn program(&mut self, program: &Program) {
         let totals = program.totals();
-        let files = program.books().len() as u64;
-        let counts =
-            [totals.functions, totals.constants, totals.models, totals.context_locals, totals.entry_point, files];
-        self.line(1, &counts, &totals.global_dependencies.to_string());
-        for (index, f) in (0..).zip(program.functions()) {
+        let counts = [totals.functions, totals.constants, totals.models, totals.context_locals];
+        self.line(
+            1,
+            &[&counts[..], &[totals.entry_point, totals.books]].concat(),
+            &totals.global_dependencies.to_string(),
+        );
+        self.functions(program);
+        program.functions().for_each(|function| self.instructions(&function));
+        self.constants(program);
+        self.models(program);
+        let locals = (0..).zip(program.context_locals());
+        let values = locals.filter_map(|(index, local)| Some([index, local.constant?]));
+        values.for_each(|value| self.line(8, &value, "0"));
+        program.global_dependencies().for_each(|constant| self.line(9, &[constant], "0"));
+        let files = (0..).zip(program.books());
+        files.for_each(|(index, file)| self.line(10, &[index], &file.number().to_string()));
+    }
+
+    fn functions(&mut self, program: &Program) {
+        for f in program.functions() {
             let instance = u64::from(f.is_instance());
-            let middle = [index, f.parameters(), f.locals(), f.rescue_position(), instance, f.file()];
-            self.line(2, &middle, &f.name().to_string());
+            let middle = [f.index(), f.parameters(), f.locals(), f.rescue_position(), instance, f.file()];
+            self.line(2, &middle, &f.name().number().to_string());
         }
-        for (function, f) in (0..).zip(program.functions()) {
-            for (index, (instruction, at)) in (0..).zip(f.instructions()) {
-                let opcode = instruction.opcode() as u64;
-                let middle = [function, index, u64::from(at.line), u64::from(at.column), opcode];
-                self.line(3, &middle, &instruction.operand().to_string());
-            }
+    }
+
+    fn instructions(&mut self, function: &clover_back_end::Function) {
+        for (index, (instruction, at)) in (0..).zip(function.instructions()) {
+            let opcode = instruction.opcode().number();
+            let middle = [function.index(), index, u64::from(at.line), u64::from(at.column), opcode];
+            self.line(3, &middle, &instruction.operand().to_string());
         }
+    }
+
+    fn constants(&mut self, program: &Program) {
         for (index, constant) in (0..).zip(program.constants()) {
-            let (kind, value) = match constant {
-                Constant::Null => (0, "0".to_string()),
-                Constant::Boolean(value) => (1, u64::from(value).to_string()),
-                Constant::Integer(value) => (2, value.to_string()),
-                Constant::Float(value) => (3, value.to_bits().to_string()),
-                Constant::Text(value) => (4, value.to_string()),
-                Constant::Model(value) => (5, value.to_string()),
-                Constant::Function(value) => (6, value.to_string()),
+            let value = match constant {
+                Constant::Integer(value) => value.to_string(),
+                other => other.value().to_string(),
             };
-            self.line(4, &[index, kind], &value);
+            self.line(4, &[index, constant.kind()], &value);
         }
-        for (index, model) in (0..).zip(program.models()) {
-            self.line(5, &[index, model.file()], &model.name().to_string());
-        }
-        for (model, m) in (0..).zip(program.models()) {
-            for (index, name) in (0..).zip(m.properties()) {
-                self.line(6, &[model, index], &name.to_string());
-            }
-        }
-        for (model, m) in (0..).zip(program.models()) {
+    }
+
+    fn models(&mut self, program: &Program) {
+        program.models().for_each(|m| self.line(5, &[m.index(), m.file()], &m.name().number().to_string()));
+        let properties = program.models().flat_map(|m| (0..).zip(m.properties()).map(move |(at, name)| (m, at, name)));
+        properties.for_each(|(m, at, name)| self.line(6, &[m.index(), at], &name.number().to_string()));
+        for m in program.models() {
             let mut methods: Vec<_> = m.methods().collect();
             methods.sort_by_key(|method| method.name);
-            for method in methods {
-                self.line(7, &[model, method.function], &method.name.to_string());
-            }
-        }
-        for (index, local) in (0..).zip(program.context_locals()) {
-            if let Some(constant) = local.constant {
-                self.line(8, &[index, constant], "0");
-            }
-        }
-        for constant in program.global_dependencies() {
-            self.line(9, &[constant], "0");
-        }
-        for (index, file) in (0..).zip(program.books()) {
-            self.line(10, &[index], &file.to_string());
+            methods
+                .iter()
+                .for_each(|known| self.line(7, &[m.index(), known.function], &known.name.number().to_string()));
         }
     }
 
     fn refusal(&mut self, refusal: &Refusal) {
-        self.line(0, &[refusal.row.number(), refusal.place], "0");
-        for (index, error) in (0..).zip(&refusal.errors) {
+        self.line(0, &[refusal.row(), refusal.place()], "0");
+        let Refusal::BookFaulty { errors, .. } = refusal else { return };
+        for (index, error) in (0..).zip(errors) {
             let Position { line, column } = error.position;
-            let middle = [index, error.number, u64::from(line), u64::from(column), error.token.kind];
+            let kind = error.token.kind.number();
+            let middle = [index, error.kind.number(), u64::from(line), u64::from(column), kind];
             self.line(11, &middle, &error.token.value.to_string());
         }
     }
@@ -204,7 +225,7 @@ fn the_rule_books_give_their_listings() {
     for name in ["snow", "drift", "combination", "utilisation", "faulty"] {
         let file = std::fs::read(folder.join(format!("{name}.col"))).expect("an example");
         let tree = columns_to_records(&file).expect("a column file");
-        let mut areas = Areas::for_records(tree.len() / 4);
+        let mut areas = Areas::for_tree(&tree);
         let mut listing = Listing(String::new());
         match compile(&tree, &mut areas) {
             Ok(program) => listing.program(&program),

@@ -1,2 +1,3 @@
--- What the exported functions answer where the routine below answers an enum
+-- What the exported functions answer where no routine below has it
 pub mod Refusals
+pub mod Versions

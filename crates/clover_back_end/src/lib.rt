@@ -13,12 +13,36 @@ ghost use lib.ListN.{length};
 ghost use Rattle.tree.specs.Check.{shapeOf};
 ghost use Rattle.column_files.specs.Convert.{columnsToRecords, recordsToColumns, Converts};
 ghost use Rattle.clover_back_end.specs.Refusals.{refusalOf};
+ghost use Rattle.clover_back_end.specs.Versions.{thisVersion};
+
+// Counts releases of the library: one more whenever an answer may be another than before.
+const VERSION: u64 = 1;
+// Counts forms of what goes in and out (docs/FORMAT.md, 'Version and layout').
+const LAYOUT: u64 = 1;
 
 // What the shape check answers: the number of a refusal's row and its place, or 0 and 0.
 #[repr(C)]
 pub struct Refusal {
     pub number: u64,
     pub place: usize,
+}
+
+// Which library this is. A caller compares the layout with the one that it was written for.
+#[repr(C)]
+pub struct Version {
+    pub version: u64,
+    pub layout: u64,
+}
+
+// The version of the library and the number of its layout.
+#[no_mangle]
+pub extern "C" fn clover_version() -> Version
+    ensures { λ r. ⌜ r ≡ thisVersion ⌝ }
+{
+    Version {
+        version: VERSION,
+        layout: LAYOUT,
+    }
 }
 
 // Rows 2 to 4 on any words.

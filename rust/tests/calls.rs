@@ -2,18 +2,18 @@
 //! and the replies are the whole ones.
 #![cfg(feature = "link")]
 
-use clover_back_end::records::{kind, Records};
-use clover_back_end::{compile, lent, Area, Areas, Checked, Converted, Reply, Row, Totals, AREAS};
+use clover_back_end::records::Records;
+use clover_back_end::{calls, compile, Area, Areas, Checked, Converted, Position, Refusal, Reply, Text, Totals};
+use clover_back_end::{AREAS, LINE_BYTES};
 
 const STALE: u64 = u64::MAX;
 
 /// File 2 with `function f() 7 end`; text 3 is `f`.
 fn seven() -> Records {
     let mut tree = Records::new();
-    tree.node(kind::DOCUMENT, 0, 2, |tree| {
-        tree.node(kind::FUNCTION, 0, 3, |tree| {
-            tree.node(kind::EXPRESSION, 0, 0, |tree| tree.leaf(kind::INTEGER, 0, 7));
-        });
+    tree.document(Text::from_number(2), |book| {
+        let f = Text::from_number(3);
+        book.function(f).body(|body| body.expression(|slot| slot.integer(7, Position::NONE)));
     });
     tree
 }
@@ -25,10 +25,16 @@ fn cut(memory: &mut [u64], words: usize) -> [&mut [u64]; AREAS] {
 }
 
 #[test]
+fn the_library_is_of_this_layout() {
+    let linked = calls::version();
+    assert_eq!((linked.version, linked.layout), (1, calls::LAYOUT));
+}
+
+#[test]
 fn areas_may_be_cut_from_one_piece() {
     let words = 41;
     let mut memory = vec![STALE; AREAS * (words + 1)];
-    let answer = lent::compile(seven().words(), cut(&mut memory, words));
+    let answer = calls::compile(seven().words(), cut(&mut memory, words));
     let totals = Totals { code: 2, constants: 5, functions: 1, context_locals: 1, books: 1, ..Totals::default() };
     assert_eq!(answer.reply, Reply { number: 0, place: 0, totals });
     let mut areas = Areas::with_entries([41; AREAS]);
@@ -37,7 +43,7 @@ fn areas_may_be_cut_from_one_piece() {
     assert_eq!(program.totals(), own.totals());
     assert!(Area::ALL.iter().all(|&area| program.words(area) == own.words(area)));
     assert_eq!(format!("{program:?}"), format!("{own:?}"));
-    for (area, lent) in Area::ALL.into_iter().zip(answer.areas) {
+    for (&area, lent) in Area::ALL.iter().zip(answer.areas) {
         assert_eq!(lent.len(), words);
         assert!(lent[program.words(area).len()..].iter().all(|&word| word == 0), "{area}");
     }
@@ -47,32 +53,32 @@ fn areas_may_be_cut_from_one_piece() {
 #[test]
 fn a_refusal_leaves_zeros() {
     let mut memory = vec![STALE; AREAS * 8];
-    let answer = lent::compile(seven().words(), cut(&mut memory, 7));
+    let answer = calls::compile(seven().words(), cut(&mut memory, 7));
     assert_eq!(answer.reply, Reply { number: 9, place: 2, totals: Totals::default() });
     let refusal = answer.program().expect_err("five constants need 15 words");
-    assert_eq!((refusal.row, refusal.full_area()), (Row::AreaFull, Some(Area::Constants)));
+    assert_eq!(refusal, Refusal::AreaFull { area: Area::Constants });
     assert!(answer.areas.iter().all(|area| area.iter().all(|&word| word == 0)));
 }
 
 #[test]
 fn areas_of_no_length() {
-    let answer = lent::compile(seven().words(), std::array::from_fn(|_| &mut [][..]));
+    let answer = calls::compile(seven().words(), std::array::from_fn(|_| &mut [][..]));
     assert_eq!((answer.reply.number, answer.reply.place), (9, 2));
 }
 
 #[test]
 fn converters_fill_what_they_are_lent() {
     let tree = seven();
-    assert_eq!(lent::check(tree.words()), Checked { number: 0, place: 0 });
-    assert_eq!(lent::check(&[7; 4]), Checked { number: 3, place: 0 });
-    let mut file = [1; 4 * 46 + 3];
-    let converted = lent::records_to_columns(tree.words(), &mut file);
+    assert_eq!(calls::check(tree.words()), Checked { number: 0, place: 0 });
+    assert_eq!(calls::check(&[7; 4]), Checked { number: 3, place: 0 });
+    let mut file = [1; 4 * LINE_BYTES + 3];
+    let converted = calls::records_to_columns(tree.words(), &mut file);
     assert_eq!(converted, Converted { number: 0, place: 0, total: 4 });
-    assert_eq!(file[4 * 46..], [0; 3]);
+    assert_eq!(file[4 * LINE_BYTES..], [0; 3]);
     let mut words = [STALE; 18];
-    assert_eq!(lent::columns_to_records(&file[..4 * 46], &mut words).records(), Ok(4));
+    assert_eq!(calls::columns_to_records(&file[..4 * LINE_BYTES], &mut words).records(), Ok(4));
     assert_eq!((&words[..16], &words[16..]), (tree.words(), &[0, 0][..]));
-    let short = lent::columns_to_records(&file[..4 * 46], &mut words[..15]);
+    let short = calls::columns_to_records(&file[..4 * LINE_BYTES], &mut words[..15]);
     assert_eq!(short, Converted { number: 9, place: 0, total: 0 });
     // The sixteenth word was not lent.
     assert_eq!((&words[..15], words[15]), (&[0; 15][..], 7));

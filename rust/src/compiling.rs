@@ -1,0 +1,90 @@
+//! The calls with memory of this crate's own, and results for replies. A refusal says why a line or a
+//! record is refused, which the library does not.
+
+use crate::areas::Areas;
+use crate::calls;
+use crate::column_file::{words, LineFault, LINE_BYTES};
+use crate::fault::ShapeFault;
+use crate::program::Program;
+use crate::records::RECORD_WORDS;
+use crate::refusal::Refusal;
+
+/// The refusal with the rule that a record breaks.
+fn with_reason(refusal: Refusal, tree: &[u64]) -> Refusal {
+    match refusal {
+        Refusal::BadShape { record, .. } => Refusal::BadShape { record, reason: ShapeFault::of(tree, record) },
+        other => other,
+    }
+}
+
+/// The shape check: rows 2 to 4 on any words.
+pub fn check(tree: &[u64]) -> Result<(), Refusal> {
+    calls::check(tree).result().map_err(|refusal| with_reason(refusal, tree))
+}
+
+/// A column file to records, or rows 1 to 4.
+pub fn columns_to_records(file: &[u8]) -> Result<Vec<u64>, Refusal> {
+    let mut out = vec![0; file.len() / LINE_BYTES * RECORD_WORDS];
+    let converted = calls::columns_to_records(file, &mut out).records();
+    let records = converted.map_err(|refusal| match refusal {
+        Refusal::BadLine { line, .. } => Refusal::BadLine { line, reason: LineFault::of(file, line) },
+        other => with_reason(other, &words(file).unwrap_or_default()),
+    })?;
+    out.truncate(records * RECORD_WORDS);
+    Ok(out)
+}
+
+/// Records to a column file, or rows 2 to 4.
+pub fn records_to_columns(tree: &[u64]) -> Result<Vec<u8>, Refusal> {
+    let mut out = vec![0; tree.len() / RECORD_WORDS * LINE_BYTES];
+    let converted = calls::records_to_columns(tree, &mut out).records();
+    let records = converted.map_err(|refusal| with_reason(refusal, tree))?;
+    out.truncate(records * LINE_BYTES);
+    Ok(out)
+}
+
+impl Areas {
+    /// Compiles a bundle into these areas; [`program`](Areas::program) reads what was delivered. After
+    /// a refusal they hold nothing but the listed errors, which the refusal has too.
+    ///
+    /// The areas are borrowed for the call alone, so that a loop may grow them and try again:
+    ///
+    /// ```
+    /// use clover_back_end::{Areas, Program, Refusal, AREAS};
+    ///
+    /// fn compiled<'a>(tree: &[u64], areas: &'a mut Areas) -> Result<Program<'a>, Refusal> {
+    ///     while let Err(refusal) = areas.compile(tree) {
+    ///         let Refusal::AreaFull { area } = refusal else { return Err(refusal) };
+    ///         areas.grow(area);
+    ///     }
+    ///     Ok(areas.program().expect("delivered"))
+    /// }
+    /// assert!(compiled(&[1, 1, 0, 2], &mut Areas::with_entries([0; AREAS])).is_ok());
+    /// ```
+    pub fn compile(&mut self, tree: &[u64]) -> Result<(), Refusal> {
+        let answer = calls::compile(tree, self.lend());
+        let (reply, refusal) = (answer.reply, answer.program().err());
+        self.keep(reply);
+        refusal.map_or(Ok(()), |refusal| Err(with_reason(refusal, tree)))
+    }
+
+    /// The same, and where an area is full it is [grown](Areas::grow) and the bundle compiled again,
+    /// as long as all areas together have at most `most` words. (A bundle can need more memory than
+    /// any machine has.)
+    pub fn compile_growing(&mut self, tree: &[u64], most: usize) -> Result<Program<'_>, Refusal> {
+        while let Err(refusal) = self.compile(tree) {
+            let Refusal::AreaFull { area } = refusal else { return Err(refusal) };
+            if self.len_grown(area) > most {
+                return Err(refusal);
+            }
+            self.grow(area);
+        }
+        Ok(self.program().expect("the last call delivered"))
+    }
+}
+
+/// Compiles a bundle into areas that are as long as they are: [`Areas::compile`] and the program.
+pub fn compile<'a>(tree: &[u64], areas: &'a mut Areas) -> Result<Program<'a>, Refusal> {
+    areas.compile(tree)?;
+    Ok(areas.program().expect("the call delivered"))
+}

@@ -1,0 +1,75 @@
+//! Places in a source, and the word that holds one: no other file knows how.
+
+use std::fmt;
+
+/// The column stands in so many bits of the word, and the line above them.
+const COLUMN_BITS: u32 = 16;
+
+/// A place in a source; line 0 and column 0 where there is none.
+#[derive(Clone, Copy, Debug, Default, PartialEq, Eq, Hash, PartialOrd, Ord)]
+pub struct Position {
+    /// The line, mostly from 1.
+    pub line: u32,
+    /// The column, mostly from 1.
+    pub column: u32,
+}
+
+impl Position {
+    /// No place: line 0, column 0.
+    pub const NONE: Position = Position { line: 0, column: 0 };
+    /// The greatest line, and the greatest column.
+    pub const MOST: u32 = 65_535;
+
+    /// A place. One beyond [`MOST`](Position::MOST) has no word of its own: see [`word`](Position::word).
+    pub const fn new(line: u32, column: u32) -> Position {
+        Position { line, column }
+    }
+
+    /// Whether line and column are within [`MOST`](Position::MOST).
+    pub fn is_known(self) -> bool {
+        self.line <= Position::MOST && self.column <= Position::MOST
+    }
+
+    /// The word of a record. A place beyond [`MOST`](Position::MOST) gives a word that the library
+    /// refuses (row 3), never another place's.
+    pub fn word(self) -> u64 {
+        if self.is_known() {
+            u64::from(self.line) << COLUMN_BITS | u64::from(self.column)
+        } else {
+            u64::MAX
+        }
+    }
+
+    /// The place that a word holds. Parts that are wider than 32 bits are cut to the greatest.
+    pub fn from_word(word: u64) -> Position {
+        let cut = |part: u64| u32::try_from(part).unwrap_or(u32::MAX);
+        Position { line: cut(word >> COLUMN_BITS), column: cut(word & ((1 << COLUMN_BITS) - 1)) }
+    }
+}
+
+impl fmt::Display for Position {
+    fn fmt(&self, out: &mut fmt::Formatter<'_>) -> fmt::Result {
+        write!(out, "({}, {})", self.line, self.column)
+    }
+}
+
+#[cfg(test)]
+mod tests {
+    use super::*;
+
+    #[test]
+    fn positions_come_back() {
+        for position in [Position::NONE, Position::new(2, 6), Position::new(Position::MOST, Position::MOST)] {
+            assert_eq!(Position::from_word(position.word()), position);
+        }
+        assert_eq!(Position::new(2, 6).word(), (2 << COLUMN_BITS) + 6);
+    }
+
+    #[test]
+    fn a_place_beyond_the_limit_is_no_other_place() {
+        for position in [Position::new(Position::MOST + 1, 1), Position::new(1, Position::MOST + 1)] {
+            assert!(!position.is_known());
+            assert!(!Position::from_word(position.word()).is_known());
+        }
+    }
+}

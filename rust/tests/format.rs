@@ -1,0 +1,110 @@
+//! docs/FORMAT.md says what the crate's enums say, and its example is a bundle.
+
+use clover_back_end::{Area, Constant, ErrorKind, Infix, Kind, OpCode, Operation, Prefix, Text};
+use std::collections::BTreeMap;
+use std::path::Path;
+
+fn page() -> String {
+    let path = Path::new(env!("CARGO_MANIFEST_DIR")).join("../docs/FORMAT.md");
+    std::fs::read_to_string(path).expect("the page")
+}
+
+/// The cells of the tables of a section, row by row, without backticks.
+fn cells(section: &str) -> Vec<Vec<String>> {
+    let page = page();
+    let start = page.find(&format!("\n## {section}\n")).unwrap_or_else(|| panic!("no section {section}"));
+    let rest = &page[start + 4..];
+    let section = &rest[..rest.find("\n## ").unwrap_or(rest.len())];
+    let rows = section.lines().filter(|line| line.starts_with("| "));
+    let cell = |text: &str| text.trim().replace('`', "");
+    rows.map(|row| row.trim_matches('|').split('|').map(cell).collect()).collect()
+}
+
+/// Pairs of a number and the cell after it, wherever they stand in a row.
+fn pairs(section: &str) -> Vec<(u64, String)> {
+    let rows = cells(section);
+    let each = rows.iter().flat_map(|row| row.windows(2));
+    each.filter_map(|pair| Some((pair[0].parse().ok()?, pair[1].clone()))).collect()
+}
+
+/// The cell after the number is, or begins with, the word.
+fn holds(pairs: &[(u64, String)], number: u64, word: &str) -> bool {
+    pairs.iter().any(|(known, text)| *known == number && (text == word || text.starts_with(&format!("{word} "))))
+}
+
+#[test]
+fn kinds_and_signs_are_those_of_the_crate() {
+    let rows = cells("Records");
+    let table: BTreeMap<u64, &Vec<String>> =
+        rows.iter().filter(|row| row.len() == 5).filter_map(|row| Some((row[0].parse().ok()?, row))).collect();
+    assert_eq!(
+        table.keys().copied().collect::<Vec<_>>(),
+        Kind::ALL.iter().map(|kind| kind.number()).collect::<Vec<_>>()
+    );
+    for &kind in Kind::ALL {
+        let row = table[&kind.number()];
+        assert_eq!(row[1], kind.word());
+        assert_eq!(row[3] != "-", kind.has_position(), "{kind}");
+        assert_eq!(row[4].contains("text") || row[4].contains("file"), kind.holds_text(), "{kind}");
+    }
+    let pairs = pairs("Records");
+    let other = |word: &'static str| if word.starts_with("another") { "any other" } else { word };
+    assert!(Infix::ALL.iter().all(|infix| holds(&pairs, infix.number(), other(infix.word()))));
+    for prefix in Prefix::ALL {
+        let text = format!("{} {}", prefix.number(), other(prefix.word()));
+        assert!(table[&Kind::Prefix.number()][4].contains(&text), "{text}");
+    }
+}
+
+#[test]
+fn opcodes_operations_and_constants_are_those_of_the_crate() {
+    let found = pairs("Instructions");
+    assert!(OpCode::ALL.iter().all(|opcode| holds(&found, opcode.number(), opcode.word())));
+    assert!(Operation::ALL.iter().all(|operation| holds(&found, operation.number(), operation.word())));
+    let constants = [
+        (Constant::Null, "null"),
+        (Constant::Boolean(true), "boolean"),
+        (Constant::Integer(1), "integer"),
+        (Constant::Float(1.0), "float"),
+        (Constant::Text(Text::MAIN), "text"),
+        (Constant::Model(0), "model"),
+        (Constant::Function(0), "function"),
+    ];
+    let found = pairs("The twelve areas");
+    assert!(constants.iter().all(|(constant, word)| holds(&found, constant.kind(), word)));
+}
+
+#[test]
+fn areas_rows_and_errors_are_those_of_the_crate() {
+    let rows = cells("The twelve areas");
+    for &area in Area::ALL {
+        let wanted = [format!("{} {area}", area.number()), area.entry_words().to_string()];
+        assert!(rows.iter().any(|row| row.len() == 3 && row[..2] == wanted), "{wanted:?}");
+    }
+    let found = pairs("Errors");
+    assert!(ErrorKind::ALL.iter().all(|kind| holds(&found, kind.number(), kind.word())));
+}
+
+#[cfg(feature = "link")]
+#[test]
+fn the_example_is_a_bundle() {
+    use clover_back_end::{columns_to_records, compile, Areas, LINE_BYTES};
+    let page = page();
+    let lines = page.lines().filter_map(|line| line.strip_prefix("    ")).filter(|line| line.len() == LINE_BYTES - 1);
+    let file: String = lines.map(|line| format!("{line}\n")).collect();
+    let tree = columns_to_records(file.as_bytes()).expect("a column file");
+    let mut areas = Areas::for_tree(&tree);
+    let program = compile(&tree, &mut areas).expect("no refusal");
+    assert_eq!((tree.len() / 4, program.totals().code, program.totals().functions), (8, 6, 1));
+}
+
+#[cfg(feature = "link")]
+#[test]
+fn rows_have_their_words() {
+    let found = pairs("Refusals");
+    let words =
+        ["bad line", "bad length", "bad shape", "too deep", "book twice", "book missing", "book faulty", "ring"];
+    assert!((1..).zip(words).all(|(row, word)| holds(&found, row, word)) && holds(&found, 9, "area full"));
+    let deep = clover_back_end::check(&[]).expect_err("row 3");
+    assert!(holds(&found, deep.row(), deep.word()));
+}

@@ -1,0 +1,80 @@
+"""tools/check-times and tools/benchmarks: tables from a gate's log and from what the benchmarks print."""
+import pathlib
+import sys
+import unittest
+
+sys.path.insert(0, str(pathlib.Path(__file__).resolve().parent))
+from test_flattener import ROOT, module  # noqa: E402
+
+check_times = module("check_times", ROOT / "tools" / "check-times")
+benchmarks = module("benchmarks", ROOT / "tools" / "benchmarks")
+marked = module("marked", ROOT / "tools" / "marked.py")
+
+LOG = """\
+gate: commit abc1234, 2026-11-16, 2 processors
+rt: words proved (21 s)
+fn words::kind_at: proved
+rt: listing proved (23 s)
+rt: must-fail words/shift_55: refused, as it must be (first at proofs/opcode/Proof.antt:18:13; 20 s)
+rt: must-fail words/stores_swapped: refused, as it must be (22 s)
+rt: listing ran as nobody, and wrote what its file 'stdout' has (1 s)
+5 passed, 0 failed
+gate: 1938 s
+"""
+
+SPEED = """\
+Processor time, medians of 15 runs (3 at 1,000,000 records). Ratios: the library's time by the original's.
+
+| Shape | Records | Ratio |
+|---|---|---|
+| deep nesting | 10237 | 1.03 |
+
+Median of the ratios: 0.78; of the shapes where nothing is searched: 0.70
+
+    deep nesting                   10237     1.03 ####################|
+"""
+
+BENCH = "1000000 records, 46000000 bytes, medians of 21 runs\nshape check: library 62.4 million records/s, plain Rust 34.9 million records/s, time ratio 0.56\n"
+
+
+class CheckTimes(unittest.TestCase):
+    def test_a_row_for_each_crate_and_one_for_all(self):
+        lines = check_times.table(LOG).splitlines()
+        self.assertEqual(lines[0], "`bash .ci/run` on commit abc1234, 2026-11-16, from nothing, on 2 processors: '5 passed, 0 failed' after 32.3 minutes.")
+        self.assertEqual(lines[4:], ["| `words` | 21 | 2 in 42 |  |", "| `listing` | 23 |  | 1 |", "| all | 44 | 2 in 42 | 1 |"])
+
+    def test_a_log_of_a_gate_that_failed_is_refused(self):
+        for log in ("", LOG.replace("0 failed", "1 failed"), LOG.replace("gate: 1938 s\n", "")):
+            with self.assertRaises(SystemExit):
+                check_times.table(log)
+
+
+class Benchmarks(unittest.TestCase):
+    def test_tables_are_taken_from_what_is_printed(self):
+        self.assertEqual(benchmarks.text_of("compile call", SPEED).splitlines()[2], "| deep nesting | 10237 | 1.03 |")
+        self.assertTrue(benchmarks.text_of("compile call", SPEED).endswith("0.78; of the shapes where nothing is searched: 0.70."))
+        self.assertEqual(benchmarks.text_of("converters", BENCH).splitlines()[2], "| shape check | 62.4 million records/s | 34.9 million records/s | 0.56 |")
+        with self.assertRaises(SystemExit):
+            benchmarks.text_of("compile call", "nothing\n")
+
+    def test_each_table_has_command_commit_and_date(self):
+        kept = {"command": "do", "commit": "abc", "date": "2026-11-16", "processors": 2, "said": BENCH}
+        self.assertTrue(benchmarks.written("converters", kept).startswith("`do`, commit abc, 2026-11-16, 2 processors:\n\n| |"))
+
+
+class Pages(unittest.TestCase):
+    def test_a_part_is_replaced_and_the_rest_stays(self):
+        page = "a\n<!-- t: x writes this -->\nold\n<!-- end of t -->\nb\n"
+        self.assertEqual(marked.replaced(page, "t", "new"), "a\n<!-- t: x writes this -->\n\nnew\n\n<!-- end of t -->\nb\n")
+        with self.assertRaises(SystemExit):
+            marked.replaced(page, "other", "new")
+
+    def test_the_pages_have_their_parts(self):
+        page = (ROOT / "docs" / "BENCHMARKS.md").read_text()
+        for name in benchmarks.COMMANDS:
+            self.assertIn("new", marked.replaced(page, name, "new"))
+        self.assertIn("new", marked.replaced((ROOT / "docs" / "CHECK-TIMES.md").read_text(), "check times", "new"))
+
+
+if __name__ == "__main__":
+    unittest.main()
