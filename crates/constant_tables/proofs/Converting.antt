@@ -21,7 +21,7 @@ use Rattle.column_files.proofs.Converting.{short-fine, answer-short, answer-don
 use Rattle.constant_tables.specs.Form.{tableLineLength, localDefinitionKind, integerKind, floatKind, nameKind, documentKind}
 use Rattle.constant_tables.specs.Entry.{Entry, entry, isText, readEntry, entryLine, tableBytes, recordKind, tableKind, definitionOf, definitionsOf}
 use Rattle.constant_tables.specs.Entry.{tableRecords}
-use Rattle.constant_tables.specs.Table.{firstWhere, listFrom, lineCount, tableLine, isBad, badAt, firstOff, entryIn, lineEntry, entriesOf}
+use Rattle.constant_tables.specs.Table.{firstWhere, listFrom, countIn, lineCount, tableLine, isBad, badAt, firstOff, entryIn, lineEntry, entriesOf}
 use Rattle.constant_tables.specs.Table.{headIs, inDefinition, agreesAt, notTable, entryAt, definitionCount, entriesIn}
 use Rattle.constant_tables.specs.Table.{DefinitionPut, DefinitionsPut, ConstantPut}
 use Rattle.constant_tables.specs.Convert.{tableRows, tableToRecords, rowTen, documentRows, TableConversion, noTable, tabled, tableBy}
@@ -35,16 +35,16 @@ use Rattle.constant_tables.proofs.Lists.{bytes-length, bytes-more, defi
 
 -- lines
 
-pub count-whole : (table : List ℕ) → length table % 34 ≡ 0 → length table / 34 ≡ lineCount table
-count-whole table e = simp (eq-eqb (length table % 34) 0 e) (let x : length table / 34 ≡ length table / 34 + 0 = omega arith in x)
+pub count-whole : (bytes : ℕ) → bytes % 34 ≡ 0 → bytes / 34 ≡ countIn bytes
+count-whole bytes e = simp (eq-eqb (bytes % 34) 0 e) (let x : bytes / 34 ≡ bytes / 34 + 0 = omega arith in x)
 
-pub count-rest : (table : List ℕ) → (length table % 34 ≡ 0 → ⊥) → length table / 34 + 1 ≡ lineCount table
-count-rest table n = simp (ne-eqb (length table % 34) 0 n)
+pub count-rest : (bytes : ℕ) → (bytes % 34 ≡ 0 → ⊥) → bytes / 34 + 1 ≡ countIn bytes
+count-rest bytes n = simp (ne-eqb (bytes % 34) 0 n)
 
-pub count-most : (table : List ℕ) → lineCount table ≤ length table / 34 + 1
-count-most table = by (eqb (length table % 34) 0)
+pub count-most : (bytes : ℕ) → countIn bytes ≤ bytes / 34 + 1
+count-most bytes = by (eqb (bytes % 34) 0)
   where
-    by : (t : Bool) → length table / 34 + cond t 0 1 ≤ length table / 34 + 1
+    by : (t : Bool) → bytes / 34 + cond t 0 1 ≤ bytes / 34 + 1
     by true = omega arith
     by false = omega arith
 
@@ -225,6 +225,16 @@ module _ (table out mid : List ℕ) (file : ℕ) (n : length mid ≡ length out)
             ∙ ap (λ (c : ℕ). headOf (c * 3 + 1) file ++ (definitionsOf (entriesOf table) ++ drop (lineCount table * 12 + 4) first)) (sym count) in
             answer-done (tableRows table file) (tableRecords file (entriesOf table)) (lineCount table * 3 + 1) (length out) fine (omega (arith, size, h))
             (a ∙ cleared-rest (tableRecords file (entriesOf table)) _ mid ((lineCount table * 3 + 1) * 4) (length out) m size n)
+
+        -- the same, with the lines as the code counts them
+        pub table-end : (first : List ℕ) {after : List ℕ} {w : Bool} {lines : ℕ} → lines ≡ lineCount table → lines * 3 + 1 ≤ length out / 4
+            → length first ≡ length out → Written 4 0 (documentKind ∷ (lines * 3 + 1) ∷ 0 ∷ file ∷ []) out first w
+            → DefinitionsPut table first mid off → after ≡ clearedFrom ((lines * 3 + 1) * 4) mid
+            → Converts (tableToRecords table file (length out)) after (success (lines * 3 + 1))
+        table-end first {after} {w} {lines} L h k W D a =
+            rw L (table-done first (omega (arith, L, h)) k
+            (subst (λ (c : ℕ). Written 4 0 (documentKind ∷ (c * 3 + 1) ∷ 0 ∷ file ∷ []) out first w) L W) D
+            (a ∙ ap (λ (c : ℕ). clearedFrom ((c * 3 + 1) * 4) mid) L))
 
 -- records that agree with a table's
 

@@ -22,9 +22,12 @@ unfoldable pub listFrom : (ℕ → Entry) → ℕ → ℕ → List Entry
 listFrom at k zero = []
 listFrom at k (suc n) = at k ∷ listFrom at (k + 1) n
 
--- how many lines a table has; a rest of one is one
+-- how many lines so many bytes are; a rest of one is one
+abbrev pub countIn : ℕ → ℕ
+countIn bytes = bytes / tableLineLength + cond (eqb (bytes % tableLineLength) 0) 0 1
+
 abbrev pub lineCount : List ℕ → ℕ
-lineCount table = length table / tableLineLength + cond (eqb (length table % tableLineLength) 0) 0 1
+lineCount table = countIn (length table)
 
 -- line i of a table, from 0; bad where there is no whole line
 abbrev pub tableLine : List ℕ → ℕ → TableLine

@@ -36,7 +36,7 @@ ghost use Prim.Native.Nat.{_+_, _*_, _≤_};
 ghost use lib.ListN.{length, drop};
 ghost use Rattle.column_files.specs.Convert.{Converts, refusal};
 ghost use Rattle.constant_tables.specs.Entry.{tableBytes};
-ghost use Rattle.constant_tables.specs.Table.{lineCount, tableLine, headIs, agreesAt, notTable, entryAt, listFrom, DefinitionPut, DefinitionsPut, ConstantPut};
+ghost use Rattle.constant_tables.specs.Table.{countIn, lineCount, tableLine, headIs, agreesAt, notTable, entryAt, listFrom, DefinitionPut, DefinitionsPut, ConstantPut};
 ghost use Rattle.constant_tables.specs.Convert.{tableToRecords, recordsToTable, documentRows, noTable, Tables};
 
 // 02, 2026-02, 'not a table': the row after those of 01.
@@ -59,12 +59,12 @@ pub struct Tabled {
     pub file: u64,
 }
 
-// The lines of a table; a rest of one is one.
-fn line_count(table: &[u8]) -> usize
-    ensures { λ r. ⌜ r ≡ lineCount (now (table .entry)) ⌝ }
+// The lines of a table of so many bytes; a rest of one is one.
+fn line_count(bytes: usize) -> usize
+    ensures { λ r. ⌜ r ≡ countIn bytes ⌝ }
 {
-    let whole = table.len() / TABLE_LINE_LENGTH;
-    if table.len() % TABLE_LINE_LENGTH == 0 {
+    let whole = bytes / TABLE_LINE_LENGTH;
+    if bytes % TABLE_LINE_LENGTH == 0 {
         return whole;
     }
     whole + 1
@@ -131,7 +131,8 @@ fn refused(number: u64, place: usize) -> Converted
 pub fn table_to_records(table: &[u8], file: u64, out: &mut [u64]) -> Converted
     ensures { λ r. ⌜ Converts (tableToRecords (now (table .entry)) file (length (now (out .entry)))) (now (out .exit)) r ⌝ }
 {
-    let lines = line_count(table);
+    let bytes = table.len();
+    let lines = line_count(bytes);
     let records = lines * DEFINITION_RECORDS + 1;
     write4(out, 0, DOCUMENT, records as u64, 0, file);
     let off = write_definitions(table, lines, out);

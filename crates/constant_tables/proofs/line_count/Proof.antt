@@ -6,10 +6,10 @@ use Rattle.constant_tables.proofs.line_count.Tie as tie
 use borrow.Author.Needs.{needs}
 
 returns : tie.Need-returns
-returns c = count-whole (c .before .args .table .now) (c .if1 .taken)
+returns c = count-whole (c .before .args .bytes) (c .if1 .taken)
 
 returns-2 : tie.Need-returns-2
-returns-2 c = count-rest (c .before .args .table .now) (c .if1 .left)
+returns-2 c = count-rest (c .before .args .bytes) (c .if1 .left)
 
 pub line-count-spec : {M : Type 1} → statement M
 line-count-spec =

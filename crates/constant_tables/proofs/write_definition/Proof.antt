@@ -15,8 +15,9 @@ returns-2 c =
     let c10 = c6 .before .before .before .before in
     let c12 = c10 .before .before in
     let c15 = c12 .before .before .before in
-    definition-put (c15 .args .out .now) _ _ _ (c15 .args .i) (c15 .args .text) (c15 .args .kind) (c15 .args .value) (c12 .record-kind .ensures)
-    (c10 .write4 .kept) (c6 .write42 .kept) (c10 .write4 .ensures) (c6 .write42 .ensures) (c .before .before .write43 .ensures)
+    definition-put (c15 .args .out .now) (c10 .write4 .last .0) (c6 .write42 .last .0) _ (c15 .args .i) (c15 .args .text) (c15 .args .kind) (c15 .args .value)
+    (c12 .record-kind .ensures)
+    (c10 .write4 .kept .0) (c6 .write42 .kept .0) (c10 .write4 .ensures) (c6 .write42 .ensures) (c .before .before .write43 .ensures)
 
 pub write-definition-spec : {M : Type 1} → statement M
 write-definition-spec =
