@@ -3,3 +3,7 @@ pub mod TableLines
 pub mod Search
 pub mod Lists
 pub mod Converting
+pub mod Documents
+pub mod RoundTrips
+pub mod Disagreement
+pub mod Examples
