@@ -1,6 +1,6 @@
--- `needed` is the least set that holds the root and is closed under includes, whatever the bundle. Least: a round adds only what a closed set holds. Closed: a round
--- that finds no further document of the bundle is followed by none that adds a number, and the others find one each, so as many rounds as documents do.
--- Assumes nothing.
+-- `needed` is the least set that holds the root and is closed under includes, whatever the bundle. Least: a round adds only what a closed set holds. Closed:
+-- after a round that finds no further document of the bundle no round adds a number, and every other finds one at least, so as many rounds as there are
+-- documents are enough. Assumes nothing.
 use Prim.Native.Nat.{ℕ, zero, suc, _+_, _≤_, _<_}
 use native.Mathlib.Omega.{arith}
 use native.Mathlib.Decide.{decLt}
@@ -258,12 +258,14 @@ module _ (standing : List ℕ) (root : Document) (others : List Document) where
     where
       go : (b : Bool) → hasText (root .filename) standing ≡ b → Closing standing (root ∷ others) (needed standing root others)
       go true e = closing-rounds standing (root ∷ others) _ first (λ n m h. never (subst (λ (l : List ℕ). Has l n) (first-none e) h))
-      go false e = let one : count (hasText (root .filename) first) ≡ 1 = ap count (first-root e) in enough-rounds standing (root ∷ others) _ first (omega (arith, one))
+      go false e =
+          let one : count (hasText (root .filename) first) ≡ 1 = ap count (first-root e) in
+          enough-rounds standing (root ∷ others) _ first (omega (arith, one))
 
   pub needed-least : (S : ℕ → Type 0) → Closed standing root others S → (file : ℕ) → Has (needed standing root others) file → S file
   unfolding first
   needed-least S c = rounds-each standing (root ∷ others) S (c .holdsIncludes) _ first
-      (inserts-each S standing (root .filename ∷ []) [] (λ m h a. holds m h a) (λ m h. never h))
+      (inserts-each S standing (root .filename ∷ []) [] holds (λ m h. never h))
     where
       holds : (m : ℕ) → Has (root .filename ∷ []) m → hasText m standing ≡ false → S m
       holds m h a = each-cons (λ (k : ℕ). hasText k standing ≡ false → S k) (root .filename) [] (c .holdsRoot) (λ k q. never q) m h a
@@ -290,7 +292,9 @@ include-held : LeastClosed [] includer [] (2 ∷ []) → ⊥
 include-held c = never (c .closed .holdsIncludes 2 3 refl refl refl)
 
 no-other-held : LeastClosed [] includer [] (2 ∷ 3 ∷ 4 ∷ []) → ⊥
-no-other-held c = never (subst (λ (l : List ℕ). Has l 4) includer-needs (c .least (Has (needed [] includer [])) (needed-is-least [] includer [] .closed) 4 refl))
+no-other-held c =
+    let held : Has (needed [] includer []) 4 = c .least (Has (needed [] includer [])) (needed-is-least [] includer [] .closed) 4 refl in
+    never (subst (λ (l : List ℕ). Has l 4) includer-needs held)
 
 -- what stands is passed over
 includer-onto : needed (3 ∷ []) includer [] ≡ 2 ∷ []
