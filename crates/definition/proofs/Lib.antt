@@ -1,3 +1,4 @@
+pub mod Bench
 pub mod Safe
 pub mod Lists
 pub mod Needed
