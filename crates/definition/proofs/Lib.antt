@@ -1,4 +1,4 @@
-pub mod Bench
+pub mod AllRows
 pub mod Safe
 pub mod Lists
 pub mod Needed

