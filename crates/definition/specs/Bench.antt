@@ -12,7 +12,7 @@ use Rattle.words.specs.Opcode.{OPERATION_ADD, OPERATION_SUB, OPERATION_MULTIPLY
 use Rattle.words.specs.Opcode.{OPERATION_LESS, OPERATION_GREATER_EQUAL, OPERATION_LESS_EQUAL, OPERATION_AND, OPERATION_OR}
 use Rattle.words.specs.Areas.{widths}
 use Rattle.words.specs.Object.{integerKind, floatKind, textKind, modelKind, functionKind}
-use Rattle.words.specs.Record.{fieldOf}
+use Rattle.words.specs.Record.{fieldOf, packPosition}
 use Rattle.tree.specs.Check.{shapeOf, walkBy, headAt, soundAt, thisAfter, sameThis, lacksBy, withinOf}
 use Rattle.tree.specs.Rules.{mayStand, slotAfter, isDue, firstSlot, goesOn, inRange}
 use Rattle.tree.specs.Reading.{expressionOf, listOf, pairsOf, parametersOf, definitionOf, documentOf, documentsOf}
@@ -190,9 +190,15 @@ body code positions constants = one 0 0 0 code positions constants
 abbrev half : ℕ
 half = 4602678819172646912
 
--- the book of 01's listing: a public function f with parameter x, `if x return end`
+-- the book of 01's listing: a public function f with parameter x, `if x return end`; the positions of x and of `return`
+abbrev atX : ℕ
+atX = packPosition 2 6
+
+abbrev atReturn : ℕ
+atReturn = packPosition 3 5
+
 abbrev pub example : List ℕ
-example = book (r 15 7 65546 3 ∷ r 40 1 0 4 ∷ r 25 5 0 0 ∷ r 42 4 0 0 ∷ r 30 1 131078 4 ∷ r 43 2 0 0 ∷ r 21 1 196613 0 ∷ [])
+example = book (r 15 7 (packPosition 1 10) 3 ∷ r 40 1 0 4 ∷ r 25 5 0 0 ∷ r 42 4 0 0 ∷ r 30 1 atX 4 ∷ r 43 2 0 0 ∷ r 21 1 atReturn 0 ∷ [])
 
 -- its lines, by their eight numbers
 abbrev pub exampleLines : List (List ℕ)
@@ -444,10 +450,10 @@ pub record Cases : Type 0 where
   -- the whole of 01's example: its function, the words of every area, exactly full, and the totals
   pub example-compiled : run example ≡ one 1 1 0
       (op LocalGet 0 ∷ op JumpIf 4 ∷ op PushConstant 0 ∷ op Jump 6 ∷ op PushConstant 0 ∷ op₀ ReturnOp ∷ [])
-      (131078 ∷ 131078 ∷ 131078 ∷ 131078 ∷ 131078 ∷ 196613 ∷ []) []
+      (atX ∷ atX ∷ atX ∷ atX ∷ atX ∷ atReturn ∷ []) []
   pub example-words : wordsIn exact example ≡ []
-      ∷ (504403158265495552 ∷ 131078 ∷ 5908722711110090756 ∷ 131078 ∷ 144115188075855872 ∷ 131078 ∷ 5836665117072162822 ∷ 131078 ∷ 144115188075855872
-      ∷ 131078 ∷ 360287970189639680 ∷ 196613 ∷ 0 ∷ 0 ∷ [])
+      ∷ (504403158265495552 ∷ atX ∷ 5908722711110090756 ∷ atX ∷ 144115188075855872 ∷ atX ∷ 5836665117072162822 ∷ atX ∷ 144115188075855872
+      ∷ atX ∷ 360287970189639680 ∷ atReturn ∷ 0 ∷ 0 ∷ [])
       ∷ (0 ∷ 0 ∷ 0 ∷ 1 ∷ 1 ∷ 0 ∷ 1 ∷ 0 ∷ 0 ∷ 6 ∷ 0 ∷ 0 ∷ [])
       ∷ (1 ∷ 1 ∷ 0 ∷ 0 ∷ 0 ∷ 6 ∷ 0 ∷ 3 ∷ [])
       ∷ [] ∷ [] ∷ []
