@@ -124,11 +124,12 @@ begins-next table before out after i {text} {kind} {value} h b n L e d = record 
         ∙ definitions-more (listFrom (lineEntry table) 0 i) (entry text kind value) in
         let m : i * 12 + 4 + 12 ≡ (i + 1) * 12 + 4 = omega arith in
         let a : (take 4 before ++ definitionsOf (listFrom (lineEntry table) 0 i)) ++ definitionOf (entry text kind value)
-            ≡ take 4 before ++ definitionsOf (listFrom (lineEntry table) 0 (i + 1))
+        ≡ take 4 before ++ definitionsOf (listFrom (lineEntry table) 0 (i + 1))
         = append-assoc (take 4 before) (definitionsOf (listFrom (lineEntry table) 0 i)) (definitionOf (entry text kind value))
         ∙ ap (λ (x : List ℕ). take 4 before ++ x) (sym q) in
         subst (λ (x : List ℕ). Begun x before after ((i + 1) * 12 + 4)) a
-        (subst (λ (k : ℕ). Begun ((take 4 before ++ definitionsOf (listFrom (lineEntry table) 0 i)) ++ definitionOf (entry text kind value)) before after k) m s)
+        (subst (λ (k : ℕ). Begun ((take 4 before ++ definitionsOf (listFrom (lineEntry table) 0 i)) ++ definitionOf (entry text kind value)) before after k)
+        m s)
 
 bad-is : (table : List ℕ) (i : ℕ) {l : TableLine} → l ≡ tableLine table i → l ≡ Bad → badAt table i ≡ true
 bad-is table i L e = ap isBad (sym L ∙ e)
@@ -148,7 +149,7 @@ lines-good table before out i B h l b =
     record {
       first = sym (B ∙ first-end (badAt table) (lineCount table) i h);
       words = λ z r. b .room r .rest ∙ ap (λ (k : ℕ). (take 4 before ++ definitionsOf (listFrom (lineEntry table) 0 k)) ++ drop (k * 12 + 4) before) e
-      ∙ append-assoc (take 4 before) (definitionsOf (entriesOf table)) (drop (lineCount table * 12 + 4) before);
+          ∙ append-assoc (take 4 before) (definitionsOf (entriesOf table)) (drop (lineCount table * 12 + 4) before);
     }
 
 -- a table to records
@@ -281,7 +282,8 @@ module _ (w : List ℕ) (i : ℕ) {s : ℕ} (S : s ≡ spanAt w 0) where
       unfolding agreesAt
       inside part e =
           let b = lt-ltb (suc i′) (spanAt w 0) (omega (arith, S, h, n)) in
-          at-suc ∙ ap (λ (x : Bool). x && inDefinition (i′ % 3) w (suc i′)) b ∙ ap (λ (q : ℕ). inDefinition q w (suc i′)) e ∙ ap (λ (j : ℕ). inDefinition part w j) (sym (suc-of i n))
+          at-suc ∙ ap (λ (x : Bool). x && inDefinition (i′ % 3) w (suc i′)) b ∙ ap (λ (q : ℕ). inDefinition q w (suc i′)) e
+          ∙ ap (λ (j : ℕ). inDefinition part w j) (sym (suc-of i n))
 
       module _ (first : i′ % 3 ≡ 0) {b : Bool} (H : b ≡ headIs w i localDefinitionKind 3) where
         pub agrees-no-head : not b ≡ true → false ≡ agreesAt w i
@@ -299,11 +301,17 @@ module _ (w : List ℕ) (i : ℕ) {s : ℕ} (S : s ≡ spanAt w 0) where
       module _ (f : i′ % 3 ≡ 0 → ⊥) (g : i′ % 3 ≡ 1 → ⊥) {a : Bool} (A : a ≡ headIs w i integerKind 1) where
         pub agrees-integer : a ≡ true → true ≡ agreesAt w i
         unfolding inDefinition
-        agrees-integer x = let last : i′ % 3 ≡ 2 = omega (arith, f, g) in let e : headIs w i integerKind 1 ≡ true = sym A ∙ x in sym (inside 2 last ∙ simp e)
+        agrees-integer x =
+            let last : i′ % 3 ≡ 2 = omega (arith, f, g) in
+            let e : headIs w i integerKind 1 ≡ true = sym A ∙ x in
+            sym (inside 2 last ∙ simp e)
 
         pub agrees-float : {b : Bool} → a ≡ false → b ≡ headIs w i floatKind 1 → b ≡ agreesAt w i
         unfolding inDefinition
-        agrees-float x B = let last : i′ % 3 ≡ 2 = omega (arith, f, g) in let e : headIs w i integerKind 1 ≡ false = sym A ∙ x in B ∙ sym (inside 2 last ∙ simp e)
+        agrees-float x B =
+            let last : i′ % 3 ≡ 2 = omega (arith, f, g) in
+            let e : headIs w i integerKind 1 ≡ false = sym A ∙ x in
+            B ∙ sym (inside 2 last ∙ simp e)
 
 -- row 10
 
@@ -388,7 +396,8 @@ module _ (w out : List ℕ) {s : Shape} (S : s ≡ documentRows w) where
         → Tables (recordsToTable w (length out)) after r
     unfolding recordsToTable tableBy
     document-short h a q =
-        let t : leb (length (tableBytes (entriesIn w))) (length out) ≡ false = lt-leb (length (tableBytes (entriesIn w))) (length out) (omega (arith, bytes, h)) in
+        let t : leb (length (tableBytes (entriesIn w))) (length out) ≡ false
+        = lt-leb (length (tableBytes (entriesIn w))) (length out) (omega (arith, bytes, h)) in
         rw (← S, e, t) (record { reply = q; output = a ∙ cleared-all out (length out) refl })
 
     pub document-done : (mid : List ℕ) {after : List ℕ} {file : ℕ} → definitionCount w ≤ length out / 34 → length mid ≡ length out
@@ -397,7 +406,8 @@ module _ (w out : List ℕ) {s : Shape} (S : s ≡ documentRows w) where
         → Tables (recordsToTable w (length out)) after (tabled (definitionCount w) file)
     unfolding recordsToTable tableBy
     document-done mid {after} {file} h n m a F =
-        let t : leb (length (tableBytes (entriesIn w))) (length out) ≡ true = le-leb (length (tableBytes (entriesIn w))) (length out) (omega (arith, bytes, h)) in
+        let t : leb (length (tableBytes (entriesIn w))) (length out) ≡ true
+        = le-leb (length (tableBytes (entriesIn w))) (length out) (omega (arith, bytes, h)) in
         rw (← S, e, t) (record {
           reply = ap (tabled (definitionCount w)) F;
           output = a ∙ cleared-rest (tableBytes (entriesIn w)) _ mid (definitionCount w * 34) (length out) m bytes n;

@@ -1,5 +1,5 @@
--- Row 10's place is what 02 says, 'the index of the first record up to which no table agrees' (`first-disagreement`): no table's records are the given ones up to
--- it, and for every smaller index some table's are. Assumes nothing.
+-- Row 10's place is 'the index of the first record up to which no table agrees' (`first-disagreement`): no table's records are the given ones up to it, and
+-- for every smaller index some table's are. Assumes nothing.
 use Prim.Native.Nat.{ℕ, zero, suc, _+_, _-_, _*_, _/_, _%_, _≤_, _<_}
 use native.Mathlib.Omega.{arith}
 use native.Mathlib.Decide.{decLt}

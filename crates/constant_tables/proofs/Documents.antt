@@ -296,9 +296,10 @@ head-yes w i kind span h =
 -- what is asked of the three records of a definition
 pub definition-parts : (w : List ℕ) (i : ℕ) → inDefinition 0 w i ≡ true → Head w i localDefinitionKind 3 × (valueAt w i ≡ 0)
 unfolding inDefinition
-definition-parts w i e =
-    (head-parts w i localDefinitionKind 3 (and-left (headIs w i localDefinitionKind 3) _ e),
-    eqb-true (valueAt w i) 0 (and-right (headIs w i localDefinitionKind 3) _ e))
+definition-parts w i e = (
+  head-parts w i localDefinitionKind 3 (and-left (headIs w i localDefinitionKind 3) _ e),
+  eqb-true (valueAt w i) 0 (and-right (headIs w i localDefinitionKind 3) _ e),
+)
 
 pub name-parts : (w : List ℕ) (i : ℕ) → inDefinition 1 w i ≡ true → Head w i nameKind 1
 unfolding inDefinition

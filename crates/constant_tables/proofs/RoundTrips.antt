@@ -1,6 +1,5 @@
--- The theorems of constant tables. The document of a table that passes rows 1 to 3 passes rows 2 to 4 (`table-fine`). Such a table comes back from its document byte for
--- byte, with its file number (`table-round-trip`); a document that passes rows 2 to 4 and 10 comes back from its lines word for word (`document-round-trip`).
--- Assumes nothing.
+-- The document of a table that passes rows 1 to 3 passes rows 2 to 4 (`table-fine`). Such a table comes back from its document byte for byte, with its file
+-- number (`table-round-trip`); a document that passes rows 2 to 4 and 10 comes back from its lines word for word (`document-round-trip`). Assumes nothing.
 use Prim.Native.Nat.{ℕ, zero, suc, _+_, _-_, _*_, _/_, _%_, _≤_, _<_}
 use native.Mathlib.Omega.{arith}
 use mathlib.Core.Path.{_≡_, refl, sym, ap, subst, _∙_}
@@ -51,7 +50,11 @@ rows-passed table file h =
     go false x true y c z e = no-row e
     go false x false y false z e = no-row e
     go false x false y true z e =
-        record { lines = ltb-false (firstOff table) (lineCount table) x; limit = ltb-false mostRecords (lineCount table * 3 + 1) y; is-text = text-parts file z }
+        record {
+          lines = ltb-false (firstOff table) (lineCount table) x;
+          limit = ltb-false mostRecords (lineCount table * 3 + 1) y;
+          is-text = text-parts file z;
+        }
 
 pub passed-rows : (table : List ℕ) (file : ℕ) → Passes table file → tableRows table file ≡ Fine
 unfolding tableRows
@@ -84,7 +87,9 @@ module _ (table : List ℕ) (h : lineCount table ≤ firstOff table) where
   entries-good j l =
       let n = list-length (lineEntry table) 0 (lineCount table) in
       let b : j < lineCount table = omega (arith, n, l) in
-      subst Good (sym (list-get (lineEntry table) 0 (lineCount table) j noEntry b ∙ ap (lineEntry table) (let e : 0 + j ≡ j = omega arith in e))) (entry-good j b)
+      let e : getD (entriesOf table) j noEntry ≡ lineEntry table j
+      = list-get (lineEntry table) 0 (lineCount table) j noEntry b ∙ ap (lineEntry table) (let e : 0 + j ≡ j = omega arith in e) in
+      subst Good (sym e) (entry-good j b)
 
 count-covers : (bytes : ℕ) → bytes ≤ countIn bytes * 34
 count-covers bytes = by (eqb (bytes % 34) 0) refl

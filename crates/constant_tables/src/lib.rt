@@ -36,13 +36,14 @@ ghost use Prim.Native.Nat.{_+_, _*_, _≤_};
 ghost use lib.ListN.{length, drop};
 ghost use Rattle.column_files.specs.Convert.{Converts, refusal};
 ghost use Rattle.constant_tables.specs.Entry.{tableBytes};
-ghost use Rattle.constant_tables.specs.Table.{countIn, lineCount, tableLine, headIs, agreesAt, notTable, entryAt, listFrom, DefinitionPut, DefinitionsPut, ConstantPut};
+ghost use Rattle.constant_tables.specs.Table.{countIn, lineCount, tableLine, headIs, agreesAt, notTable, entryAt, listFrom};
+ghost use Rattle.constant_tables.specs.Table.{DefinitionPut, DefinitionsPut, ConstantPut};
 ghost use Rattle.constant_tables.specs.Convert.{tableToRecords, recordsToTable, documentRows, noTable, Tables};
 
 // 02, 2026-02, 'not a table': the row after those of 01.
 pub const NOT_A_TABLE: u64 = 10;
 
-// The records of a local definition, and the bytes of these.
+// The records of a local definition, and their words.
 const DEFINITION_RECORDS: usize = 3;
 
 const DEFINITION_WORDS: usize = DEFINITION_RECORDS * RECORD_WORDS;

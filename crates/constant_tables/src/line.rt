@@ -47,14 +47,22 @@ pub(crate) fn is_text(number: u64) -> bool
 pub(crate) fn record_kind(kind: u64) -> u64
     ensures { λ r. ⌜ r ≡ recordKind kind ⌝ }
 {
-    if kind == TABLE_INTEGER { INTEGER } else { FLOAT }
+    if kind == TABLE_INTEGER {
+        INTEGER
+    } else {
+        FLOAT
+    }
 }
 
 // The table's kind of a value's record.
 pub(crate) fn table_kind(kind: u64) -> u64
     ensures { λ r. ⌜ r ≡ tableKind kind ⌝ }
 {
-    if kind == INTEGER { TABLE_INTEGER } else { TABLE_FLOAT }
+    if kind == INTEGER {
+        TABLE_INTEGER
+    } else {
+        TABLE_FLOAT
+    }
 }
 
 fn is_integer(kind: Number) -> bool
