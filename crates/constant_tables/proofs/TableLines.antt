@@ -271,14 +271,14 @@ module _ (e : Entry) (g : Good e) where
   unfolding entryLine
   text-read =
       let t = g .text .limit in
-      ap (readNumeral false) (first-field n0 _ 8 l0) ∙ read-written 8 false (e .text) (omega (arith, t)) (natural-fits 7 (e .text) (omega (arith, t)))
+      ap (readNumeral false) (first-field n0 _ 8 l0) ∙ read-written 8 false (e .text) (omega (arith, t)) (natural-fits 8 (e .text) (omega arith) (omega (arith, t)))
 
   kind-read : tableKindIn (entryLine e) ≡ Word (e .kind)
   unfolding entryLine
   kind-read =
       let k = kind-small (e .kind) (g .kind) in
       ap (readNumeral false) (next-field n0 _ 8 0 4 l0 ∙ first-field n1 _ 4 l1)
-      ∙ read-written 4 false (e .kind) (omega (arith, k)) (natural-fits 3 (e .kind) (omega (arith, k)))
+      ∙ read-written 4 false (e .kind) (omega (arith, k)) (natural-fits 4 (e .kind) (omega arith) (omega (arith, k)))
 
   value-read : tableValueIn (entryLine e) ≡ Word (e .value)
   unfolding entryLine
