@@ -17,8 +17,8 @@ use Rattle.definition.specs.Uses.{Use, limitOf, firstOver}
 use Rattle.definition.specs.Book.{Function, Context, newContext, codeOf}
 use Rattle.definition.specs.Program.{Entries, tablesOf}
 use Rattle.definition.specs.Answer.{Delivery, limitsBy, limitsOf, answerFrom, answer}
-use Rattle.definition.specs.Within.{All, none, _&_, Class, Position, Slot, Read, Pool, Global, Other, classOf, Counts, Within}
-use Rattle.definition.proofs.Safe.{at, Each, counts, FunctionSafe, ProgramSafe}
+use Rattle.definition.specs.Within.{All, none, _&_, Class, Position, Slot, Read, Pool, ContextSlot, Other, classOf}
+use Rattle.definition.proofs.Safe.{at, Each, counts, Counts, Within, FunctionSafe, ProgramSafe}
 use Rattle.definition.proofs.Lists.{all-map}
 use Rattle.definition.proofs.Cells.{all-at}
 use Rattle.definition.proofs.FunctionCode.{OperandsFit}
@@ -46,7 +46,7 @@ operand-fits Slot c i n t l p g w s = omega arith
 operand-fits Read c i n t l p g (inl w) s = omega arith
 operand-fits Read c i n t l p g (inr w) s = omega (arith, w .0)
 operand-fits Pool c i n t l p g w s = omega arith
-operand-fits Global c i n t l p g w s = omega arith
+operand-fits ContextSlot c i n t l p g w s = omega arith
 operand-fits Other c i n t l p g w s = omega arith
 
 functions-fit : (K C n : ℕ) (fs : List Function) → K < 2 ^ 56 → C < 2 ^ 56 → n < 2 ^ 56 → codeOf fs ≤ n → All (λ (f : Function). FunctionSafe K C (f .state)) fs

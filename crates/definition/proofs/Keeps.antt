@@ -21,9 +21,9 @@ use Rattle.definition.specs.Program.{Entries, bit, entriesFrom, function
 use Rattle.definition.specs.Program.{modelProperties, methodEntry, localWords, localEntry, publicEntries, assemblyPublics, bookEntry, tablesOf}
 use Rattle.definition.specs.Program.{globalDependencies, filledAll}
 use Rattle.definition.specs.Answer.{Delivery, replyOf, areasOf}
-use Rattle.definition.specs.Within.{All, none, _&_, Areas, Totals, totalOf, cell, instructionAt, Counts, Fits, Loop, Lands, Log, logOf, logsOf}
-use Rattle.definition.specs.Within.{FunctionWithin, marked, KeepsWithin}
-use Rattle.definition.proofs.Safe.{at, Landed, counts, FunctionSafe, ProgramSafe}
+use Rattle.definition.specs.Within.{All, none, _&_, Areas, Totals, Program, totalOf, cell, instructionAt, Loop, Lands, Log, logOf, logsOf}
+use Rattle.definition.specs.Within.{FunctionLogged, marked, KeepsWithin}
+use Rattle.definition.proofs.Safe.{at, Landed, Counts, Fits, counts, FunctionSafe, ProgramSafe}
 use Rattle.definition.proofs.Lists.{all-map}
 use Rattle.definition.proofs.Sound.{find-name}
 use Rattle.definition.proofs.Cells.{Wide, Wides, end, _then_, all-at, table-word, table-whole, entries-all, entries-wide, single-length}

@@ -32,8 +32,8 @@ use Rattle.definition.specs.Book.{compileMethods, compileImplementDefini
 use Rattle.definition.specs.Book.{compileDefinitions, opened, compileDocument, pushBookError, newContext}
 use Rattle.words.specs.Areas.{propertiesArea}
 use Rattle.definition.specs.DependencySolver.{Worked, Delivered, ready, without, afterBook, driveBy, drive, compileNeeded}
-use Rattle.definition.specs.Within.{All, none, _&_, Fits, EntryWithin}
-use Rattle.definition.proofs.Safe.{FunctionSafe, Named, Parts, PartsOf, ProgramSafe}
+use Rattle.definition.specs.Within.{All, none, _&_}
+use Rattle.definition.proofs.Safe.{EntryWithin, FunctionSafe, Named, Parts, PartsOf, ProgramSafe}
 use Rattle.definition.proofs.Lists.{all-map, all-append, all-set, cond-case}
 use Rattle.definition.proofs.Sound.{fits-mono, find-name}
 use Rattle.definition.proofs.Moves.{Moves}
@@ -63,6 +63,8 @@ safe-mono {f = f} k c s = record {
   rescue = s .rescue;
   loops = s .loops;
   breaks = s .breaks;
+  closed = s .closed;
+  nexts = s .nexts;
 }
 
 named-mono : {M M′ F F′ : ℕ} {c : Constant} → M ≤ M′ → F ≤ F′ → Named M F c → Named M′ F′ c

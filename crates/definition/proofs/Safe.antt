@@ -1,14 +1,41 @@
 -- Demand 3 of the definition's own states: what `Within` says of words, said of instructions, constants and models as lists. Assumes nothing.
-use Prim.Native.Nat.{ℕ, _≤_, _<_}
+use Prim.Native.Nat.{ℕ, _+_, _≤_, _<_}
 use mathlib.Core.Path.{_≡_}
-use mathlib.Core.List.{List}
+use mathlib.Core.Logic.{_⊎_}
+use mathlib.Core.List.{List, []}
 use lib.ListN.{length, getD}
 use Rattle.words.specs.Object.{Constant, modelKind, functionKind}
-use Rattle.words.specs.Opcode.{Instruction, toInstruction, nothing, Jump, JumpIf}
+use Rattle.words.specs.Opcode.{Instruction, toInstruction, nothing, Jump, JumpIf, ForNext}
 use Rattle.definition.specs.FunctionState.{FunctionState, Entry}
 use Rattle.definition.specs.Compiler.{Work}
 use Rattle.definition.specs.Book.{Context, Function, Model, Method, Assembly}
-use Rattle.definition.specs.Within.{All, InLoop, Loop, loopsOf, breaksOf, Counts, Fits, EntryWithin}
+use Rattle.definition.specs.Within.{All, Among, InLoop, Loop, readTrace, loopsOf, breaksOf, exitsOf, Class, Position, Slot, Read, Pool, ContextSlot}
+use Rattle.definition.specs.Within.{Other, classOf}
+
+-- the counts that bound an operand; `top`: the function's length; `this`: where its reads of `this` are
+pub record Counts : Type 0 where
+  pub top : ℕ
+  pub locals : ℕ
+  pub constants : ℕ
+  pub context : ℕ
+  pub this : List ℕ
+
+-- an operand n, at index i, within its count. A read of a local may be 0 where there is no local, if it is the read of a 31: the first exception
+abbrev pub Within : Class → Counts → ℕ → ℕ → Type 0
+Within Position c i n = n ≤ c .top
+Within Slot c i n = n < c .locals
+Within Read c i n = (n < c .locals) ⊎ ((n ≡ 0) × (c .locals ≡ 0) × Among i (c .this))
+Within Pool c i n = n < c .constants
+Within ContextSlot c i n = n < c .context
+Within Other c i n = Unit {0}
+
+-- an instruction's operand is within its count
+abbrev pub Fits : Counts → ℕ → Instruction → Type 0
+Fits c i x = Within (classOf (x .opcode)) c i (x .operand)
+
+-- an entry point: a function's number, or 0 where there is no function, the second exception
+abbrev pub EntryWithin : ℕ → ℕ → Type 0
+EntryWithin functions n = (n < functions) ⊎ ((n ≡ 0) × (functions ≡ 0))
 
 abbrev pub at : List Instruction → ℕ → Instruction
 at l i = getD l i nothing
@@ -37,6 +64,8 @@ pub record FunctionSafe (K C : ℕ) (f : FunctionState) : Type 0 where
   pub rescue : f .rescuePosition ≤ length (f .instructions)
   pub loops : All (Landed (f .instructions)) (loopsOf (f .trace))
   pub breaks : All (λ b. InLoop b (loopsOf (f .trace))) (breaksOf (f .trace))
+  pub closed : readTrace (f .trace) .open′ ≡ []
+  pub nexts : Each (λ i x. x .opcode ≡ ForNext → Among (i + 1) (exitsOf (loopsOf (f .trace)))) (f .instructions)
 
 abbrev pub Safe : Work → Type 0
 Safe w = FunctionSafe (length (w .context .constants)) (w .context .localCount) (w .function)
