@@ -24,10 +24,11 @@ use Rattle.tree.specs.declared.Outcome.the-variants.{Went, Fault}
 use Rattle.definition.specs.Uses.{Limits, firstOver}
 use Rattle.definition.specs.Compiler.{Error}
 use Rattle.definition.specs.Book.{Context, newContext}
-use Rattle.definition.specs.DependencySolver.{Ending, Delivered, Faulty, Ring, compileNeeded, missing, needed, filesOf}
+use Rattle.definition.specs.DependencySolver.{Ending, Delivered, Faulty, Ring, compileNeeded, missing, needed, loadedOf}
 use Rattle.definition.specs.Program.{entriesFrom, errorEntry, errorTables}
 use Rattle.definition.specs.Answer.{Answer, Delivery, Refusal, answerEnding, answerBy, answerNeeded, answerBundle, answerDocuments, answerTwice}
 use Rattle.definition.specs.Answer.{answerShape, answerFrom, answer, twice, documentPlaces, limitsOf, ringErrors, areasOf}
+use Rattle.definition.specs.Within.{programLogs}
 use Rattle.definition.proofs.Safe.{ProgramSafe}
 use Rattle.definition.proofs.Lists.{cond-case}
 use Rattle.definition.proofs.Program.{worked-safe, fresh-safe}
@@ -112,7 +113,7 @@ reached c w lengths = shape (shape-row w) refl
     documents : shapeOf w ≡ Fine → (ds : List Document) → documentsOf w ≡ ds → Reached c w lengths (answerDocuments ds l c)
     documents f [] q = Before 0 row-3
     documents f (root ∷ others) q =
-        let numbers = needed (filesOf (c .assemblies)) root others in
+        let numbers = needed (loadedOf c) root others in
         let o = missing (root ∷ others) numbers in
         subst (λ ds. Reached c w lengths (answerNeeded o numbers ds l c)) q (needing f numbers o)
 
@@ -181,9 +182,9 @@ delivery-safe c₀ w lengths c q safe = let d = delivering c₀ w lengths c q in
 
 -- demand 3, onto a standing context and onto a fresh one
 pub standing-keeps : (c₀ : Context) (w lengths : List ℕ) (c : Context) → length lengths ≡ 13 → answerFrom c₀ w lengths ≡ Delivery c → ProgramSafe c₀
-    → OperandsFit c → WordsKeep lengths c
+    → OperandsFit c → WordsKeep lengths c (programLogs c)
 standing-keeps c₀ w lengths c n q safe fit = program-keeps lengths c n (delivery-safe c₀ w lengths c q safe) fit
 
-pub delivery-keeps : (w lengths : List ℕ) (c : Context) → length lengths ≡ 13 → answer w lengths ≡ Delivery c → OperandsFit c → WordsKeep lengths c
+pub delivery-keeps : (w lengths : List ℕ) (c : Context) → length lengths ≡ 13 → answer w lengths ≡ Delivery c → OperandsFit c → WordsKeep lengths c (programLogs c)
 unfolding answer
 delivery-keeps w lengths c n q fit = standing-keeps newContext w lengths c n q fresh-safe fit

@@ -1,15 +1,16 @@
 -- The code of functions in areas 1 and 3: function j's entry names the first entry of its code, and from there its code stands. By induction over the
 -- functions, each with one position for each instruction. Assumes nothing.
 use Prim.Native.Nat.{ℕ, zero, suc, _+_, _*_, _/_, _%_, _^_, _≤_, _<_}
+use native.Mathlib.Nat.{zero-add, suc-add}
 use native.Mathlib.Omega.{arith}
 use mathlib.Core.Path.{_≡_, refl, ap, _∙_}
-use mathlib.Core.List.{List, [], _∷_}
+use mathlib.Core.List.{List, [], _∷_, _++_, map}
 use lib.ListN.{length, getD, take}
 use Rattle.words.specs.Opcode.{Instruction, word}
 use Rattle.definition.specs.FunctionState.{newFunctionState}
 use Rattle.definition.specs.Book.{Function, Context, codeOf}
-use Rattle.definition.specs.Program.{entriesFrom, codeEntries, functionCode, functionEntry, functionEntries}
-use Rattle.definition.specs.Within.{All, none, _&_, noLog, logOf, logsOf}
+use Rattle.definition.specs.Program.{Entries, entriesFrom, codeEntries, functionCode, functionEntry, functionEntries}
+use Rattle.definition.specs.Within.{All, none, _&_, Log, noLog, logOf, logsOf, standingLog}
 use Rattle.definition.proofs.Safe.{at, Each}
 use Rattle.definition.proofs.Cells.{Wide, all-at, entries-wide, entries-length, entries-at, sum-inside}
 
@@ -58,7 +59,7 @@ functionsCode-at {fs} ss j i h k =
     ∙ code-entry (functionAt fs j .state .instructions) (functionAt fs j .state .positions) i (all-at ss j noFunction h) k
 
 pub functionsCode-wide : (fs : List Function) → Wide 2 (entriesFrom functionCode 0 fs)
-functionsCode-wide fs = entries-wide functionCode 2 (λ j f. code-wide (f .state .instructions) (f .state .positions)) fs
+functionsCode-wide fs = entries-wide functionCode 2 0 (λ j f. code-wide (f .state .instructions) (f .state .positions)) fs
 
 -- area 3
 pub functions-length : (start : ℕ) (fs : List Function) → length (functionEntries start fs) ≡ length fs
@@ -82,8 +83,17 @@ functions-at start (f ∷ fs) (suc j) h =
 pub code-inside : (fs : List Function) (j : ℕ) → j < length fs → codeOf (take j fs) + length (functionAt fs j .state .instructions) ≤ codeOf fs
 code-inside fs j h = sum-inside (λ (f : Function). length (f .state .instructions)) fs j noFunction h
 
--- what is logged of it
+-- what is logged of it, and of one that stood before
 pub logs-at : (fs : List Function) (j : ℕ) → j < length fs → getD (logsOf fs) j noLog ≡ logOf (functionAt fs j .state)
 logs-at [] j h = absurd (omega arith)
 logs-at (f ∷ fs) zero h = refl
 logs-at (f ∷ fs) (suc j) h = logs-at fs j (omega arith)
+
+pub standing-log-at : (es : Entries) (ls : List Log) (j : ℕ) → j < length es → getD (map standingLog es ++ ls) j noLog ≡ standingLog (getD es j [])
+standing-log-at [] ls j h = absurd (omega arith)
+standing-log-at (e ∷ es) ls zero h = refl
+standing-log-at (e ∷ es) ls (suc j) h = standing-log-at es ls j (omega arith)
+
+pub added-log-at : (es : Entries) (ls : List Log) (j : ℕ) → getD (map standingLog es ++ ls) (length es + j) noLog ≡ getD ls j noLog
+added-log-at [] ls j = rw (zero-add j)
+added-log-at (e ∷ es) ls j = rw (suc-add (length es) j) (added-log-at es ls j)

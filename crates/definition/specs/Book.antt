@@ -39,9 +39,10 @@ pub record Assembly : Type 0 where
   pub index : ℕ
   pub publics : List Entry
 
--- the Rust's `CompilerContext`; `pool` is what functions need of it. prior: what stood before; constants and methods are whole lists, those that stood
--- first, and models, functions, context locals and assemblies are those added, whose indices start at what stood. localValues: context local, constant. localNames: each context local's name and
--- its book's index, which area 7 keeps though the Rust drops its books' `locals`. methods: those of all models, in the order in which each first came
+-- the Rust's `CompilerContext`; `pool` is what functions need of it. localValues: context local, constant. localNames: each context local's name and
+-- its book's index, which area 7 keeps though the Rust drops its books' `locals`. methods: those of all models, in the order in which each first came.
+-- prior: what stood before a bundle (2026-01). Constants, marks and methods are whole lists, those that stood first; models, functions, context locals'
+-- names and values, and assemblies are those added, and their indices go on from what stood
 pub record Context : Type 0 where
   pub pool : CompilerContext
   pub prior : Prior
@@ -195,11 +196,17 @@ pushBookError n t b =
     noted errorsArea (length (b .compiler .errors) + 1)
     (record { compiler = withError n t (b .compiler); assembly = b .assembly; context = b .context; uses = b .uses })
 
--- how many instructions functions have
+-- how many instructions functions have, properties models, and public names books
 abbrev pub codeOf : List Function → ℕ
 codeOf fs = sumOf (λ f. length (f .state .instructions)) fs
 
--- how many entries of areas 1, 3, 4, 5, 8 and 12 are in use: those that stand, and those added
+abbrev pub propertiesOf : List Model → ℕ
+propertiesOf ms = sumOf (λ m. length (m .properties)) ms
+
+abbrev pub publicsOf : List Assembly → ℕ
+publicsOf as′ = sumOf (λ a. length (a .publics)) as′
+
+-- the entries of areas 1, 3, 4, 5, 8 and 12, those that stood before and those added; the public names are those of the books before this one
 abbrev pub codeCount : Context → ℕ
 codeCount c = length (c .prior .code) + codeOf (c .functions)
 
@@ -210,10 +217,10 @@ abbrev pub modelCount : Context → ℕ
 modelCount c = length (c .prior .models) + length (c .models)
 
 abbrev pub propertyCount : Context → ℕ
-propertyCount c = length (c .prior .properties) + sumOf (λ m. length (m .properties)) (c .models)
+propertyCount c = length (c .prior .properties) + propertiesOf (c .models)
 
 abbrev pub publicCount : Context → ℕ
-publicCount c = length (c .prior .publics) + sumOf (λ a. length (a .publics)) (c .assemblies)
+publicCount c = length (c .prior .publics) + publicsOf (c .assemblies)
 
 abbrev pub bookCount : Context → ℕ
 bookCount c = length (c .prior .books) + length (c .assemblies)
@@ -359,10 +366,6 @@ pub record Properties : Type 0 where
   pub texts : List ℕ
   pub book : Book
 
--- how many properties models have
-abbrev pub propertiesOf : List Model → ℕ
-propertiesOf ms = sumOf (λ m. length (m .properties)) ms
-
 -- `Model::add_property`: a name that is there already is error 6 and takes no entry
 abbrev pub addProperty : Token → List ℕ → Book → Properties
 addProperty t ps b =
@@ -390,10 +393,6 @@ compileModelDefinition name properties b =
     let a = addBookConstant (constantOf modelKind modelIndex) b₂ in
     let d = defineContextLocal (name .value) (a .book) in
     record { place = a .place; book = setLocalValue (d .place) (a .place) (d .book) }
-
--- how many public names the books before have
-abbrev pub publicsOf : List Assembly → ℕ
-publicsOf as′ = sumOf (λ a. length (a .publics)) as′
 
 abbrev pub withPublics : List Entry → Deed
 withPublics ps b = record {

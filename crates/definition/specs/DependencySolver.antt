@@ -116,11 +116,11 @@ drive zero ds done left c uses = record { ending = Delivered c; uses = uses }
 drive (suc k) ds done left c uses =
     driveBy (ready ds done left) left c uses (λ d c′ uses′. drive k ds (d .filename ∷ done) (without (d .filename) left) c′ uses′)
 
--- the file numbers of the books that stand: `get_loaded_assemblies`
 abbrev pub filesOf : List Assembly → List ℕ
 filesOf [] = []
 filesOf (a ∷ l) = a .filename ∷ filesOf l
 
+-- the file numbers of the books that stand: `get_loaded_assemblies`
 abbrev pub loadedOf : Context → List ℕ
 loadedOf c = fileNumbers (c .prior .books) ++ filesOf (c .assemblies)
 

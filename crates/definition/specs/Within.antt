@@ -5,7 +5,7 @@ use Prim.Native.Nat.{ℕ, zero, suc, _+_, _*_, _≤_, _<_}
 use mathlib.Core.Path.{_≡_}
 use mathlib.Core.Logic.{_⊎_}
 use mathlib.Core.Bool.{cond}
-use mathlib.Core.List.{List, [], _∷_, _++_}
+use mathlib.Core.List.{List, [], _∷_, _++_, map}
 use lib.ListN.{length, getD}
 use lib.Dec.{eqb}
 use Rattle.words.specs.Areas.{widthOf, entryWord, codeArea, constantsArea, functionsArea, modelsArea, propertiesArea, methodsArea, contextLocalsArea}
@@ -14,7 +14,7 @@ use Rattle.words.specs.Object.{modelKind, functionKind}
 use Rattle.words.specs.Opcode.{Instruction, toInstruction, unword, Jump, JumpIf, LocalSet, LocalGet, LocalInit, ForNext, Iterate, ContextSet, ContextGet}
 use Rattle.words.specs.Opcode.{PushConstant, GlobalSet, GlobalGet}
 use Rattle.definition.specs.FunctionState.{FunctionState, Event, Entered, Broke, Left, pushBreaks, innermost, tail}
-use Rattle.definition.specs.Book.{Function}
+use Rattle.definition.specs.Book.{Function, Context}
 
 -- a claim of each of a list; a number among numbers
 pub data All {A : Type 0} (P : A → Type 0) : List A → Type 0 where
@@ -126,6 +126,18 @@ logOf f = record { trace = f .trace; this = f .thisReads }
 abbrev pub logsOf : List Function → List Log
 logsOf [] = []
 logsOf (f ∷ fs) = logOf (f .state) ∷ logsOf fs
+
+abbrev pub below : ℕ → List ℕ
+below zero = []
+below (suc n) = n ∷ below n
+
+-- of a function that stood before a bundle (2026-01): no loop is known, and any LocalGet 0 in it is taken for a read of `this`
+abbrev pub standingLog : List ℕ → Log
+standingLog f = record { trace = []; this = below (getD f lengthWord 0) }
+
+-- of all functions of a program: those that stood, then those added
+abbrev pub programLogs : Context → List Log
+programLogs c = map standingLog (c .prior .functions) ++ logsOf (c .functions)
 
 abbrev pub Areas : Type 0
 Areas = List (List ℕ)
