@@ -6,6 +6,7 @@ pub mod Good
 pub mod Program
 pub mod Cells
 pub mod FunctionCode
+pub mod Tests
 pub mod Keeps
 pub mod Answer
 pub mod Uses

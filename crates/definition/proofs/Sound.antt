@@ -77,8 +77,11 @@ within-mono Pool i n w h = omega arith
 within-mono ContextSlot i n w h = omega arith
 within-mono Other i n w h = tt
 
+pub fit-mono : {c d : Counts} (i : ℕ) (x : Instruction) → Wider c d → Fits c i x → Fits d i x
+fit-mono i x w h = within-mono (classOf (x .opcode)) i (x .operand) w h
+
 pub fits-mono : {c d : Counts} (l : List Instruction) → Wider c d → Each (Fits c) l → Each (Fits d) l
-fits-mono l w ps = each-map l (λ i x h. within-mono (classOf (x .opcode)) i (x .operand) w h) ps
+fits-mono l w ps = each-map l (λ i x h. fit-mono i x w h) ps
 
 pub pending-kept : {l l′ : List Instruction} → Kept l l′ → (b : ℕ) → Pending l b → Pending l′ b
 pending-kept {l} {l′} k b (h, e) = let r = k .keeps b h (rw e (omega arith)) in (r .0, r .1 ∙ e)

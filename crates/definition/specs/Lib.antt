@@ -1,6 +1,7 @@
 pub mod FunctionState
 pub mod Uses
 pub mod Compiler
+pub mod Prior
 pub mod Book
 pub mod DependencySolver
 pub mod Program

@@ -9,11 +9,8 @@ use Rattle.words.specs.Opcode.{Instruction, word}
 use Rattle.words.specs.Object.{Constant}
 use Rattle.definition.specs.FunctionState.{Entry, findName}
 use Rattle.definition.specs.Compiler.{Error}
+pub use Rattle.definition.specs.Prior.{Entries}
 use Rattle.definition.specs.Book.{Function, Model, Method, Assembly, Context, hasText}
-
--- an area's entries, each the list of its words
-abbrev pub Entries : Type 0
-Entries = List (List ℕ)
 
 abbrev pub bit : Bool → ℕ
 bit true = 1
@@ -89,18 +86,18 @@ bookEntry i a = (a .filename ∷ []) ∷ []
 -- the entries of the areas, by area from 1
 unfoldable pub tablesOf : Context → List Entries
 tablesOf c =
-    [] ∷ entriesFrom functionCode 0 (c .functions)
+    [] ∷ (c .prior .code ++ entriesFrom functionCode 0 (c .functions))
     ∷ entriesFrom (constantEntry (c .pool .globals)) 0 (c .pool .constants)
-    ∷ functionEntries 0 (c .functions)
-    ∷ entriesFrom modelEntry 0 (c .models)
-    ∷ entriesFrom modelProperties 0 (c .models)
+    ∷ (c .prior .functions ++ functionEntries (length (c .prior .code)) (c .functions))
+    ∷ (c .prior .models ++ entriesFrom modelEntry 0 (c .models))
+    ∷ (c .prior .properties ++ entriesFrom modelProperties (length (c .prior .models)) (c .models))
     ∷ entriesFrom methodEntry 0 (c .methods)
-    ∷ entriesFrom (localEntry (c .localValues)) 0 (c .localNames)
-    ∷ entriesFrom assemblyPublics 0 (c .assemblies)
+    ∷ (c .prior .locals ++ entriesFrom (localEntry (c .localValues)) (length (c .prior .locals)) (c .localNames))
+    ∷ (c .prior .publics ++ entriesFrom assemblyPublics 0 (c .assemblies))
     ∷ []
     ∷ []
     ∷ []
-    ∷ entriesFrom bookEntry 0 (c .assemblies)
+    ∷ (c .prior .books ++ entriesFrom bookEntry 0 (c .assemblies))
     ∷ []
 
 -- after a refusal: the errors alone
