@@ -122,5 +122,8 @@ pub code-loose : {K C : ℕ} {fs : List Function} → All (λ (f : Function). Fu
     → All (λ (f : Function). Each (λ i x. x .operand < 2 ^ 56) (f .state .instructions)) fs → All (EntryLoose K C) (entriesFrom functionCode 0 fs)
 code-loose {K} {C} {fs} ss fit = entries-all functionCode (length fs) 0
     (λ j (f : Function) h q. entries-loose K C (f .state .instructions) (f .state .positions)
-    (λ i k. (loose-of (classOf (at (f .state .instructions) i .opcode)) (counts (length (f .state .instructions)) K C (f .state)) i
-    (at (f .state .instructions) i .operand) (q .0 .fits i k), q .1 i k))) (omega arith) (all-both ss fit)
+    (λ i k. (
+      loose-of (classOf (at (f .state .instructions) i .opcode)) (counts (length (f .state .instructions)) K C (f .state)) i
+          (at (f .state .instructions) i .operand) (q .0 .fits i k),
+      q .1 i k,
+    ))) (omega arith) (all-both ss fit)

@@ -7,7 +7,7 @@ use native.Mathlib.Omega.{arith}
 use native.Mathlib.Decide.{decLt}
 use mathlib.Core.Path.{_≡_, refl, sym, ap, _∙_, subst}
 use mathlib.Core.Logic.{_⊎_, inl, inr}
-use mathlib.Core.Bool.{Bool, true, false, cond}
+use mathlib.Core.Bool.{Bool, true, false, cond, _&&_}
 use mathlib.Core.Option.{Option, none, some}
 use mathlib.Core.List.{List, [], _∷_, _++_, map}
 use lib.ListN.{length, getD, take, length-append, List·getD-map, List·getD-append}
@@ -15,7 +15,7 @@ use lib.Seq.{take-suc, take-length, getD-append-add}
 use Rattle.words.specs.Areas.{widths, widthOf, codeArea, constantsArea, functionsArea, modelsArea, propertiesArea, methodsArea, contextLocalsArea}
 use Rattle.words.specs.Areas.{publicNamesArea, booksArea, localsWord, rescueWord, startWord, lengthWord, functionFileWord}
 use Rattle.words.specs.Object.{Constant, modelKind, functionKind}
-use lib.Dec.{T, eqb, leb→le, ltb→lt, le→leb, lt→ltb, eqb→eq}
+use lib.Dec.{T, eqb, ltb, leb, leb→le, ltb→lt, eqb→eq}
 use Rattle.words.specs.Opcode.{Instruction, unword, word, LocalGet}
 use Rattle.definition.specs.Uses.{sumOf}
 use Rattle.definition.specs.FunctionState.{FunctionState, Entry, findName}
@@ -31,7 +31,7 @@ use Rattle.definition.specs.Within.{propertyBound, methodBound, localBou
 use Rattle.definition.specs.Within.{Log, noLog, logOf, logsOf, FunctionLogged, marked, KeepsWithin}
 use Rattle.definition.proofs.Safe.{at, Landed, Counts, Within, Fits, counts, EntryWithin, FunctionSafe, LooseBy, Loose, standingCounts, StandingSafe}
 use Rattle.definition.proofs.Safe.{PriorSafe, PriorWide, below, ProgramSafe}
-use Rattle.definition.proofs.Tests.{both, or-first, or-second, where-holds, eq→eqb, all-below, first-of, second-of}
+use Rattle.definition.proofs.Tests.{Test, both, or-first, or-second, where-holds, less, at-most, equal, passes, all-below, first-of, second-of}
 use Rattle.definition.proofs.Lists.{all-map, all-append, cond-case}
 use Rattle.definition.proofs.Sound.{find-name}
 use Rattle.definition.proofs.Cells.{Wide, Wides, end, _then_, all-at, table-word, table-whole, entries-all, entries-wide, single-length}
@@ -63,39 +63,40 @@ record FunctionWithin (p : Program) (this : List ℕ) (j : ℕ) : Type 0 where
   rescue : field p functionsArea j rescueWord ≤ lengthOf p j
   file : field p functionsArea j functionFileWord < total p booksArea
 
-by-function : (k : Class) (p : Program) (this : List ℕ) (j i n : ℕ) → Within k (countsIn p this j) i n → T (boundByFunction k p j n)
-by-function Position p this j i n h = le→leb _ _ h
-by-function Slot p this j i n h = lt→ltb _ _ h
-by-function Read p this j i n (inl h) = or-first _ _ (lt→ltb _ _ h)
-by-function Read p this j i n (inr h) = or-second _ _ (eq→eqb (h .0))
-by-function Pool p this j i n h = tt
-by-function ContextSlot p this j i n h = tt
-by-function Other p this j i n h = tt
+by-function : (k : Class) (p : Program) (this : List ℕ) (j i n : ℕ) → Within k (countsIn p this j) i n → Test (boundByFunction k p j n)
+by-function Position p this j i n h = at-most n (lengthOf p j) h
+by-function Slot p this j i n h = less n (localsOf p j) h
+by-function Read p this j i n (inl h) = or-first (eqb n 0) (less n (localsOf p j) h)
+by-function Read p this j i n (inr h) = or-second (ltb n (localsOf p j)) (equal (h .0))
+by-function Pool p this j i n h = passes
+by-function ContextSlot p this j i n h = passes
+by-function Other p this j i n h = passes
 
 module _ {p : Program} {this : List ℕ} {j : ℕ} (f : FunctionWithin p this j) where
-  function-bound : T (functionBound p j)
-  function-bound = both _ _ (where-holds _ _ (λ t. le→leb _ _ (f .inside (ltb→lt _ _ t))))
-      (both _ _ (le→leb _ _ (f .rescue)) (lt→ltb _ _ (f .file)))
+  function-bound : Test (functionBound p j)
+  function-bound =
+      both (both (where-holds (ltb 0 (lengthOf p j)) (λ t. at-most (startOf p j + lengthOf p j) (total p codeArea) (f .inside (ltb→lt 0 (lengthOf p j) t))))
+      (at-most (field p functionsArea j rescueWord) (lengthOf p j) (f .rescue))) (less (field p functionsArea j functionFileWord) (total p booksArea) (f .file))
 
   -- an entry of area 1 that the function has
   operand-bound : (i : ℕ) → T (has p j i)
-      → T (boundByFunction (classOf (instructionAt (p .areas) i .opcode)) p j (instructionAt (p .areas) i .operand))
+      → Test (boundByFunction (classOf (instructionAt (p .areas) i .opcode)) p j (instructionAt (p .areas) i .operand))
   operand-bound i t =
-      let from : startOf p j ≤ i = leb→le _ _ (first-of _ _ t) in
-      let to : i < startOf p j + lengthOf p j = ltb→lt _ _ (second-of _ _ t) in
+      let from : startOf p j ≤ i = leb→le (startOf p j) i (first-of (leb (startOf p j) i) (ltb i (startOf p j + lengthOf p j)) t) in
+      let to : i < startOf p j + lengthOf p j = ltb→lt i (startOf p j + lengthOf p j) (second-of (leb (startOf p j) i) (ltb i (startOf p j + lengthOf p j)) t) in
       let k = i - startOf p j in
       let same : startOf p j + k ≡ i = omega arith in
       by-function (classOf (instructionAt (p .areas) i .opcode)) p this j k (instructionAt (p .areas) i .operand)
       (subst (λ n. Fits (countsIn p this j) k (instructionAt (p .areas) n)) same (f .fits k (omega arith)))
 
 -- by totals
-loose-test : (k : Class) (p : Program) (n : ℕ) {K C : ℕ} → total p constantsArea ≡ K → total p contextLocalsArea ≡ C → LooseBy k K C n → T (boundByTotals k p n)
-loose-test Pool p n a b h = lt→ltb n (total p constantsArea) (omega (arith, a))
-loose-test ContextSlot p n a b h = lt→ltb n (total p contextLocalsArea) (omega (arith, b))
-loose-test Position p n a b h = tt
-loose-test Slot p n a b h = tt
-loose-test Read p n a b h = tt
-loose-test Other p n a b h = tt
+loose-test : (k : Class) (p : Program) (n : ℕ) {K C : ℕ} → total p constantsArea ≡ K → total p contextLocalsArea ≡ C → LooseBy k K C n → Test (boundByTotals k p n)
+loose-test Pool p n a b h = less n (total p constantsArea) (omega (arith, a))
+loose-test ContextSlot p n a b h = less n (total p contextLocalsArea) (omega (arith, b))
+loose-test Position p n a b h = passes
+loose-test Slot p n a b h = passes
+loose-test Read p n a b h = passes
+loose-test Other p n a b h = passes
 
 module _ {K C n : ℕ} {at′ : ℕ → Instruction} {f : FunctionState} (safe : FunctionSafe K C f) (long : n ≡ length (f .instructions))
     (same : (i : ℕ) → i < length (f .instructions) → at′ i ≡ at (f .instructions) i) where
@@ -182,28 +183,31 @@ module _ (p : Program) (c : Context) (safe : ProgramSafe c) (fit : OperandsFit c
   function-within : (j : ℕ) → j < length (c .functions)
       → FunctionWithin p (functionAt (c .functions) j .state .thisReads) (length (c .prior .functions) + j)
       × FunctionLogged p (logOf (functionAt (c .functions) j .state)) (length (c .prior .functions) + j)
-  function-within j h = (record {
-    inside = λ k. omega (
-      arith,
-      starts,
-      long,
-      code .total,
-      length-append (c .prior .code) (entriesFrom functionCode 0 fs),
-      functionsCode-length sized,
-      code-inside fs j h,
-    );
-    fits = λ i k. subst (λ (x : Instruction). Fits read i x) (sym (same i (omega (arith, long))))
-        (subst (λ (n : Counts). Fits n i (at l i)) (sym counted) (f-safe .fits i (omega (arith, long))));
-    rescue = omega (arith, word-of rescueWord (omega arith), long, f-safe .rescue);
-    file = omega (arith, word-of functionFileWord (omega arith), books, all-at (safe .parts .functions) j noFunction h .1);
-  }, record {
-    reads = λ i k o z. this-read i (omega (arith, long)) (sym (ap (λ (x : Instruction). x .opcode) (same i (omega (arith, long)))) ∙ o)
-        (sym (word-of localsWord (omega arith)) ∙ z);
-    closed = f-safe .closed;
-    each-loop = λ i k o. f-safe .nexts i (omega (arith, long)) (sym (ap (λ (x : Instruction). x .opcode) (same i (omega (arith, long)))) ∙ o);
-    each-break = f-safe .breaks;
-    loops = all-map (lands f-safe long same) (f-safe .loops);
-  })
+  function-within j h = (
+    record {
+      inside = λ k. omega (
+        arith,
+        starts,
+        long,
+        code .total,
+        length-append (c .prior .code) (entriesFrom functionCode 0 fs),
+        functionsCode-length sized,
+        code-inside fs j h,
+      );
+      fits = λ i k. subst (λ (x : Instruction). Fits read i x) (sym (same i (omega (arith, long))))
+          (subst (λ (n : Counts). Fits n i (at l i)) (sym counted) (f-safe .fits i (omega (arith, long))));
+      rescue = omega (arith, word-of rescueWord (omega arith), long, f-safe .rescue);
+      file = omega (arith, word-of functionFileWord (omega arith), books, all-at (safe .parts .functions) j noFunction h .1);
+    },
+    record {
+      reads = λ i k o z. this-read i (omega (arith, long)) (sym (ap (λ (x : Instruction). x .opcode) (same i (omega (arith, long)))) ∙ o)
+          (sym (word-of localsWord (omega arith)) ∙ z);
+      closed = f-safe .closed;
+      each-loop = λ i k o. f-safe .nexts i (omega (arith, long)) (sym (ap (λ (x : Instruction). x .opcode) (same i (omega (arith, long)))) ∙ o);
+      each-break = f-safe .breaks;
+      loops = all-map (lands f-safe long same) (f-safe .loops);
+    },
+  )
     where
       fs : List Function
       fs = c .functions
@@ -335,8 +339,8 @@ module _ {m : Areas} {t : Totals} (c : Context) (holds : (area : ℕ) → Holds 
   unfolding tablesOf areaBound
   holds-within = record {
     whole = whole;
-    bounds = λ area. all-below (present p area) (entryBound p area) (λ i h. bound area i (omega (arith, present-below p area)));
-    entry = entered (safe .parts .entry);
+    bounds = λ area. all-below (present p area) (entryBound p area) (λ i h. bound area i (omega (arith, present-below p area))) .holds;
+    entry = entered (safe .parts .entry) .holds;
     globals-counted =
         sym (marks-summed (c .pool .globals) 0 (c .pool .constants))
         ∙ (rw (constantsHeld .total, marked-sum constantsHeld _ (le-refl _), take-length) refl);
@@ -453,70 +457,73 @@ module _ {m : Areas} {t : Totals} (c : Context) (holds : (area : ℕ) → Holds 
       codeLoose : All (λ (e : List ℕ). Loose K C (unword (getD e 0 0))) (c .prior .code ++ entriesFrom functionCode 0 (c .functions))
       codeLoose = all-append (safe .parts .prior .code) (code-loose (all-map (λ f s. s .0) (safe .parts .functions)) fit)
 
-      code-bound : (i : ℕ) → i < totalOf t codeArea → T (codeBound p i)
+      code-bound : (i : ℕ) → i < totalOf t codeArea → Test (codeBound p i)
       code-bound i h =
           let (k, q) = held (holds codeArea) codeLoose i h in
           let x : Loose K C (instructionAt m i) = rw (holds codeArea .cells i 0 k (omega arith)) q in
-          both _ _ (loose-test (classOf (instructionAt m i .opcode)) p (instructionAt m i .operand) constantTotal contextTotal x)
+          both (loose-test (classOf (instructionAt m i .opcode)) p (instructionAt m i .operand) constantTotal contextTotal x)
           (all-below (present p functionsArea) (λ j. where′ (has p j i) (boundByFunction (classOf (instructionAt m i .opcode)) p j (instructionAt m i .operand)))
-          (λ j n. where-holds _ _ (each-function (λ n. T (has p n i) → T (boundByFunction (classOf (instructionAt m i .opcode)) p n (instructionAt m i .operand)))
+          (λ j n. where-holds (has p j i) (each-function (λ n. T (has p n i) → Test (boundByFunction (classOf (instructionAt m i .opcode)) p n (instructionAt m i .operand)))
           (λ n this f. operand-bound f i) j (omega (arith, present-below p functionsArea)))))
 
-      constant-bound : (i : ℕ) → i < totalOf t constantsArea → T (constantBound p i)
+      constant-bound : (i : ℕ) → i < totalOf t constantsArea → Test (constantBound p i)
       constant-bound i h =
           let (k, q) = held constantsHeld constantsNamed i h in
           let kind = constantsHeld .cells i 0 k (omega arith) in
           let value = constantsHeld .cells i 1 k (omega arith) in
           let mark = constantsHeld .cells i 2 k (omega arith) in
-          both _ _ (where-holds _ _ (λ z. lt→ltb _ _ (omega (arith, value, modelTotal, q .0 (sym kind ∙ eqb→eq _ _ z)))))
-          (both _ _ (where-holds _ _ (λ z. lt→ltb _ _ (omega (arith, value, functionTotal, q .1 (sym kind ∙ eqb→eq _ _ z)))))
-          (lt→ltb _ _ (omega (arith, mark, q .2))))
+          both (both (where-holds (eqb (field p constantsArea i 0) modelKind) (λ z. less (field p constantsArea i 1) (total p modelsArea)
+          (omega (arith, value, modelTotal, q .0 (sym kind ∙ eqb→eq (field p constantsArea i 0) modelKind z)))))
+          (where-holds (eqb (field p constantsArea i 0) functionKind) (λ z. less (field p constantsArea i 1) (total p functionsArea)
+          (omega (arith, value, functionTotal, q .1 (sym kind ∙ eqb→eq (field p constantsArea i 0) functionKind z))))))
+          (less (field p constantsArea i 2) 2 (omega (arith, mark, q .2)))
 
-      model-bound : (i : ℕ) → i < totalOf t modelsArea → T (modelBound p i)
-      model-bound i h = let (k, q) = held modelsHeld modelsFiled i h in lt→ltb _ _ (omega (arith, modelsHeld .cells i 0 k (omega arith), bookTotal))
+      model-bound : (i : ℕ) → i < totalOf t modelsArea → Test (modelBound p i)
+      model-bound i h = let (k, q) = held modelsHeld modelsFiled i h in less (field p modelsArea i 0) (total p booksArea) (omega (arith, modelsHeld .cells i 0 k (omega arith), bookTotal))
 
-      property-bound : (i : ℕ) → i < totalOf t propertiesArea → T (propertyBound p i)
+      property-bound : (i : ℕ) → i < totalOf t propertiesArea → Test (propertyBound p i)
       property-bound i h =
-          let (k, q) = held propertiesHeld propertiesOwned i h in lt→ltb _ _ (omega (arith, propertiesHeld .cells i 0 k (omega arith), modelTotal))
+          let (k, q) = held propertiesHeld propertiesOwned i h in less (field p propertiesArea i 0) (total p modelsArea) (omega (arith, propertiesHeld .cells i 0 k (omega arith), modelTotal))
 
-      method-bound : (i : ℕ) → i < totalOf t methodsArea → T (methodBound p i)
+      method-bound : (i : ℕ) → i < totalOf t methodsArea → Test (methodBound p i)
       method-bound i h =
           let (k, q) = held methodsHeld methodsNamed i h in
-          both _ _ (lt→ltb _ _ (omega (arith, methodsHeld .cells i 0 k (omega arith), modelTotal, q .0)))
-          (lt→ltb _ _ (omega (arith, methodsHeld .cells i 2 k (omega arith), functionTotal, q .1)))
+          both (less (field p methodsArea i 0) (total p modelsArea) (omega (arith, methodsHeld .cells i 0 k (omega arith), modelTotal, q .0)))
+          (less (field p methodsArea i 2) (total p functionsArea) (omega (arith, methodsHeld .cells i 2 k (omega arith), functionTotal, q .1)))
 
-      local-bound : (i : ℕ) → i < totalOf t contextLocalsArea → T (localBound p i)
+      local-bound : (i : ℕ) → i < totalOf t contextLocalsArea → Test (localBound p i)
       local-bound i h =
           let (k, q) = held localsHeld localsValued i h in
           let mark = localsHeld .cells i 2 k (omega arith) in
-          both _ _ (lt→ltb _ _ (omega (arith, localsHeld .cells i 0 k (omega arith), bookTotal, q .0)))
-          (both _ _ (lt→ltb _ _ (omega (arith, mark, q .1)))
-          (where-holds _ _ (λ z. lt→ltb _ _ (omega (arith, localsHeld .cells i 3 k (omega arith), constantTotal, q .2 (sym mark ∙ eqb→eq _ _ z))))))
+          both (both (less (field p contextLocalsArea i 0) (total p booksArea) (omega (arith, localsHeld .cells i 0 k (omega arith), bookTotal, q .0)))
+          (less (field p contextLocalsArea i 2) 2 (omega (arith, mark, q .1))))
+          (where-holds (eqb (field p contextLocalsArea i 2) 1) (λ z. less (field p contextLocalsArea i 3) (total p constantsArea)
+          (omega (arith, localsHeld .cells i 3 k (omega arith), constantTotal, q .2 (sym mark ∙ eqb→eq (field p contextLocalsArea i 2) 1 z)))))
 
-      public-bound : (i : ℕ) → i < totalOf t publicNamesArea → T (publicBound p i)
+      public-bound : (i : ℕ) → i < totalOf t publicNamesArea → Test (publicBound p i)
       public-bound i h =
           let (k, q) = held publicsHeld publicsNamed i h in
-          both _ _ (lt→ltb _ _ (omega (arith, publicsHeld .cells i 0 k (omega arith), bookTotal, q .0)))
-          (lt→ltb _ _ (omega (arith, publicsHeld .cells i 2 k (omega arith), constantTotal, q .1)))
+          both (less (field p publicNamesArea i 0) (total p booksArea) (omega (arith, publicsHeld .cells i 0 k (omega arith), bookTotal, q .0)))
+          (less (field p publicNamesArea i 2) (total p constantsArea) (omega (arith, publicsHeld .cells i 2 k (omega arith), constantTotal, q .1)))
 
       -- by area
-      by : (area n i : ℕ) {a b : Bool} → i < totalOf t area → (i < totalOf t n → T a) → T b → T (cond (eqb area n) a b)
-      by area n i {a} {b} h f q = cond-case (λ x. T x) (eqb area n) (λ z. f (subst (λ k. i < totalOf t k) (eqb→eq _ _ z) h)) (λ z. q)
+      by : (area n i : ℕ) {a b : Bool} → i < totalOf t area → (i < totalOf t n → Test a) → Test b → Test (cond (eqb area n) a b)
+      by area n i {a} {b} h f q = cond-case (λ x. Test x) (eqb area n) (λ z. f (subst (λ k. i < totalOf t k) (eqb→eq area n z) h)) (λ z. q)
 
-      bound : (area i : ℕ) → i < totalOf t area → T (entryBound p area i)
+      bound : (area i : ℕ) → i < totalOf t area → Test (entryBound p area i)
       bound area i h =
           by area codeArea i h (code-bound i)
           (by area constantsArea i h (constant-bound i)
-          (by area functionsArea i h (each-function (λ n. T (functionBound p n)) (λ n this f. function-bound f) i)
+          (by area functionsArea i h (each-function (λ n. Test (functionBound p n)) (λ n this f. function-bound f) i)
           (by area modelsArea i h (model-bound i)
           (by area propertiesArea i h (property-bound i)
           (by area methodsArea i h (method-bound i)
           (by area contextLocalsArea i h (local-bound i)
-          (by area publicNamesArea i h (public-bound i) tt)))))))
+          (by area publicNamesArea i h (public-bound i) passes)))))))
 
-      entered : EntryWithin F (c .entryPoint) → T (entryPointBound (totalOf t functionsArea) (c .entryPoint))
-      entered (inl q) = or-first _ _ (lt→ltb _ _ (omega (arith, functionTotal)))
-      entered (inr q) = or-second _ _ (both _ _ (eq→eqb (q .0)) (eq→eqb (functionTotal ∙ q .1)))
+      entered : EntryWithin F (c .entryPoint) → Test (entryPointBound (totalOf t functionsArea) (c .entryPoint))
+      entered (inl q) = or-first (eqb (c .entryPoint) 0 && eqb (totalOf t functionsArea) 0) (less (c .entryPoint) (totalOf t functionsArea) (omega (arith, functionTotal)))
+      entered (inr q) = or-second (ltb (c .entryPoint) (totalOf t functionsArea)) (both (equal (q .0)) (equal (functionTotal ∙ q .1)))
 
 -- every table has its area's width
 

@@ -138,14 +138,10 @@ abbrev pub Moving : Step → Type 0
 Moving s = (w : Work) → Moves w (s w)
 
 -- a change of the function state alone
-pub moves-function : {waiting : List ℕ} (w : Work) (f : FunctionState) → Kept (code w) (f .instructions) → f .breakScopes ≡ w .function .breakScopes
-    → w .function .localCount ≤ f .localCount → f .trace ≡ w .function .trace → ((i : ℕ) → Next (f .instructions) i → Next (code w) i ⊎ Among i waiting)
-    → MovesBut waiting w (withFunction f w)
+pub moves-function : (w : Work) (f : FunctionState) → Kept (code w) (f .instructions) → f .breakScopes ≡ w .function .breakScopes
+    → w .function .localCount ≤ f .localCount → f .trace ≡ w .function .trace → ((i : ℕ) → Next (f .instructions) i → Next (code w) i ⊎ Among i [])
+    → Moves w (withFunction f w)
 moves-function w f k b l t n = simply k b (λ e. e) l refl refl t n
-
--- what each ForNext of a code is, where every instruction put in place is none
-abbrev NextsWere : (ℕ → Type 0) → List Instruction → Type 0
-NextsWere P l = (i : ℕ) → i < length l → at l i .opcode ≡ ForNext → P i
 
 -- an opcode that is no ForNext
 abbrev pub NoNext : ℕ → Type 0
@@ -163,7 +159,7 @@ emit-moves i p t w = moves-function w _ (kept-append (code w) (i ∷ [])) refl (
 
 -- a ForNext, whose loop is still to be left
 pub emit-next-moves : (i : Instruction) (p : ℕ) (w : Work) → MovesBut (next w ∷ []) w (emit i p w)
-emit-next-moves i p w = moves-function w _ (kept-append (code w) (i ∷ [])) refl (le-refl _) refl
+emit-next-moves i p w = simply (kept-append (code w) (i ∷ [])) refl (λ e. e) (le-refl _) refl refl refl
     (λ j q. each-snoc (λ k (y : Instruction). y .opcode ≡ ForNext → Next (code w) k ⊎ Among k (next w ∷ [])) (code w) i (λ k r s. inl (r, s)) (λ r. inr here) j
     (q .0) (q .1))
 

@@ -52,7 +52,7 @@ entryKnown p area i =
     (cond (eqb area constantsArea) (valueKnown (field p constantsArea i 0) (field p constantsArea i 1))
     (cond (eqb area functionsArea) (isMark (field p functionsArea i instanceWord) && isText (field p functionsArea i functionNameWord))
     (cond (eqb area contextLocalsArea)
-        (isText (field p contextLocalsArea i 1) && where′ (eqb (field p contextLocalsArea i 2) 0) (eqb (field p contextLocalsArea i 3) 0))
+    (isText (field p contextLocalsArea i 1) && where′ (eqb (field p contextLocalsArea i 2) 0) (eqb (field p contextLocalsArea i 3) 0))
     (cond (eqb area booksArea) (isText (field p booksArea i 0))
     -- areas 4, 5, 6 and 8
     (isText (field p area i 1))))))
