@@ -14,7 +14,7 @@ use Rattle.words.specs.Ast.{Document}
 use Rattle.words.specs.Areas.{clearedFrom, entryField}
 use Rattle.words.specs.Object.{Constant, constantOf}
 use Rattle.words.specs.declared.reply.Reply as struct
-use Rattle.words.specs.Reply.{areaTotals, delivery, refusal}
+use Rattle.words.specs.Reply.{delivery, refusal}
 use Rattle.definition.specs.Uses.{Use, Limits, firstOver}
 use Rattle.definition.specs.Compiler.{Error}
 use Rattle.definition.specs.Book.{hasText, Assembly, Context, newContext}
@@ -30,10 +30,10 @@ use Rattle.documents.specs.Shelf.{shelf}
 use Rattle.documents.specs.Documents.{Resting}
 use Rattle.books.specs.Driving.{Zero, Cleared, Lent, Came, came-delivered, came-faulty}
 use Rattle.books.specs.Driving.{came-ring, Outcome, Accepted, Fronts, Works, MarkedFrom, markOf, Emptied}
-use Rattle.books.specs.Promise.{areas, lengthsOf, saying, answering, logsIn, Compiles}
+use Rattle.definition.specs.Promise.{areas, lengthsOf, saying, answering, logsIn, programOf, Compiles}
 use Rattle.books.specs.Finishing.{totals, Finishes, Runs}
 use Rattle.books.proofs.Whole.{filled-is, delivered-words, delivered-reply}
-use Rattle.books.proofs.Delivering.{compiles}
+use Rattle.definition.proofs.Promise.{compiles}
 use Rattle.books.proofs.Beginning.{zero-filled}
 
 -- an area cleared is zeros
@@ -403,7 +403,7 @@ carried {tree} {after = after} {r} q C = record {
   reply = C .reply ∙ ap (λ (ls : List ℕ). replyOf (answer tree ls)) (sym q);
   words = C .words ∙ ap (λ (ls : List ℕ). areasOf ls (answer tree ls)) (sym q);
   within = λ z. subst
-      (λ (ls : List ℕ). KeepsWithin after (areaTotals (r .totals)) (r .totals .«entry_point») (r .totals .«global_dependencies») (logsIn (answer tree ls)))
+      (λ (ls : List ℕ). KeepsWithin (programOf after r) 0 (logsIn (answer tree ls)))
       (sym q) (C .within z);
 }
 

@@ -17,7 +17,7 @@ use Rattle.building.specs.Held.{Filled}
 use Rattle.documents.specs.declared.book.Book as struct
 use Rattle.documents.specs.Shelf.{shelf, Stock, Keeping}
 use Rattle.documents.specs.Documents.{openedBook, nobody, Resting}
-use Rattle.books.specs.Promise.{areas, lengthsOf, saying}
+use Rattle.definition.specs.Promise.{areas, lengthsOf, saying}
 use Rattle.books.specs.Finishing.{totals}
 
 -- the zeros are as many as are left

@@ -16,5 +16,6 @@ pub mod Operands
 pub mod Counts
 pub mod Tables
 pub mod Delivery
+pub mod Promise
 pub mod Scopes
 pub mod Steady

@@ -8,4 +8,5 @@ pub mod Program
 pub mod Answer
 pub mod Within
 pub mod ProgramCheck
+pub mod Promise
 pub mod Bench
