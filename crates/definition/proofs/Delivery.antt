@@ -19,7 +19,7 @@ use Rattle.definition.specs.Book.{Function, Context, newContext, codeOf,
 use Rattle.definition.specs.Program.{Entries, tablesOf}
 use Rattle.definition.specs.Answer.{Delivery, limitsBy, limitsOf, answerFrom, answer}
 use Rattle.definition.specs.Within.{All, none, _&_, Class, Position, Slot, Read, Pool, ContextSlot, Other, classOf}
-use Rattle.definition.specs.Within.{logsOf, KeepsWithin}
+use Rattle.definition.specs.Within.{logsOf, OnePositionEach, KeepsWithin}
 use Rattle.definition.proofs.Safe.{at, Each, counts, Counts, Within, FunctionSafe, ProgramSafe}
 use Rattle.definition.proofs.Lists.{all-map}
 use Rattle.definition.proofs.Cells.{all-at}
@@ -125,6 +125,10 @@ answer-keeps w lengths c n e =
 pub standing-answer-keeps : (w lengths : List ℕ) (c r : Context) → length lengths ≡ 13 → Stands lengths c → answerFrom c w lengths ≡ Delivery r
     → WordsKeep lengths r
 standing-answer-keeps w lengths c r n s e = standing-keeps c w lengths r n e (s .safe) (standing-fits w lengths c r s e)
+
+-- every function of a delivery has exactly one position for each instruction
+pub one-position-each : (w lengths : List ℕ) (c : Context) → answer w lengths ≡ Delivery c → OnePositionEach (c .functions)
+one-position-each w lengths c e = all-map (λ f s. s .0 .sized) (answer-stands w lengths c e .safe .parts .functions)
 
 -- the entries of each area are within what was lent
 stands-area : (lengths : List ℕ) (c : Context) → Stands lengths c → (area : ℕ) → length (getD (tablesOf c) area []) ≤ limitOf (limitsOf lengths) area

@@ -19,3 +19,5 @@ pub mod Delivery
 pub mod Promise
 pub mod Scopes
 pub mod Steady
+pub mod WithinBench
+pub mod PromiseBench

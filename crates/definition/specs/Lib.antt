@@ -10,3 +10,4 @@ pub mod Within
 pub mod ProgramCheck
 pub mod Promise
 pub mod Bench
+pub mod WithinBench

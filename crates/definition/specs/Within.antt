@@ -270,6 +270,10 @@ abbrev pub logsOf : List Function → List Log
 logsOf [] = []
 logsOf (f ∷ fs) = logOf (f .state) ∷ logsOf fs
 
+-- "exactly one position for each instruction", of the definition's functions: area 1 holds both in one entry
+abbrev pub OnePositionEach : List Function → Type 0
+OnePositionEach fs = All (λ (f : Function). length (f .state .positions) ≡ length (f .state .instructions)) fs
+
 -- function j against its log
 pub record FunctionLogged (p : Program) (g : Log) (j : ℕ) : Type 0 where
   -- a read of a local where the function has none is the read of a 31
