@@ -1,12 +1,14 @@
 -- What no deed changes of a book: what stood before, the books put away, its own name and index; and notes are only added. By cases over each deed. Assumes nothing.
 use Prim.Native.Nat.{ℕ}
-use mathlib.Core.Path.{_≡_, refl, _∙_}
+use mathlib.Core.Path.{_≡_, refl, ap, _∙_}
 use mathlib.Core.Bool.{Bool, true, false, cond}
 use mathlib.Core.Option.{Option, none, some}
 use mathlib.Core.List.{List, [], _∷_}
 use Rattle.words.specs.Ast.{Token, Binding, Alias}
 use Rattle.words.specs.Object.{Constant}
 use Rattle.definition.specs.FunctionState.{findName}
+use Rattle.definition.specs.Prior.{Prior, bookIndex, findPublic}
+use Rattle.definition.specs.Book.{Assembly, findAssembly, publicOf, includedFrom}
 use Rattle.definition.specs.Book.{Book, Deed, working, pushBookError, addBookConstant, noted, defineContextLocalBy, defineContextLocal, setLocalValue}
 use Rattle.definition.specs.Book.{giveValue, includedName, compileAlias, compileIncludeDefinition, Value, Standing, Adding, NoConstant, valueOf, compileValue}
 use Rattle.definition.specs.Book.{compileBindingBy, compileBinding, compileLocalDefinition}
@@ -36,7 +38,12 @@ calm-trans x y = record {
 
 -- so an include finds what it found before
 pub included-calm : {b b′ : Book} (file name : ℕ) → Calm b b′ → includedName file name (b′ .context) ≡ includedName file name (b .context)
-included-calm file name c = rw (c .prior, c .assemblies)
+included-calm {b} {b′} file name c =
+    ap (λ (p : Prior). includedFrom (bookIndex file 0 (p .books)) file name (b′ .context)) (c .prior) ∙ go (bookIndex file 0 (b .context .prior .books))
+  where
+    go : (o : Option ℕ) → includedFrom o file name (b′ .context) ≡ includedFrom o file name (b .context)
+    go none = ap (λ (as′ : List Assembly). publicOf (findAssembly file as′) name) (c .assemblies)
+    go (some i) = ap (λ (p : Prior). findPublic i name (p .publics)) (c .prior)
 
 pub calm-noted : (area n : ℕ) → Calms (noted area n)
 calm-noted area n b = record { uses = more same; prior = refl; assemblies = refl; filename = refl; index = refl }

@@ -119,10 +119,10 @@ first-past test (suc n) from i q = go (test from) (λ r. omega (arith, first-pas
     go true r q = let z : from ≡ i = cc in omega arith
     go false r q = r q
 
-pub model-law : {ps : List ℕ} {m : Shelf} {w : Book} {name : ℕ} → Stock ps m w → (i : ℕ)
+pub model-law : {ps : List ℕ} {m : Shelf} {w : Book} (name : ℕ) → Stock ps m w → (i : ℕ)
     → findContextLocalC (m .book .«first_local») (m .book .locals) name (m .locals) ≡ some i
     → modelAtC i (m .locals) (m .constants) ≡ modelOf (getLocalValue i (w .context))
-model-law {ps} {m} {w} S i found =
+model-law {ps} {m} {w} name S i found =
     let past : length (w .context .prior .locals) ≤ i = omega (arith, S .first-local, first-past _ _ _ i found) in
     rw (
       local-word (w .context .prior .locals) (w .context .localValues) (w .context .localNames) (S .locals) (S .valued) i 2 past (omega arith) apart2 refl,
@@ -181,12 +181,12 @@ module _ {tree : List ℕ} {at : ℕ} {s : struct.Book} {l k e : List ℕ} where
         seeks = λ c f m p t u n b. record {
           meets = λ κ ps w H. rw (
             local-is value (H .rest z) (found-at (findContextLocalC (s .«first_local») (s .locals) name l) searched at-i),
-            ← model-law (H .rest z) i (found-at (findContextLocalC (s .«first_local») (s .locals) name l) searched at-i),
+            ← model-law name (H .rest z) i (found-at (findContextLocalC (s .«first_local») (s .locals) name l) searched at-i),
             found-none (modelAtC i l k) model lost,
           ) (E .deeds c k f m p t l u n b .meets κ ps w H);
           sought = λ κ ps w H q. rw (
             local-is value (H .rest z) (found-at (findContextLocalC (s .«first_local») (s .locals) name l) searched at-i),
-            ← model-law (H .rest z) i (found-at (findContextLocalC (s .«first_local») (s .locals) name l) searched at-i),
+            ← model-law name (H .rest z) i (found-at (findContextLocalC (s .«first_local») (s .locals) name l) searched at-i),
             found-none (modelAtC i l k) model lost,
           );
         };
@@ -198,12 +198,12 @@ module _ {tree : List ℕ} {at : ℕ} {s : struct.Book} {l k e : List ℕ} where
         seeks = λ c f m p t u n b. record {
           meets = λ κ ps w H. rw (
             local-is value (H .rest z) (found-at (findContextLocalC (s .«first_local») (s .locals) name l) searched at-i),
-            ← model-law (H .rest z) i (found-at (findContextLocalC (s .«first_local») (s .locals) name l) searched at-i),
+            ← model-law name (H .rest z) i (found-at (findContextLocalC (s .«first_local») (s .locals) name l) searched at-i),
             found-at (modelAtC i l k) model at-j,
           ) H;
           sought = λ κ ps w H q. rw (
             local-is value (H .rest z) (found-at (findContextLocalC (s .«first_local») (s .locals) name l) searched at-i),
-            ← model-law (H .rest z) i (found-at (findContextLocalC (s .«first_local») (s .locals) name l) searched at-i),
+            ← model-law name (H .rest z) i (found-at (findContextLocalC (s .«first_local») (s .locals) name l) searched at-i),
             found-at (modelAtC i l k) model at-j,
           ) at-j;
         };

@@ -190,7 +190,7 @@ included-law {m = m} {x = x} {books = books} file name S B =
     found =
         let before = stood-found file books stood 0
         (λ j h. rw (zero-add j) (sym (field-in books 1 j 0 (omega arith) (omega arith)) ∙ B .stood j h)) in
-        rw many (first-append (isBook file books) n (length as′) 0) ∙ rw (zero-add n, before)
+        rw (many, first-append (isBook file books) n (length as′) 0, zero-add n, before)
 
     own : Entries
     own = publicEntries (x .assembly .index) (x .assembly .publics)

@@ -48,10 +48,14 @@ pub record ConstantsPlace (s : struct.Book) (k : List ℕ) (s′ : struct.Book) 
 pub record LocalsSeek (s : struct.Book) (l : List ℕ) (s′ : struct.Book) (l′ : List ℕ) (found : Found) (deed : Book → MaybePlaced) : Type 0 where
   pub seeks : (c k f m p t u n b e : List ℕ) → Seeks (shelf s c k f m p t l u n b e) (shelf s′ c k f m p t l′ u n b e) found deed
 
--- a local that may be there is one of those added to a context
+-- a number that may be there is one of n from the first on
+abbrev pub OneOf : Option ℕ → ℕ → ℕ → Type 0
+OneOf none first n = Unit {0}
+OneOf (some i) first n = (first ≤ i) × (i < first + n)
+
+-- a context local that may be there is one of those added
 abbrev pub AddedLocal : Option ℕ → Context → Type 0
-AddedLocal none c = Unit {0}
-AddedLocal (some i) c = (length (c .prior .locals) ≤ i) × (i < length (c .prior .locals) + length (c .localNames))
+AddedLocal o c = OneOf o (length (c .prior .locals)) (length (c .localNames))
 
 -- the local and the constant are the definition's, where nothing is full, and the local is one of the book's context
 pub record Valuable (s : struct.Book) (found : Found) (constant : ℕ) (o : Option ℕ) (v : ℕ) (x : Book) : Type 0 where
