@@ -23,7 +23,7 @@ use Rattle.definition.specs.Book
 use Rattle.words.specs.Ast.{Binding, Alias, FunctionDefinition, Definition, LocalDefinition, IncludeDefinition, ModelDefinition, PublicModelDefinition}
 use Rattle.words.specs.Ast.{PlainFunction, PublicFunction, ImplementDefinition, ApplyDefinition, Document}
 use Rattle.definition.specs.Prior.{Entries, Prior, bookIndex, hasKey, findPublic}
-use Rattle.definition.specs.Book.{Function, Model, Method, Assembly, Context, functionCount, modelCount, bookCount, includedBy, includedName}
+use Rattle.definition.specs.Book.{Function, Model, Method, Assembly, Context, functionCount, modelCount, bookCount, includedFrom, includedName}
 use Rattle.definition.specs.Book.{Deed, working, resumed, Placed, addBookConstant, MaybePlaced, defineContextLocal, defineContextLocalBy}
 use Rattle.definition.specs.Book.{setLocalValue, findAssembly, publicOf, giveValue, compileAlias, compileIncludeDefinition, Value, Standing, Adding}
 use Rattle.definition.specs.Book.{NoConstant, valueOf, compileValue, compileBindingBy, compileBinding, compileLocalDefinition}
@@ -328,7 +328,7 @@ find-public m n i b g e = by (bookIndex m 0 (b .context .prior .books)) e
     go (some a) q r = find-name n i (find-assembly {P = λ (x : Assembly). (x .index < bookCount (b .context) + 1)
         × All (λ (y : Entry). y .index < length (b .context .pool .constants)) (x .publics)} m a _ (g .parts .publics) q .1) r
 
-    by : (o : Option ℕ) → includedBy o m n (b .context) ≡ some i → i < length (b .context .pool .constants)
+    by : (o : Option ℕ) → includedFrom o m n (b .context) ≡ some i → i < length (b .context .pool .constants)
     by none q = go (findAssembly m (b .context .assemblies)) refl q
     by (some k) q = standing-public k n i (all-map (λ x h. h .1) (g .parts .prior .publics)) q
 

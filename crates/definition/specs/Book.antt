@@ -296,14 +296,14 @@ abbrev pub publicOf : Option Assembly → ℕ → Option ℕ
 publicOf none n = none
 publicOf (some a) n = findName n (a .publics)
 
--- a public name of a file: of the book that stands, if one does
-abbrev pub includedBy : Option ℕ → ℕ → ℕ → Context → Option ℕ
-includedBy (some book) file name c = findPublic book name (c .prior .publics)
-includedBy none file name c = publicOf (findAssembly file (c .assemblies)) name
+-- a public name of a file: of the book that stood before, if one did
+abbrev pub includedFrom : Option ℕ → ℕ → ℕ → Context → Option ℕ
+includedFrom (some book) file name c = findPublic book name (c .prior .publics)
+includedFrom none file name c = publicOf (findAssembly file (c .assemblies)) name
 
 -- `find_constant_index_by_include`: the rule of one included name (change point of 2026-07)
 abbrev pub includedName : ℕ → ℕ → Context → Option ℕ
-includedName file name c = includedBy (bookIndex file 0 (c .prior .books)) file name c
+includedName file name c = includedFrom (bookIndex file 0 (c .prior .books)) file name c
 
 abbrev pub giveValue : Option ℕ → Option ℕ → Deed
 giveValue local none b = b

@@ -83,22 +83,39 @@ errorEntry i e = (e .number ∷ e .token .position ∷ e .token .kind ∷ e .tok
 abbrev pub bookEntry : ℕ → Assembly → Entries
 bookEntry i a = (a .filename ∷ []) ∷ []
 
--- the entries of the areas, by area from 1
+-- the entries of an area: those that stood before a bundle, then those added
+abbrev pub codeTable : Context → Entries
+codeTable c = c .prior .code ++ entriesFrom functionCode 0 (c .functions)
+
+abbrev pub constantTable : Context → Entries
+constantTable c = entriesFrom (constantEntry (c .pool .globals)) 0 (c .pool .constants)
+
+abbrev pub functionTable : Context → Entries
+functionTable c = c .prior .functions ++ functionEntries (length (c .prior .code)) (c .functions)
+
+abbrev pub modelTable : Context → Entries
+modelTable c = c .prior .models ++ entriesFrom modelEntry 0 (c .models)
+
+abbrev pub propertyTable : Context → Entries
+propertyTable c = c .prior .properties ++ entriesFrom modelProperties (length (c .prior .models)) (c .models)
+
+abbrev pub methodTable : Context → Entries
+methodTable c = entriesFrom methodEntry 0 (c .methods)
+
+abbrev pub localTable : Context → Entries
+localTable c = c .prior .locals ++ entriesFrom (localEntry (c .localValues)) (length (c .prior .locals)) (c .localNames)
+
+abbrev pub publicTable : Context → Entries
+publicTable c = c .prior .publics ++ entriesFrom assemblyPublics 0 (c .assemblies)
+
+abbrev pub bookTable : Context → Entries
+bookTable c = c .prior .books ++ entriesFrom bookEntry 0 (c .assemblies)
+
+-- by area from 1
 unfoldable pub tablesOf : Context → List Entries
 tablesOf c =
-    [] ∷ (c .prior .code ++ entriesFrom functionCode 0 (c .functions))
-    ∷ entriesFrom (constantEntry (c .pool .globals)) 0 (c .pool .constants)
-    ∷ (c .prior .functions ++ functionEntries (length (c .prior .code)) (c .functions))
-    ∷ (c .prior .models ++ entriesFrom modelEntry 0 (c .models))
-    ∷ (c .prior .properties ++ entriesFrom modelProperties (length (c .prior .models)) (c .models))
-    ∷ entriesFrom methodEntry 0 (c .methods)
-    ∷ (c .prior .locals ++ entriesFrom (localEntry (c .localValues)) (length (c .prior .locals)) (c .localNames))
-    ∷ (c .prior .publics ++ entriesFrom assemblyPublics 0 (c .assemblies))
-    ∷ []
-    ∷ []
-    ∷ []
-    ∷ (c .prior .books ++ entriesFrom bookEntry 0 (c .assemblies))
-    ∷ []
+    [] ∷ codeTable c ∷ constantTable c ∷ functionTable c ∷ modelTable c ∷ propertyTable c ∷ methodTable c ∷ localTable c ∷ publicTable c ∷ [] ∷ [] ∷ []
+    ∷ bookTable c ∷ []
 
 -- after a refusal: the errors alone
 unfoldable pub errorTables : List Error → List Entries
