@@ -4,6 +4,7 @@ pub mod Compiler
 pub mod Prior
 pub mod Book
 pub mod DependencySolver
+pub mod Needed
 pub mod Program
 pub mod Answer
 pub mod Within
