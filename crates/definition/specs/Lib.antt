@@ -9,3 +9,4 @@ pub mod Program
 pub mod Answer
 pub mod Within
 pub mod Bench
+pub mod PriorBench
