@@ -185,6 +185,7 @@ pub standing-keeps : (c₀ : Context) (w lengths : List ℕ) (c : Context) → l
     → OperandsFit c → WordsKeep lengths c (programLogs c)
 standing-keeps c₀ w lengths c n q safe fit = program-keeps lengths c n (delivery-safe c₀ w lengths c q safe) fit
 
-pub delivery-keeps : (w lengths : List ℕ) (c : Context) → length lengths ≡ 13 → answer w lengths ≡ Delivery c → OperandsFit c → WordsKeep lengths c (programLogs c)
+pub delivery-keeps : (w lengths : List ℕ) (c : Context) → length lengths ≡ 13 → answer w lengths ≡ Delivery c → OperandsFit c
+    → WordsKeep lengths c (programLogs c)
 unfolding answer
 delivery-keeps w lengths c n q fit = standing-keeps newContext w lengths c n q fresh-safe fit

@@ -30,7 +30,8 @@ use Rattle.definition.proofs.Sound.{find-name}
 use Rattle.definition.proofs.Cells.{Wide, Wides, end, _then_, all-at, table-word, table-whole, entries-all, entries-wide, single-length}
 use Rattle.words.proofs.Codes.{unword-word}
 use Rattle.definition.proofs.FunctionCode.{OperandsFit, Sized, functionAt, noFunction, functionsCode-length, functionsCode-at}
-use Rattle.definition.proofs.FunctionCode.{functionsCode-wide, functions-length, functions-wide, functions-at, code-inside, logs-at, standing-log-at, added-log-at}
+use Rattle.definition.proofs.FunctionCode.{functionsCode-wide, functions-length, functions-wide, functions-at, code-inside, logs-at}
+use Rattle.definition.proofs.FunctionCode.{standing-log-at, added-log-at}
 
 -- an area holds entries, all of them and whole
 pub record Holds (m : Areas) (t : Totals) (area : ℕ) (es : Entries) : Type 0 where
@@ -318,7 +319,8 @@ module _ {m : Areas} {t : Totals} (c : Context) (holds : (area : ℕ) → Holds 
       publicsHeld = holds publicNamesArea
 
       functionTotal : totalOf t functionsArea ≡ F
-      functionTotal = holds functionsArea .total ∙ length-append (c .prior .functions) _ ∙ ap (λ k. length (c .prior .functions) + k) (functions-length _ (c .functions))
+      functionTotal = holds functionsArea .total ∙ length-append (c .prior .functions) _
+          ∙ ap (λ k. length (c .prior .functions) + k) (functions-length _ (c .functions))
 
       constantTotal : totalOf t constantsArea ≡ K
       constantTotal = constantsHeld .total ∙ single-length _ 0 (c .pool .constants)
