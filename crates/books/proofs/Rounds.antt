@@ -64,9 +64,9 @@ module _ (calm : (d : Definition) → Calms (compileDefinition d)) {tree : List 
     };
   }
 
-same-files : {c c′ : Context} {x y : ℕ} → c′ .prior ≡ c .prior → c′ .assemblies ≡ c .assemblies → x ≡ y
+same-files : (c c′ : Context) {x y : ℕ} → c′ .prior ≡ c .prior → c′ .assemblies ≡ c .assemblies → x ≡ y
     → loadedOf c′ ++ (x ∷ []) ≡ loadedOf c ++ (y ∷ [])
-same-files p q r = rw (p, q, r)
+same-files c c′ p q r = rw (p, q, r)
 
 in-sets : (size : ℕ) (ds : List Document) → InSets size ds → All (λ (d : Document). d .filename < size) ds
 in-sets size [] h = none
@@ -186,7 +186,7 @@ module _ {tree : List ℕ} {end done count : ℕ} {set books : List ℕ} {s : st
             let C = calm-definitions calm (R .book .definitions) (opened (R .book) context uses) in
             let clean : x .compiler .errors ≡ [] = no-errors (x .compiler .errors) (R .kept .rest z₁ .errors) in
             let files : loadedOf (putAway x) ≡ loadedOf context ++ (file ∷ []) =
-            loaded-more x ∙ same-files (C .prior) (C .assemblies) (C .filename ∙ sym (R .same)) in
+            loaded-more x ∙ same-files context (x .context) (C .prior) (C .assemblies) (C .filename ∙ sym (R .same)) in
             let next : Driving ds tree end (done + 1) count (without file left) rest (file ∷ compiled) set₁ books₁ κ s₁ c₁ k₁ f₁ m₁ p₁ t₁ l₁ u₁ n₁ b₁ e₁
             (putAway x) (x .uses) = record {
               distinct = D .distinct;

@@ -20,7 +20,8 @@ use Rattle.definition.specs.FunctionState.{Entry, FunctionState, findNam
 use Rattle.definition.specs.Prior.{Entries, Prior, nothingStands, fileNumbers}
 use Rattle.definition.specs.Uses.{Use, using′, greatestUse, sumOf}
 use Rattle.definition.specs.Compiler.{Error, Work, Added, compileFunctionDefinitionBase}
-use Rattle.definition.specs.Book.{Function, Model, Assembly, Context, codeCount, functionCount, modelCount, propertyCount, publicCount, bookCount, working, resumed, Placed, addBookConstant, defineContextLocal}
+use Rattle.definition.specs.Book.{Function, Model, Assembly, Context, codeCount, functionCount, modelCount, propertyCount, publicCount, bookCount}
+use Rattle.definition.specs.Book.{working, resumed, Placed, addBookConstant, defineContextLocal}
 use Rattle.definition.specs.Book.{defineContextLocalBy, setLocalValue, includedName, giveValue, compileAlias, compileIncludeDefinition, Value}
 use Rattle.definition.specs.Book.{Standing, Adding, NoConstant, valueOf, compileValue, compileBindingBy, compileBinding, compileLocalDefinition}
 use Rattle.definition.specs.Book.{hasText, Properties, addProperty, compileProperties, addModel, compileModelDefinition}
@@ -256,7 +257,8 @@ module _ {S : ℕ → ℕ} {P : Prior} {left : ℕ} where
 
   kept-methods : (o : Option ℕ) (es : List Entry) (b : Book.Book) → BookKept S P left b → BookKept S P left (addMethods o es b)
   kept-methods none es b k = k
-  kept-methods (some m) es b k = record { prior = k .prior; functions = k .functions; counted = counted-at methodsArea _ noted-here (counted-more (k .counted)) }
+  kept-methods (some m) es b k =
+      record { prior = k .prior; functions = k .functions; counted = counted-at methodsArea _ noted-here (counted-more (k .counted)) }
 
   kept-compile-methods : (fs : List FunctionDefinition) → All LimitedFunction fs → (es : List Entry) (b : Book.Book) → BookKept S P left b
       → BookKept S P left (compileMethods fs es b .book)
@@ -303,7 +305,8 @@ document-kept : {S : ℕ → ℕ} {P : Prior} {left : ℕ} (d : Document) (c : C
 unfolding compileDocument
 document-kept {S} {P} {left} d c us h k =
     let b = compileDefinitions (d .definitions) (opened d c us) in
-    let g : BookKept S P (suc left) b = kept-definitions (d .definitions) h .keeps (opened d c us) (record { prior = k .prior; functions = k .functions; counted = k .counted }) in
+    let g : BookKept S P (suc left) b =
+    kept-definitions (d .definitions) h .keeps (opened d c us) (record { prior = k .prior; functions = k .functions; counted = k .counted }) in
     let publics = sum-append (λ (a : Assembly). length (a .publics)) (b .context .assemblies) (b .assembly) in
     record {
       prior = g .prior;
@@ -352,7 +355,8 @@ drive-kept {S} {P} (suc k) ds done left c r us h s e = go (ready ds done left) r
     after d m [] rest = rest _ _ (document-kept d c us m s)
     after d m (x ∷ es) rest = λ q. absurd (let z : _≡_ {A = ℕ} 0 1 = cc in omega arith)
 
-    go : (o : Option Document) → ready ds done left ≡ o → ((d : Document) (c′ : Context) (us′ : List Use) → ContextKept S P k c′ us′ → Ends S P r (next d c′ us′))
+    go : (o : Option Document) → ready ds done left ≡ o
+        → ((d : Document) (c′ : Context) (us′ : List Use) → ContextKept S P k c′ us′ → Ends S P r (next d c′ us′))
         → Ends S P r (driveBy o left c us next)
     go none f rest = λ q. absurd (let z : _≡_ {A = ℕ} 0 1 = cc in omega arith)
     go (some d) f rest = after d (ready-among ds done left d h f) (compileDocument d c us .compiler .errors) (rest d)
@@ -397,7 +401,8 @@ module _ (numbers : List ℕ) (ds : List Document) (r : Context) (h : All Limite
         counted = counted-at booksArea _ (noted-less _ (omega (arith, loaded-length c)) noted-here) (standing-counted c _);
       }) e
 
-  pub fresh-noted : compileNeeded numbers ds newContext .ending ≡ Delivered r → ContextKept (λ area. 0) nothingStands 0 r (compileNeeded numbers ds newContext .uses)
+  pub fresh-noted : compileNeeded numbers ds newContext .ending ≡ Delivered r
+      → ContextKept (λ area. 0) nothingStands 0 r (compileNeeded numbers ds newContext .uses)
   unfolding compileNeeded
   fresh-noted e =
       drive-kept (length numbers) ds _ numbers newContext r _ h (record {

@@ -399,7 +399,8 @@ module _ {m : Areas} {t : Totals} (c : Context) (holds : (area : ℕ) → Holds 
       publicsHeld = holds publicNamesArea
 
       functionTotal : totalOf t functionsArea ≡ F
-      functionTotal = holds functionsArea .total ∙ length-append (c .prior .functions) _ ∙ ap (λ k. length (c .prior .functions) + k) (functions-length _ (c .functions))
+      functionTotal = holds functionsArea .total ∙ length-append (c .prior .functions) _
+          ∙ ap (λ k. length (c .prior .functions) + k) (functions-length _ (c .functions))
 
       constantTotal : totalOf t constantsArea ≡ K
       constantTotal = constantsHeld .total ∙ single-length _ 0 (c .pool .constants)

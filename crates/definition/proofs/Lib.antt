@@ -1,4 +1,5 @@
 pub mod AllRows
+pub mod AllStandingRows
 pub mod Safe
 pub mod Lists
 pub mod Needed

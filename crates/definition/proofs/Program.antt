@@ -150,7 +150,10 @@ record BookPlaced (b : Book.Book) (p : Placed) : Type 0 where
 constant-placed : (c : Constant) (b : Book.Book) → BookGood b → Named (modelCount (b .context)) (functionCount (b .context)) c
     → BookPlaced b (addBookConstant c b)
 constant-placed c b g n = added-case (λ (a : Added). BookPlaced b (record { place = a .index; book = resumed (a .work) b })) c (working b) new
-    (λ i h. record { good = record { parts = g .parts; pool = g .pool; names = g .names; own = g .own; index = g .index; counted = g .counted; wide = g .wide }; inside = h })
+    (λ i h. record {
+      good = record { parts = g .parts; pool = g .pool; names = g .names; own = g .own; index = g .index; counted = g .counted; wide = g .wide };
+      inside = h;
+    })
   where
     cs : List Constant
     cs = b .context .pool .constants
@@ -473,7 +476,8 @@ model-added b ps n g = record {
     mine : b .assembly .index < bookCount (b .context) + 1
     mine = omega (arith, g .index)
 
-    p : Parts (length (b .context .pool .constants)) (b .context .pool .localCount) (length (b .context .prior .models) + length (b .context .models ++ (m ∷ [])))
+    p : Parts (length (b .context .pool .constants)) (b .context .pool .localCount)
+        (length (b .context .prior .models) + length (b .context .models ++ (m ∷ [])))
         (functionCount (b .context)) (bookCount (b .context) + 1) (b .context)
     p = parts-mono (le-refl _) (le-refl _) (omega (arith, length-append (b .context .models) (m ∷ []))) (le-refl _) (le-refl _) (g .parts)
 

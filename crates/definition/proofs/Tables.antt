@@ -7,7 +7,8 @@ use mathlib.Core.List.{List, [], _∷_, _++_, map}
 use lib.ListN.{length, length-append}
 use Rattle.definition.specs.FunctionState.{Entry}
 use Rattle.definition.specs.Book.{Function, Context, publicCount, bookCount}
-use Rattle.definition.specs.Program.{Entries, entriesFrom, functionCode, functionEntries, constantEntry, modelEntry, propertyEntries, modelProperties, methodEntry, localEntry}
+use Rattle.definition.specs.Program.{Entries, entriesFrom, functionCode, functionEntries, constantEntry, modelEntry, propertyEntries, modelProperties}
+use Rattle.definition.specs.Program.{methodEntry, localEntry}
 use Rattle.definition.specs.Program.{publicEntries, assemblyPublics, bookEntry, tablesOf}
 use Rattle.definition.proofs.Safe.{ProgramSafe}
 use Rattle.definition.proofs.Lists.{all-map}

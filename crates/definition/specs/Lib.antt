@@ -12,3 +12,4 @@ pub mod ProgramCheck
 pub mod Promise
 pub mod Bench
 pub mod WithinBench
+pub mod PriorBench

@@ -1,4 +1,5 @@
--- What no deed changes of a book: what stood before, the books put away, its own name and index; and notes are only added. By cases over each deed. Assumes nothing.
+-- What no deed changes of a book: what stood before, the books put away, its own name and index; and notes are only added. By cases over each
+-- deed. Assumes nothing.
 use Prim.Native.Nat.{ℕ}
 use mathlib.Core.Path.{_≡_, refl, ap, _∙_}
 use mathlib.Core.Bool.{Bool, true, false, cond}

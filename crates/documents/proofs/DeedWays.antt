@@ -110,7 +110,7 @@ module _ {s : struct.Book} {c k f m p t l u n b e : List ℕ} {x : Book} where
         locals = rw (
           locals-entries (length stood) (x .context .localValues) (x .context .localNames) entry (S .valued),
           ← append-assoc stood (entriesFrom (localEntry (x .context .localValues)) (length stood) (x .context .localNames))
-          ((x .assembly .index ∷ name ∷ 0 ∷ 0 ∷ []) ∷ []),
+              ((x .assembly .index ∷ name ∷ 0 ∷ 0 ∷ []) ∷ []),
           ← S .file,
         ) filled;
         counted = rw (length-append (x .context .localNames) (entry ∷ [])) (omega (arith, S .counted));

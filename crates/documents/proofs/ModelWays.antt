@@ -10,7 +10,8 @@ use Rattle.words.specs.Areas.{modelsArea}
 use Rattle.words.specs.Object.{constantOf, modelKind}
 use Rattle.words.specs.Record.{valueAt}
 use Rattle.definition.specs.Uses.{Limits}
-use Rattle.definition.specs.Book.{Context, Book, Placed, Deed, Model, modelCount, withModels, compileProperties, addModel, addBookConstant, defineContextLocal, compileModelDefinition, publish}
+use Rattle.definition.specs.Book.{Context, Book, Placed, Deed, Model, modelCount, withModels, compileProperties, addModel, addBookConstant}
+use Rattle.definition.specs.Book.{defineContextLocal, compileModelDefinition, publish}
 use Rattle.definition.specs.Program.{Entries, entriesFrom, modelEntry, modelProperties, propertyEntries, modelTable, propertyTable}
 use Rattle.building.specs.declared.scopes.Found.{Found}
 use Rattle.building.specs.declared.taking.Taken.{Taken}

@@ -52,7 +52,8 @@ found-append index name (x ∷ xs) ys =
     go (hasKey index name x) (found-append index name xs ys)
   where
     go : (b : Bool) → findPublic index name (xs ++ ys) ≡ orElse (findPublic index name xs) (findPublic index name ys)
-        → cond b (some (getD x 2 0)) (findPublic index name (xs ++ ys)) ≡ orElse (cond b (some (getD x 2 0)) (findPublic index name xs)) (findPublic index name ys)
+        → cond b (some (getD x 2 0)) (findPublic index name (xs ++ ys))
+        ≡ orElse (cond b (some (getD x 2 0)) (findPublic index name xs)) (findPublic index name ys)
     go true h = refl
     go false h = h
 
