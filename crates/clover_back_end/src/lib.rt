@@ -7,7 +7,7 @@ use column_files::records_to_columns;
 use tree::Shape;
 use tree::check;
 use words::reply::Reply;
-ghost use Rattle.books.specs.Promise.{areas, Compiles};
+ghost use Rattle.definition.specs.Promise.{areas, Compiles};
 ghost use mathlib.Core.Path.{_≡_};
 ghost use lib.ListN.{length};
 ghost use Rattle.tree.specs.Check.{shapeOf};
