@@ -17,3 +17,4 @@ pub mod Tables
 pub mod Delivery
 pub mod Scopes
 pub mod Steady
+pub mod SharedOnce

@@ -131,10 +131,10 @@ bench-f : run (function 4 (r 25 2 0 0 (r 33 1 0 7 (r 25 2 0 0 (r 33 1 0 7 []))))
 unfolding run delivered refused function-of
 bench-f = refl
 
--- 0.5 twice: 3 and 4 (2026-05 makes it 3 and 3)
+-- 0.5 twice: constant 3 twice (2026-05)
 bench-f-floats : run (function 4 (r 25 2 0 0 (r 34 1 0 4602678819172646912 (r 25 2 0 0 (r 34 1 0 4602678819172646912 []))))) ample
-    ≡ delivered (function-of (op PushConstant 3 ∷ op Pop 0 ∷ op PushConstant 4 ∷ op ReturnOp 0 ∷ []) (0 ∷ 0 ∷ 0 ∷ 0 ∷ []) 0 0 ∷ [])
-    (4602678819172646912 ∷ 4602678819172646912 ∷ 0 ∷ [])
+    ≡ delivered (function-of (op PushConstant 3 ∷ op Pop 0 ∷ op PushConstant 3 ∷ op ReturnOp 0 ∷ []) (0 ∷ 0 ∷ 0 ∷ 0 ∷ []) 0 0 ∷ [])
+    (4602678819172646912 ∷ 0 ∷ [])
 unfolding run delivered refused function-of
 bench-f-floats = refl
 

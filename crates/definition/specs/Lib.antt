@@ -6,4 +6,5 @@ pub mod DependencySolver
 pub mod Program
 pub mod Answer
 pub mod Within
+pub mod SharedOnce
 pub mod Bench
