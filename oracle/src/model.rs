@@ -13,7 +13,7 @@ const RING: u64 = 8;
 const AREA_FULL: u64 = 9;
 const NAME_NOT_PUBLIC: u64 = 11;
 
-mod op {
+pub mod op {
     pub const POP: u64 = 0x01;
     pub const PUSH_CONSTANT: u64 = 0x02;
     pub const RETURN: u64 = 0x05;
