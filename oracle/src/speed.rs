@@ -320,11 +320,13 @@ pub fn run(side: &mut dyn Side, only: Option<&Shape>, runs: usize, longest: f64,
                 .collect(),
         )
     };
-    println!(
-        "Median of the ratios: {:.2}; of the shapes where nothing is searched: {:.2}",
-        all(|_| true),
-        all(|shape| shape.squared.is_none())
-    );
+    if only.is_none() {
+        println!(
+            "Median of the ratios: {:.2}; of the shapes where nothing is searched: {:.2}",
+            all(|_| true),
+            all(|shape| shape.squared.is_none())
+        );
+    }
     println!();
     plot(&ratios);
     println!();
