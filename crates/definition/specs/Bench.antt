@@ -7,7 +7,7 @@ use Rattle.words.specs.Opcode.{Instruction, toInstruction, word, Pop, PushConst
 use Rattle.words.specs.Opcode.{Iterate, InstanceSet, InstanceGetOp}
 use Rattle.words.specs.Opcode.{OPERATION_ADD, OPERATION_SUB, OPERATION_MULTIPLY, OPERATION_DIVIDE, OPERATION_MOD, OPERATION_EQUAL, OPERATION_GREATER}
 use Rattle.words.specs.Opcode.{OPERATION_LESS, OPERATION_GREATER_EQUAL, OPERATION_LESS_EQUAL, OPERATION_AND, OPERATION_OR}
-use Rattle.words.specs.Record.{fieldOf}
+use Rattle.words.specs.Record.{fieldOf, packPosition}
 use Rattle.tree.specs.Check.{shapeOf, walkBy, headAt, soundAt, thisAfter, sameThis, lacksBy, withinOf}
 use Rattle.tree.specs.Rules.{mayStand, slotAfter, isDue, firstSlot, goesOn, inRange}
 use Rattle.tree.specs.Reading.{expressionOf, listOf, pairsOf, parametersOf, definitionOf, documentOf, documentsOf}
@@ -225,14 +225,20 @@ level-65 : run (deep 62) (0 ∷ replicate 12 400) ≡ refused 4 64 []
 unfolding run delivered refused function-of
 level-65 = refl
 
--- the book of 01's listing: a public function f with parameter x, `if x return end`
+-- the book of 01's listing: a public function f with parameter x, `if x return end`; the positions of x and of `return`
+abbrev pub atX : ℕ
+atX = packPosition 2 6
+
+abbrev pub atReturn : ℕ
+atReturn = packPosition 3 5
+
 abbrev pub example : List ℕ
-example = r 1 8 0 2 (r 15 7 65546 3 (r 40 1 0 4 (r 25 5 0 0 (r 42 4 0 0 (r 30 1 131078 4 (r 43 2 0 0 (r 21 1 196613 0 [])))))))
+example = r 1 8 0 2 (r 15 7 (packPosition 1 10) 3 (r 40 1 0 4 (r 25 5 0 0 (r 42 4 0 0 (r 30 1 atX 4 (r 43 2 0 0 (r 21 1 atReturn 0 [])))))))
 
 -- its function
 example-compiled : run example ample ≡ delivered (function-of
     (op LocalGet 0 ∷ op JumpIf 4 ∷ op PushConstant 0 ∷ op Jump 6 ∷ op PushConstant 0 ∷ op ReturnOp 0 ∷ [])
-    (131078 ∷ 131078 ∷ 131078 ∷ 131078 ∷ 131078 ∷ 196613 ∷ []) 1 0 ∷ []) (0 ∷ [])
+    (atX ∷ atX ∷ atX ∷ atX ∷ atX ∷ atReturn ∷ []) 1 0 ∷ []) (0 ∷ [])
 unfolding run delivered refused function-of
 example-compiled = refl
 
@@ -371,8 +377,8 @@ unfolding run tablesOf errorTables areasOf word
 words w lengths = areasOf lengths (answer w lengths)
 
 example-words : words example exact ≡ []
-    ∷ (504403158265495552 ∷ 131078 ∷ 5908722711110090756 ∷ 131078 ∷ 144115188075855872 ∷ 131078 ∷ 5836665117072162822 ∷ 131078 ∷ 144115188075855872
-    ∷ 131078 ∷ 360287970189639680 ∷ 196613 ∷ 0 ∷ 0 ∷ [])
+    ∷ (504403158265495552 ∷ atX ∷ 5908722711110090756 ∷ atX ∷ 144115188075855872 ∷ atX ∷ 5836665117072162822 ∷ atX ∷ 144115188075855872
+    ∷ atX ∷ 360287970189639680 ∷ atReturn ∷ 0 ∷ 0 ∷ [])
     ∷ (0 ∷ 0 ∷ 0 ∷ 1 ∷ 1 ∷ 0 ∷ 1 ∷ 0 ∷ 0 ∷ 6 ∷ 0 ∷ 0 ∷ [])
     ∷ (1 ∷ 1 ∷ 0 ∷ 0 ∷ 0 ∷ 6 ∷ 0 ∷ 3 ∷ [])
     ∷ [] ∷ [] ∷ []

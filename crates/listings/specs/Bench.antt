@@ -7,6 +7,7 @@ use lib.ListN.{getD, replicate}
 use lib.Dec.{leb}
 use Rattle.words.specs.Opcode.{word, unword}
 use Rattle.words.specs.Program.{codeOf}
+use Rattle.words.specs.Record.{packPosition}
 use Rattle.words.specs.declared.reply.Reply.{Reply}
 use Rattle.words.specs.declared.reply.Totals.{Totals}
 use Rattle.definition.specs.Answer.{Reply as Answered, answer, replyOf, areasOf}
@@ -105,7 +106,7 @@ unfolding listed models sections-5-to-7
 by-model = refl
 
 -- a refusal: its line, and the errors
-faulty : listed (r 1 3 0 2 (r 16 2 65543 3 (r 14 1 0 4 []))) (0 ∷ replicate 12 100) ≡ l 0 7 2 0 0 0 0 0 ∷ l 11 0 10 1 7 16 0 3 ∷ []
+faulty : listed (r 1 3 0 2 (r 16 2 (packPosition 1 7) 3 (r 14 1 0 4 []))) (0 ∷ replicate 12 100) ≡ l 0 7 2 0 0 0 0 0 ∷ l 11 0 10 1 7 16 0 3 ∷ []
 unfolding listed
 faulty = refl
 
