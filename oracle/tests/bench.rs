@@ -3,14 +3,14 @@
 use oracle::areas::{answer, Answer, Delivery, FunctionAnswer, UNLIMITED};
 use oracle::listing::{listing, listing_of_column};
 use oracle::model::{compile, instruction};
-use oracle::pieces::{bench, body, deep, doubled, example, more, with_text};
+use oracle::pieces::{bench, body, deep, doubled, example, more, requests, with_text};
 use oracle::real::{run, Outcome};
 use oracle::records::{flatten, records, Node, MAX_RECORDS, MAX_TEXT};
 use oracle::shape::check;
 use oracle::{columns, pieces};
 
 fn piece(name: &str) -> Vec<u64> {
-    let all = [bench(), more()].concat();
+    let all = [bench(), more(), requests()].concat();
     all.into_iter().find(|(known, _)| *known == name).unwrap_or_else(|| panic!("no piece {name}")).1
 }
 
@@ -95,7 +95,7 @@ fn f_equal_integers_and_equal_floats_share() {
 fn floats_share_by_their_bits() {
     const FLOAT: u64 = 3;
     const INTEGER: u64 = 2;
-    let delivery = delivered(&piece("floats by their bits"));
+    let delivery = delivered(&piece("2026-05 floats by their bits"));
     let floats = [0.5f64.to_bits(), 0, 1 << 63, 0x7FF8_0000_0000_0000, 0x7FF8_0000_0000_0001];
     let [half, zero, minus_zero, nan, other_nan] = floats.map(|bits| (FLOAT, bits));
     let pool = [half, zero, minus_zero, (INTEGER, 0), (INTEGER, 1 << 63), nan, other_nan];
@@ -228,7 +228,7 @@ fn the_panic_is_caught_and_foretold() {
 
 #[test]
 fn every_small_piece_is_the_same_from_both() {
-    for (name, words) in [bench(), more()].concat() {
+    for (name, words) in [bench(), more(), requests()].concat() {
         let model = compile(&words, &UNLIMITED);
         if model.reply.row == 0 || model.reply.row >= 6 {
             match run(&records(&words)) {
