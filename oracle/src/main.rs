@@ -34,7 +34,7 @@ oracle convert [--seed S] [--count N] [--large] [--limits]
     or over those at the limits
 oracle bench [--runs R]
     the library's converters and shape check beside plain Rust on 1,000,000 records
-oracle speed [--runs R] [--longest SECONDS] [--small]
+oracle speed [--shape NAME] [--runs R] [--longest SECONDS] [--small]
     the library's compile call beside the original's compile_document and to_program, as a table;
     --small for bundles of hundreds of records
 oracle shapes
@@ -192,7 +192,12 @@ fn run_bench(_: &Arguments) -> ExitCode {
 fn run_speed(arguments: &Arguments) -> ExitCode {
     let (runs, longest) = (arguments.number("--runs", 15), arguments.number("--longest", 60));
     let sizes: &[usize] = if arguments.has("--small") { &speed::SMALL } else { &speed::SIZES };
-    speed::run(&mut *library(), runs as usize, longest as f64, sizes);
+    let only = arguments.word("--shape").map(speed::Shape::named);
+    if only.is_some_and(|shape| shape.is_none()) {
+        eprintln!("oracle: `--shape` is followed by a name that `oracle shapes` prints");
+        return ExitCode::from(WRONGLY_CALLED);
+    }
+    speed::run(&mut *library(), only.flatten(), runs as usize, longest as f64, sizes);
     ExitCode::SUCCESS
 }
 
@@ -274,7 +279,7 @@ const COMMANDS: [Command; 12] = [
     ("hostile", &[Switch("--ours"), Number("--stack"), Number("--size")], false, run_hostile),
     ("convert", &[Number("--seed"), Number("--count"), Switch("--large"), Switch("--limits")], false, run_convert),
     ("bench", &[Number("--runs")], false, run_bench),
-    ("speed", &[Number("--runs"), Number("--longest"), Switch("--small")], false, run_speed),
+    ("speed", &[Word("--shape"), Number("--runs"), Number("--longest"), Switch("--small")], false, run_speed),
     ("shapes", &[], false, run_shapes),
     ("once", &[Word("--shape"), Number("--records"), Switch("--original")], false, run_once),
     ("sample", &[], false, run_sample),

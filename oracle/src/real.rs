@@ -5,6 +5,7 @@
 use crate::areas::{Answer, Delivery, ErrorAnswer, FunctionAnswer, ModelAnswer};
 use crate::books::{needed, order};
 use crate::documents::{pack, Builder, Positions, Texts};
+use crate::merge::merge_floats;
 use crate::records::{kind, Record};
 use clover::backend::compiler::{compile_document, CompilerContext};
 use clover::backend::dependency_solver::DependencySolver;
@@ -76,8 +77,23 @@ fn is_the_known_panic(message: &str) -> bool {
     message.contains("function_state.rs") && message.contains("`Option::unwrap()` on a `None` value")
 }
 
-/// Drives the Rust over records that rows 2 to 5 have nothing against.
+/// Drives the Rust over records that rows 2 to 5 have nothing against; equal floats of its pool are merged.
 pub fn run(records: &[Record]) -> Outcome {
+    run_counting(records).0
+}
+
+/// The same, with the entries of its pool that the merging took away.
+pub fn run_counting(records: &[Record]) -> (Outcome, u64) {
+    match run_unmerged(records) {
+        Outcome::Answer(answer) => {
+            let (answer, merged) = merge_floats(answer);
+            (Outcome::Answer(answer), merged)
+        }
+        outcome => (outcome, 0),
+    }
+}
+
+fn run_unmerged(records: &[Record]) -> Outcome {
     let texts = Texts::new(records);
     if !texts.consistent(records) {
         return Outcome::Inexpressible;

@@ -125,7 +125,7 @@ impl Collected {
 
 /// Each piece with exactly what it needs and a tail; some also one entry short in each area.
 fn add_pieces(collected: &mut Collected) {
-    for (name, words) in [pieces::bench(), pieces::more()].concat() {
+    for (name, words) in [pieces::bench(), pieces::more(), pieces::requests()].concat() {
         assert_shared(name, &words);
         let exact = needed(&words);
         let tailed: Lengths = std::array::from_fn(|i| exact[i] + ENTRY_WORDS[i] - 1);

@@ -512,5 +512,6 @@ pub fn cases() -> Vec<Case> {
     out.extend(bad_shapes());
     out.extend(orders());
     out.extend(limits());
+    out.extend(requests().into_iter().map(piece));
     out
 }

@@ -1,7 +1,7 @@
 //! The ranges of 01's tree rules, record by record, over every kind: the last value that is right and
 //! the first that is not.
 
-use oracle::pieces::{bench, more};
+use oracle::pieces::{bench, more, requests};
 use oracle::records::{kind, records, words, Record};
 use oracle::shape::check;
 use std::collections::BTreeSet;
@@ -32,7 +32,7 @@ fn at_fault(list: &[Record], at: usize, change: impl Fn(&mut Record)) -> bool {
 }
 
 fn good_pieces() -> Vec<Vec<Record>> {
-    let all = [bench(), more()].concat();
+    let all = [bench(), more(), requests()].concat();
     all.into_iter().filter(|(_, words)| check(words).is_ok()).map(|(_, words)| records(&words)).collect()
 }
 

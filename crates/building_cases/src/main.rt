@@ -37,7 +37,7 @@ fn show_area(full: u64, count: usize, words: &[u64]) {
     io::write_all(OUTPUT, b"\n");
 }
 
-// An integer, a float, the same integer, the same float; then two marks.
+// An integer, a float of the same bits, the same integer, the same float; then two marks.
 fn pool_case(constants: &mut [u64], full: u64) {
     let begun = function_state::new(full, 0, 0, 0);
     let a = pool::add_constant(constants, begun, 2, 7);

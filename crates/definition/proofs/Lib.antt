@@ -24,3 +24,4 @@ pub mod Scopes
 pub mod Steady
 pub mod WithinBench
 pub mod PromiseBench
+pub mod SharedOnce

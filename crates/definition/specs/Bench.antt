@@ -234,10 +234,9 @@ pub record BenchPieces (listing : List ℕ → List (List ℕ)) : Type 0 where
   -- (f) 7 twice: constant 3 twice
   pub f : run (function (r 25 2 0 0 ∷ r 33 1 5 7 ∷ r 25 2 0 0 ∷ r 33 1 6 7 ∷ []))
       ≡ body (op PushConstant 3 ∷ op₀ Pop ∷ op PushConstant 3 ∷ op₀ ReturnOp ∷ []) (5 ∷ 5 ∷ 6 ∷ 6 ∷ []) (constant integerKind 7 ∷ [])
-  -- 0.5 twice: 3 and 4 (2026-05 makes it 3 and 3)
+  -- 0.5 twice: constant 3 twice (2026-05)
   pub f-floats : run (function (r 25 2 0 0 ∷ r 34 1 5 half ∷ r 25 2 0 0 ∷ r 34 1 6 half ∷ []))
-      ≡ body (op PushConstant 3 ∷ op₀ Pop ∷ op PushConstant 4 ∷ op₀ ReturnOp ∷ []) (5 ∷ 5 ∷ 6 ∷ 6 ∷ [])
-      (constant floatKind half ∷ constant floatKind half ∷ [])
+      ≡ body (op PushConstant 3 ∷ op₀ Pop ∷ op PushConstant 3 ∷ op₀ ReturnOp ∷ []) (5 ∷ 5 ∷ 6 ∷ 6 ∷ []) (constant floatKind half ∷ [])
   -- (g) a lone `this`, no parameter: LocalGet 0, Return, no locals
   pub g : run (expression (r 31 1 5 0 ∷ [])) ≡ body (op LocalGet 0 ∷ op₀ ReturnOp ∷ []) (5 ∷ 5 ∷ []) []
   -- (h) parameter x, `for i in x break end`: length 15; JumpIf at 7 and Jump at 10 go to 13

@@ -10,6 +10,7 @@ pub mod Answer
 pub mod Within
 pub mod ProgramCheck
 pub mod Promise
+pub mod SharedOnce
 pub mod Bench
 pub mod WithinBench
 pub mod PriorBench

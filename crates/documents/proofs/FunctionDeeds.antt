@@ -19,7 +19,7 @@ use Rattle.definition.specs.Book.{withEntryPoint, pushBookError, addBookConstan
 use Rattle.definition.specs.Book.{working, compileBase, addFunction, addPlainFunction, compileFunctionDefinition}
 use Rattle.definition.proofs.Lists.{cond-case}
 use Rattle.definition.proofs.Good.{function-moves}
-use Rattle.definition.proofs.Steady.{same, more}
+use Rattle.definition.proofs.Steady.{same, more, steady-base}
 use Rattle.building.specs.declared.function_state.FunctionState.{FunctionState}
 use Rattle.building.specs.declared.scopes.Found.{Found}
 use Rattle.building.specs.Emission.{Coded, coded, dropC}
@@ -39,7 +39,7 @@ use Rattle.documents.proofs.Calm.{Calm, Calms, calm-trans, calm-error, 
 use Rattle.documents.proofs.Shelving.{unfilled}
 use Rattle.documents.proofs.Resuming.{keeping-resumed}
 use Rattle.documents.proofs.DeedWays.{defined-added}
-use Rattle.documents.proofs.MakingWays.{base-steady, calm-base, functions-count, built-back, built-between, added-fitted}
+use Rattle.documents.proofs.MakingWays.{calm-base, functions-count, built-back, built-between, added-fitted}
 
 -- what the deeds leave as it was
 pub calm-added : (f : FunctionDefinition) (name : ℕ) (x : Book) → Calm x (addFunction (compileBase f x .state) name (compileBase f x .book))
@@ -102,7 +102,7 @@ module _ {κ : Limits} {ps : List ℕ} {s : struct.Book} {c₀ k₀ n₀ b₀ e�
         names = K .names;
         breaks = K .breaks;
         errors = K .errors;
-      }) (rw (D .full) (B .function .full)) (λ z. built-back B (sym (D .full) ∙ z)) (base-steady f (working x) .locals)
+      }) (rw (D .full) (B .function .full)) (λ z. built-back B (sym (D .full) ∙ z)) (steady-base f (working x) .locals)
       (function-moves (f .parameters) (f .body) (working x) .context) (λ z.
       let z′ : r .full ≡ 0 = sym (D .full) ∙ z in
       let A = built-between B z′ in

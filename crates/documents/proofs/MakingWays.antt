@@ -11,18 +11,16 @@ use borrow.Author.Tests.{eqb-true, eqb-false}
 use Rattle.words.specs.Ast.{FunctionDefinition}
 use Rattle.words.specs.Areas.{functionsArea, entriesIn}
 use Rattle.words.specs.Record.{mostRecords}
-use Rattle.definition.specs.FunctionState.{newFunctionState, getLastPosition}
-use Rattle.definition.specs.FunctionState as method
+use Rattle.definition.specs.FunctionState.{newFunctionState}
 use Rattle.definition.specs.Uses.{Limits, total}
 use Rattle.definition.specs.Within.{All, none as nil, _&_}
-use Rattle.definition.specs.Compiler.{Work, doing, withFunction, compileParameters, compileStatements, compileFunctionDefinitionBase}
+use Rattle.definition.specs.Compiler.{Work, withFunction, compileFunctionDefinitionBase}
 use Rattle.definition.specs.Book.{Function, Book, working, codeOf, codeCount, functionCount, compileBase, addFunction}
 use Rattle.definition.specs.Program.{Entries, entriesFrom, codeEntries, functionCode, functionEntry, functionEntries, functionTable}
 use Rattle.definition.proofs.Lists.{all-append, all-map}
 use Rattle.definition.proofs.FunctionCode.{functions-length}
 use Rattle.definition.proofs.Limits.{LimitedFunction}
-use Rattle.definition.proofs.Steady.{Longer, same, more, longer-trans, Steady}
-use Rattle.definition.proofs.Steady.{steady-trans, steady-function, steady-return, steady-parameters, steady-statements}
+use Rattle.definition.proofs.Steady.{Longer, same, more, longer-trans, steady-base}
 use Rattle.definition.proofs.Good.{function-moves}
 use Rattle.definition.proofs.Room.{room, room-limited}
 use Rattle.definition.proofs.Operands.{function-kept}
@@ -49,18 +47,8 @@ use Rattle.documents.proofs.Counts.{withFunctionCount}
 use Rattle.documents.proofs.Calm.{Calm}
 use Rattle.documents.proofs.Resuming.{codeSoFar, held-working, named-same}
 
--- what a function leaves as it was
-pub base-steady : (f : FunctionDefinition) (w : Work) → Steady (withFunction newFunctionState w) (compileFunctionDefinitionBase (f .parameters) (f .body) w)
-unfolding compileFunctionDefinitionBase
-base-steady f w =
-    let w₁ = compileParameters (f .parameters) (withFunction newFunctionState w) in
-    let w₂ = doing (λ g. method.withParameters (g .isInstance) (length (f .parameters)) g) w₁ in
-    let w₃ = compileStatements (f .body) w₂ in
-    steady-trans (steady-parameters (f .parameters) (withFunction newFunctionState w)) (steady-trans {b = w₂} (steady-function w₁ _ refl)
-    (steady-trans (steady-statements (f .body) w₂) (steady-return (getLastPosition (w₃ .function)) w₃)))
-
 pub base-longer : (f : FunctionDefinition) (x : Book) → Longer (x .uses) (baseOf f x .uses)
-base-longer f x = longer-trans (more (more (more same))) (base-steady f (working x) .uses)
+base-longer f x = longer-trans (more (more (more same))) (steady-base f (working x) .uses)
 
 pub calm-base : (f : FunctionDefinition) (x : Book) → Calm x (compileBase f x .book)
 unfolding compileBase
@@ -156,7 +144,7 @@ module _ {κ : Limits} {ps : List ℕ} {s : struct.Book} {c₀ k₀ n₀ b₀ e�
     added-words : r .full ≡ 0 → functionWords r (s .file) name ≡ functionEntry (codeCount (x .context)) (made name)
     added-words z =
         let C = B .function .rest z in
-        let start : length (codeSoFar x) ≡ codeCount (x .context) = sym (C .before) ∙ base-steady f (working x) .before in
+        let start : length (codeSoFar x) ≡ codeCount (x .context) = sym (C .before) ∙ steady-base f (working x) .before in
         function-words C (few-locals f l′ (working x)) (s .file) name ∙ rw (start, B .book .rest (built-back z) .file)
 
     added-stock : r .full ≡ 0 → {g′ : List ℕ}
@@ -190,7 +178,7 @@ module _ {κ : Limits} {ps : List ℕ} {s : struct.Book} {c₀ k₀ n₀ b₀ e�
           counted = function-moves (f .parameters) (f .body) (working x) .context ∙ S .counted;
           valued = S .valued;
           first-local = S .first-local;
-          named = named-same (base-steady f (working x) .locals) (S .named);
+          named = named-same (steady-base f (working x) .locals) (S .named);
           publics = S .publics;
           first-public = S .first-public;
           prior = S .prior;

@@ -4,4 +4,5 @@ pub mod Entries
 pub mod Fields
 pub mod Floats
 pub mod Integers
+pub mod ObjectBench
 pub mod Parts
