@@ -8,6 +8,7 @@ pub mod Cells
 pub mod FunctionCode
 pub mod Keeps
 pub mod Answer
+pub mod HeadIncludes
 pub mod Uses
 pub mod Limits
 pub mod Room

@@ -321,10 +321,25 @@ twice-over : run (r 1 2 0 2 (r 12 1 0 3 (r 1 1 0 2 []))) ample ≡ refused 5 2 [
 unfolding run delivered refused function-of
 twice-over = refl
 
--- a late include is not needed
-late-include : run (r 1 3 0 2 (r 10 1 0 0 (r 11 1 0 3 []))) ample ≡ delivered [] []
+-- an include below another definition is needed too
+late-include : run (r 1 3 0 2 (r 12 1 0 7 (r 11 1 0 3 []))) ample ≡ refused 6 3 []
 unfolding run delivered refused function-of
 late-include = refl
+
+-- and of several each
+second-late-include : run (r 1 4 0 2 (r 12 1 0 7 (r 11 1 0 3 (r 11 1 0 4 (r 1 1 0 3 []))))) ample ≡ refused 6 4 []
+unfolding run delivered refused function-of
+second-late-include = refl
+
+-- a book that includes itself below another definition is a ring
+late-self-include : run (r 1 3 0 2 (r 12 1 0 7 (r 11 1 0 2 []))) ample ≡ refused 8 1 (11 ∷ [])
+unfolding run delivered refused function-of
+late-self-include = refl
+
+-- a book that is not needed needs none
+include-not-needed : run (r 1 1 0 2 (r 1 2 0 3 (r 11 1 0 4 []))) ample ≡ delivered [] []
+unfolding run delivered refused function-of
+include-not-needed = refl
 
 -- two books, the included one first: its functions come first
 smallest-first : run (r 1 3 0 2 (r 11 1 0 5 (r 14 1 0 3 (r 1 3 0 5 (r 14 2 0 4 (r 21 1 8 0 [])))))) ample

@@ -5,5 +5,6 @@ pub mod Book
 pub mod DependencySolver
 pub mod Program
 pub mod Answer
+pub mod HeadIncludes
 pub mod Within
 pub mod Bench
