@@ -50,6 +50,7 @@ fn cells(column: &Column) -> Vec<(&'static str, String)> {
     out.push(("delivered", grouped(tally.rows[0])));
     out.push(("row 2, 3, 4, 5", several(&tally.rows[2..=5])));
     out.push(("row 6, 7, 8", several(&tally.rows[6..=8])));
+    out.push(("with an include below another definition", grouped(tally.late)));
     if calls > 0 {
         out.push(("calls of the library", grouped(calls)));
         out.push(("of these delivered", grouped(tally.calls[0])));
