@@ -103,6 +103,7 @@ fn narrow_includes(tree: &[u64], at: usize, end: usize) -> bool
 {
     let mut j = at;
     while j < end {
+        let next = skip(tree, j, end);
         let kind = field(tree, j, record::KIND);
         if kind == record::INCLUDE_DEFINITION {
             let file = field(tree, j, record::VALUE);
@@ -110,7 +111,7 @@ fn narrow_includes(tree: &[u64], at: usize, end: usize) -> bool
                 return false;
             }
         }
-        j = skip(tree, j, end);
+        j = next;
     }
     true
 }
@@ -165,13 +166,14 @@ fn add_includes(tree: &[u64], at: usize, end: usize, any: bool, set: &mut [u64])
     let mut grew = any;
     let mut j = at;
     while j < end {
+        let next = skip(tree, j, end);
         let kind = field(tree, j, record::KIND);
         if kind == record::INCLUDE_DEFINITION {
             let file = field(tree, j, record::VALUE);
             let fresh = add(set, file);
             grew = either(grew, fresh);
         }
-        j = skip(tree, j, end);
+        j = next;
     }
     grew
 }
@@ -335,6 +337,7 @@ fn all_in(tree: &[u64], at: usize, end: usize, set: &[u64]) -> bool
 {
     let mut j = at;
     while j < end {
+        let next = skip(tree, j, end);
         let kind = field(tree, j, record::KIND);
         if kind == record::INCLUDE_DEFINITION {
             let file = field(tree, j, record::VALUE);
@@ -342,7 +345,7 @@ fn all_in(tree: &[u64], at: usize, end: usize, set: &[u64]) -> bool
                 return false;
             }
         }
-        j = skip(tree, j, end);
+        j = next;
     }
     true
 }
