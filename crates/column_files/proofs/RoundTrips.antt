@@ -10,8 +10,8 @@ use lib.ListN.{length, take, drop, getD, replicate, length-drop, take-append-dro
 use lib.Seq.{take-at, drop-at, drop-drop, getD-drop, drop-cons}
 use lib.Dec.{eqb, leb, ltb}
 use borrow.Author.Tests.{eq-eqb, ne-eqb, eqb-true, eqb-false, le-leb, leb-true, lt-ltb}
-use Rattle.words.specs.Record.{fieldOf, kindAt, spanAt, positionAt, valueAt, mostRecords, positionBase}
-use Rattle.tree.specs.Rules.{Rule, rules, ruleOf, unused, mayStand, slotAfter, firstSlot, inRange}
+use Rattle.words.specs.Record.{fieldOf, kindAt, spanAt, positionAt, valueAt, mostRecords, positionLimit}
+use Rattle.tree.specs.Rules.{Rule, rules, ruleOf, unused, anywhere, mayStand, slotAfter, firstSlot, inRange}
 use Rattle.tree.specs.Check.{walkOf, headAt, shapeOf, recordsOf}
 use Rattle.tree.specs.declared.Shape.the-variants.{Fine}
 use Rattle.tree.specs.declared.Outcome.the-variants.{Went}
@@ -34,12 +34,12 @@ use Rattle.column_files.proofs.Files.{words-length, lines-length}
 pub record Good (w : List ℕ) (j : ℕ) : Type 0 where
   pub kind : kindAt w j < 50
   pub span : spanAt w j ≤ mostRecords
-  pub position : positionAt w j < positionBase * positionBase
+  pub position : positionAt w j < positionLimit
   pub value : valueAt w j < 18446744073709551616
 
 -- every kind's limits, by one test of the table
 limits : Rule → Bool
-limits r = leb (r .position) 4294967295 && leb (r .most) 18446744073709551615
+limits r = leb (r .position) anywhere && leb (r .most) 18446744073709551615
 
 all : (Rule → Bool) → List Rule → Bool
 all f [] = true
@@ -63,12 +63,12 @@ limited : (k : ℕ) → limits (ruleOf k) ≡ true
 unfolding limits all
 limited k = all-get limits rules unused k refl refl
 
-good-range : (k p v : ℕ) → inRange k p v ≡ true → (p < positionBase * positionBase) × (v < 18446744073709551616)
+good-range : (k p v : ℕ) → inRange k p v ≡ true → (p < positionLimit) × (v < 18446744073709551616)
 unfolding inRange limits
 good-range k p v e =
     let l = limited k in
-    let a = leb-true (ruleOf k .position) 4294967295 (and-left (leb (ruleOf k .position) 4294967295) _ l) in
-    let b = leb-true (ruleOf k .most) 18446744073709551615 (and-right (leb (ruleOf k .position) 4294967295) _ l) in
+    let a = leb-true (ruleOf k .position) anywhere (and-left (leb (ruleOf k .position) anywhere) _ l) in
+    let b = leb-true (ruleOf k .most) 18446744073709551615 (and-right (leb (ruleOf k .position) anywhere) _ l) in
     let x = leb-true p (ruleOf k .position) (and-left (leb p (ruleOf k .position)) _ e) in
     let y = leb-true v (ruleOf k .most) (and-right (leb (ruleOf k .least) v) _ (and-right (leb p (ruleOf k .position)) _ e)) in
     (omega (arith, a, x), omega (arith, b, y))

@@ -14,15 +14,25 @@ ghost use lib.ListN.{length, take, drop};
 ghost use Rattle.column_lines.specs.Numeral.{numeral, readNumeral};
 ghost use Rattle.column_lines.specs.Line.{signedIs, positionIn, recordIn, readLine, LineWrote};
 
-const KIND_END: usize = 4;
+const KIND_WIDTH: usize = 4;
 
-const SPAN_END: usize = KIND_END + 8;
+const SPAN_WIDTH: usize = 8;
 
-const LINE_END: usize = SPAN_END + 6;
+const LINE_WIDTH: usize = 6;
 
-const COLUMN_END: usize = LINE_END + 6;
+const COLUMN_WIDTH: usize = 6;
 
-const VALUE_END: usize = COLUMN_END + 21;
+const VALUE_WIDTH: usize = 21;
+
+const KIND_END: usize = KIND_WIDTH;
+
+const SPAN_END: usize = KIND_END + SPAN_WIDTH;
+
+const LINE_END: usize = SPAN_END + LINE_WIDTH;
+
+const COLUMN_END: usize = LINE_END + COLUMN_WIDTH;
+
+const VALUE_END: usize = COLUMN_END + VALUE_WIDTH;
 
 pub const LINE_LENGTH: usize = VALUE_END + 1;
 

@@ -1,5 +1,7 @@
+pub mod AllRows
 pub mod Safe
 pub mod Lists
+pub mod Needed
 pub mod Moves
 pub mod Sound
 pub mod Good

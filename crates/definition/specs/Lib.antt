@@ -3,6 +3,7 @@ pub mod Uses
 pub mod Compiler
 pub mod Book
 pub mod DependencySolver
+pub mod Needed
 pub mod Program
 pub mod Answer
 pub mod HeadIncludes

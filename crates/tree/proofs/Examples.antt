@@ -2,7 +2,7 @@
 use Prim.Native.Nat.{ℕ, zero, suc, _+_}
 use mathlib.Core.Path.{_≡_, refl}
 use mathlib.Core.List.{List, [], _∷_, _++_}
-use Rattle.words.specs.Record.{fieldOf}
+use Rattle.words.specs.Record.{fieldOf, packPosition}
 use Rattle.words.specs.Ast.{Token, Identifier, If, Return, Expr, ∅ₛ, _∷ₛ_, PublicFunction, Document}
 use Rattle.tree.specs.Rules.{mayStand, slotAfter, isDue, firstSlot, goesOn, inRange}
 use Rattle.tree.specs.Check.{shapeOf, walkBy, headAt, soundAt, thisAfter, sameThis, lacksBy, withinOf}
@@ -36,7 +36,7 @@ alone = refl
 
 -- the listing's book: file 2 holds f (text 3) with parameter x (text 4): `if x return end`
 book : List ℕ
-book = rec 1 8 0 2 · rec 15 7 65546 3 · rec 40 1 0 4 · rec 25 5 0 0 · rec 42 4 0 0 · rec 30 1 131078 4 · rec 43 2 0 0 · rec 21 1 196613 0
+book = rec 1 8 0 2 · rec 15 7 (packPosition 1 10) 3 · rec 40 1 0 4 · rec 25 5 0 0 · rec 42 4 0 0 · rec 30 1 (packPosition 2 6) 4 · rec 43 2 0 0 · rec 21 1 (packPosition 3 5) 0
 
 book-fine : answer book ≡ Fine
 unfolding answer book
@@ -52,9 +52,9 @@ tok p k v = record { position = p; kind = k; value = v }
 book-read : read book ≡ record {
   filename = 2;
   definitions = PublicFunction (record {
-    name = tok 65546 15 3;
+    name = tok (packPosition 1 10) 15 3;
     parameters = tok 0 40 4 ∷ [];
-    body = Expr (If (Identifier (tok 131078 30 4)) (Return (tok 196613 21 0) ∷ₛ ∅ₛ)) ∷ₛ ∅ₛ;
+    body = Expr (If (Identifier (tok (packPosition 2 6) 30 4)) (Return (tok (packPosition 3 5) 21 0) ∷ₛ ∅ₛ)) ∷ₛ ∅ₛ;
   }) ∷ [];
 } ∷ []
 unfolding read book

@@ -2,6 +2,7 @@
 // (`stands`: row 3), at its level (row 4), and then at its children, one level down. That a child is lacking, which is row 3 at the parent, shows after the
 // last child; where one of them is at fault, `blame` goes on over the others to see it.
 use words::record::POSITION;
+use words::record::POSITION_LIMIT;
 use words::record::RECORD_WORDS;
 use words::record::SPAN;
 use words::record::VALUE;
@@ -18,14 +19,14 @@ ghost use Rattle.tree.specs.Check.{withinOf, lacksOf, walkOf, sameThis, 
 ghost use Rattle.tree.specs.Children.{blamed, settled};
 ghost use Rattle.tree.specs.declared.Outcome.the-variants.{Fault};
 
-// Limits of 01: records of a bundle, levels, the number of a text, a position (65,535 lines and columns, packed).
+// Limits of 01: records of a bundle, levels, the number of a text, a position.
 const MOST_RECORDS: usize = 1048576;
 
 const MOST_LEVELS: usize = 64;
 
 const MOST_TEXT: u64 = 1048575;
 
-const MOST_POSITION: u64 = 4294967295;
+const MOST_POSITION: u64 = POSITION_LIMIT - 1;
 
 const MOST_WORD: u64 = 18446744073709551615;
 

@@ -139,8 +139,10 @@ pub const MOST_LEVELS: usize = 64;
 
 pub const MOST_TEXT: u64 = 1048575;
 
-// A position is line × POSITION_BASE + column.
+// A position is line × POSITION_BASE + column, so below POSITION_LIMIT.
 pub const POSITION_BASE: u64 = 65536;
+
+pub const POSITION_LIMIT: u64 = POSITION_BASE * POSITION_BASE;
 
 // The first record index whose words no index reaches: 2^62.
 const RECORDS_END: usize = 4611686018427387904;
