@@ -5,12 +5,13 @@ use crate::areas::{
     answer, area, capacities, Answer, Areas, Counts, Delivery, Lengths, Lent, Memory, Reply, AREAS, ENTRY_WORDS,
     UNLIMITED,
 };
+use crate::books::has_late_include;
 use crate::generate::{case, Case, Sizes};
 use crate::model::constant::{FLOAT, INTEGER};
 use crate::model::{compile, first_beyond, Run};
 use crate::random::Random;
 use crate::real::{run_counting, Outcome};
-use crate::records::{flatten, records, trees, words, Node};
+use crate::records::{flatten, records, trees, words, Node, Record};
 use crate::views::{view, Answered, Viewed};
 use std::fmt::Debug;
 
@@ -58,6 +59,8 @@ pub struct Tally {
     /// Cases that the Rust answered (delivered, or rows 6 to 8).
     pub compared: u64,
     pub rows: [u64; 10],
+    /// Bundles past row 5 with an include below another definition.
+    pub late: u64,
     pub panics: u64,
     /// `this` numbered as `main`.
     pub inexpressible: u64,
@@ -113,6 +116,7 @@ impl Floats {
 /// What one case showed.
 struct Verdict {
     row: u64,
+    late: bool,
     outcome: Seen,
     errors: Vec<u64>,
     floats: Floats,
@@ -141,7 +145,7 @@ fn judge(case: &Case) -> Result<(Verdict, Run), String> {
             return Err(format!("broken to answer {expected:?}, the model answers {:?}", model.reply));
         }
     }
-    let mut verdict = Verdict { row, outcome: Seen::NotForTheRust, errors: Vec::new(), floats: Floats::default() };
+    let mut verdict = Verdict { row, late: false, outcome: Seen::NotForTheRust, errors: Vec::new(), floats: Floats::default() };
     if row == AREA_FULL {
         verdict.outcome = Seen::Oversized;
         return Ok((verdict, model));
@@ -150,6 +154,7 @@ fn judge(case: &Case) -> Result<(Verdict, Run), String> {
         return Ok((verdict, model));
     }
     keeps_count(&case.words, &model)?;
+    verdict.late = late_include(&records(&case.words));
     let ours = answer(&model.reply, &model.areas);
     if let Answer::Refused { errors, .. } = &ours {
         verdict.errors = errors.iter().map(|error| error[0]).collect();
@@ -168,6 +173,17 @@ fn judge(case: &Case) -> Result<(Verdict, Run), String> {
         Outcome::Answer(theirs) => return Err(difference(("the Rust", &theirs), ("the model", &ours))),
     };
     Ok((verdict, model))
+}
+
+fn late_include(records: &[Record]) -> bool {
+    let mut at = 0;
+    while at < records.len() {
+        if has_late_include(records, at) {
+            return true;
+        }
+        at += records[at].span as usize;
+    }
+    false
 }
 
 /// What a delivery must hold by itself: totals that say how much is there, and the greatest numbers
@@ -430,6 +446,7 @@ impl Tally {
         }
         self.rows[verdict.row as usize] += 1;
         self.floats.join(&verdict.floats);
+        self.late += u64::from(verdict.late);
         for &error in &verdict.errors {
             self.errors[error as usize] += 1;
         }
@@ -448,6 +465,7 @@ impl Tally {
         self.records += other.records;
         self.compared += other.compared;
         each(&mut self.rows, &other.rows);
+        self.late += other.late;
         self.panics += other.panics;
         self.inexpressible += other.inexpressible;
         self.oversized += other.oversized;
@@ -467,6 +485,7 @@ impl Tally {
         for row in 2..=8 {
             println!("refused by row {row}: {}", self.rows[row]);
         }
+        println!("with an include below another definition {}", self.late);
         let errors: Vec<String> = (1..12).map(|n| format!("{n}: {}", self.errors[n])).collect();
         println!("errors listed, by number: {}", errors.join(", "));
         let Floats { repeated, merged, zeros, nans, integers } = self.floats;

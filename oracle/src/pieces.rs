@@ -177,8 +177,19 @@ pub fn more() -> Vec<(&'static str, Vec<u64>)> {
         ("book twice", bundle(vec![document(2, vec![]), document(3, vec![]), document(3, vec![])])),
         ("books missing", bundle(vec![document(2, vec![include(9, &[]), include(8, &[])])])),
         (
-            "include below a definition is not needed",
+            "include below a definition is needed",
             bundle(vec![document(2, vec![function(3, &[], vec![]), include(8, &[(5, 6)])])]),
+        ),
+        (
+            "self-include below a definition",
+            bundle(vec![document(2, vec![named(kind::MODEL, 7, vec![]), include(2, &[])])]),
+        ),
+        (
+            "second include below a definition",
+            bundle(vec![
+                document(2, vec![named(kind::MODEL, 7, vec![]), include(3, &[]), include(4, &[])]),
+                document(3, vec![]),
+            ]),
         ),
         ("break in an enumerable", one(for_node(5, broken_if(), vec![]))),
         (
@@ -237,6 +248,10 @@ pub fn more() -> Vec<(&'static str, Vec<u64>)> {
                 ),
                 lib(),
             ]),
+        ),
+        (
+            "late include alone",
+            bundle(vec![document(3, vec![function(1, &[], vec![]), include(9, &[(21, 21), (20, 22)])]), lib()]),
         ),
         (
             "late include of a compiled book",

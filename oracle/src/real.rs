@@ -1,6 +1,7 @@
 //! The original back end, driven: `compile_document` on a fresh `CompilerContext` in 01's order,
 //! then `to_program`, and all of it read back. The dependency solver of the Rust says which books
-//! are missing, which are ready and which are left in a ring.
+//! are missing, which are ready and which are left in a ring: it is fed each book's includes alone, so
+//! that its `get_dependencies` lists them all (2026-04).
 
 use crate::areas::{Answer, Delivery, ErrorAnswer, FunctionAnswer, ModelAnswer};
 use crate::books::{needed, order};
@@ -109,6 +110,8 @@ fn run_unmerged(records: &[Record]) -> Outcome {
 /// The books of a bundle as the Rust holds them, in 01's order, made before anything is timed.
 pub struct Prepared {
     books: Vec<Document>,
+    /// Their includes alone, for the solver.
+    includes: Vec<Document>,
     /// Which of them is the root.
     root: usize,
 }
@@ -123,7 +126,9 @@ impl Prepared {
         assert!(left.is_empty(), "no ring");
         let builder = Builder { records, texts, positions: Positions::Given };
         let root = files.iter().position(|&file| file == records[0].value).expect("the root is needed");
-        Prepared { books: files.iter().map(|file| builder.document(books[file].at)).collect(), root }
+        let books: Vec<Document> = files.iter().map(|file| builder.document(books[file].at)).collect();
+        let includes = books.iter().map(includes_alone).collect();
+        Prepared { books, includes, root }
     }
 
     /// `compile_document` of each book, then `to_program`.
@@ -141,14 +146,15 @@ impl Prepared {
     #[inline(never)]
     pub fn compile_with_solver(&self) -> (CompilerContext, Program) {
         let mut context = CompilerContext::new();
-        let documents: HashMap<&str, &Document> = self.books.iter().map(|book| (&*book.filename, book)).collect();
+        let both = self.books.iter().zip(&self.includes);
+        let documents: HashMap<&str, (&Document, &Document)> = both.map(|both| (&*both.0.filename, both)).collect();
         let mut solver = DependencySolver::new();
-        solver.solve(&self.books[self.root], &no_books());
+        solver.solve(&self.includes[self.root], &no_books());
         while let Some(name) = solver.get_unsolved_filename() {
-            solver.solve(documents[&*name], &no_books());
+            solver.solve(documents[&*name].1, &no_books());
         }
         while let Some(name) = solver.get_next_no_dependency_filename() {
-            compile_document(documents[&*name], &mut context).expect("no errors");
+            compile_document(documents[&*name].0, &mut context).expect("no errors");
             solver.set_loaded(&name);
         }
         let program = context.to_program();
@@ -172,6 +178,15 @@ fn no_books() -> HashSet<String> {
     HashSet::new()
 }
 
+/// A book with nothing but its includes.
+fn includes_alone(book: &Document) -> Document {
+    let is_include = |definition: &&Definition| matches!(definition, Definition::Include(_));
+    Document {
+        definitions: book.definitions.iter().filter(is_include).cloned().collect(),
+        filename: book.filename.clone(),
+    }
+}
+
 impl Driven<'_> {
     fn builder(&self, positions: Positions) -> Builder<'_> {
         Builder { records: self.records, texts: self.texts, positions }
@@ -190,13 +205,13 @@ impl Driven<'_> {
         let root = self.records[0].value;
         let mut loaded = vec![root];
         let mut missing = BTreeSet::new();
-        solver.solve(&documents[&root].1, &no_books());
+        solver.solve(&includes_alone(&documents[&root].1), &no_books());
         while let Some(name) = solver.get_unsolved_filename() {
             let file = self.file(&name);
             match documents.get(&file) {
                 Some((_, document)) => {
                     loaded.push(file);
-                    solver.solve(document, &no_books());
+                    solver.solve(&includes_alone(document), &no_books());
                 }
                 // An empty book in its place lets the solver go on, so that all missing ones are seen.
                 None => {
@@ -224,7 +239,7 @@ impl Driven<'_> {
         })?;
         let mut open: BTreeMap<u64, BTreeSet<u64>> = BTreeMap::new();
         for file in loaded {
-            let names = documents[&file].1.get_dependencies();
+            let names = includes_alone(&documents[&file].1).get_dependencies();
             open.insert(file, names.iter().map(|name| self.file(name)).collect());
         }
         let mut order = Vec::new();

@@ -57,6 +57,7 @@ fn cells(column: &Column) -> Vec<(&'static str, String)> {
     ));
     let apart = [floats.zeros, floats.nans, floats.integers];
     out.push(("pools with both zeros, with two NaNs, with a float and an integer of its bits", several(&apart)));
+    out.push(("with an include below another definition", grouped(tally.late)));
     if calls > 0 {
         out.push(("calls of the library", grouped(calls)));
         out.push(("of these delivered", grouped(tally.calls[0])));

@@ -47,13 +47,13 @@ module _ (w : List ℕ) (end : ℕ) (ranges : (j : ℕ) → j < end → inRange 
         subst (λ (n : ℕ). n < setSize) (sym (ap (λ (x : Token). x .value) (a .0 .0 .token))) (text-range i 11 (omega arith) (a .0 .0 .head .kind-is) refl),
         includes-range ds (i + sizeD (IncludeDefinition t l)) (a .1) (omega arith),
       )
-  includes-range (LocalDefinition x ∷ ds) i a f = tt
-  includes-range (ModelDefinition x y ∷ ds) i a f = tt
-  includes-range (PublicModelDefinition x y ∷ ds) i a f = tt
-  includes-range (PlainFunction x ∷ ds) i a f = tt
-  includes-range (PublicFunction x ∷ ds) i a f = tt
-  includes-range (ImplementDefinition x y ∷ ds) i a f = tt
-  includes-range (ApplyDefinition x y ∷ ds) i a f = tt
+  includes-range (LocalDefinition x ∷ ds) i a f = includes-range ds (i + sizeD (LocalDefinition x)) (a .1) (omega arith)
+  includes-range (ModelDefinition x y ∷ ds) i a f = includes-range ds (i + sizeD (ModelDefinition x y)) (a .1) (omega arith)
+  includes-range (PublicModelDefinition x y ∷ ds) i a f = includes-range ds (i + sizeD (PublicModelDefinition x y)) (a .1) (omega arith)
+  includes-range (PlainFunction x ∷ ds) i a f = includes-range ds (i + sizeD (PlainFunction x)) (a .1) (omega arith)
+  includes-range (PublicFunction x ∷ ds) i a f = includes-range ds (i + sizeD (PublicFunction x)) (a .1) (omega arith)
+  includes-range (ImplementDefinition x y ∷ ds) i a f = includes-range ds (i + sizeD (ImplementDefinition x y)) (a .1) (omega arith)
+  includes-range (ApplyDefinition x y ∷ ds) i a f = includes-range ds (i + sizeD (ApplyDefinition x y)) (a .1) (omega arith)
 
   in-sets : (ds : List Document) (i : ℕ) → DocumentsAt ds w i → i + runSize sizeDoc ds ≡ end → InSets setSize ds
   unfolding RunAt runSize

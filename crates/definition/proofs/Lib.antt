@@ -12,6 +12,7 @@ pub mod FunctionCode
 pub mod Tests
 pub mod Keeps
 pub mod Answer
+pub mod HeadIncludes
 pub mod Uses
 pub mod Limits
 pub mod Room

@@ -430,8 +430,15 @@ pub record Cases : Type 0 where
   pub missing-first : runIn (replicate 13 0) (book (r 11 1 0 3 ∷ [])) ≡ refused 6 3 []
   -- row 5: the index of the second
   pub twice-over : run (bundle (r 1 2 0 2 ∷ r 12 1 0 3 ∷ r 1 1 0 2 ∷ [])) ≡ refused 5 2 []
-  -- a late include is not needed
-  pub late-include : run (book (r 10 1 0 0 ∷ r 11 1 0 3 ∷ [])) ≡ delivered [] []
+  -- an include below another definition is needed too, and of several each
+  pub late-include : run (book (r 12 1 0 7 ∷ r 11 1 0 3 ∷ [])) ≡ refused 6 3 []
+  pub second-late-include : run (bundle (r 1 4 0 2 ∷ r 12 1 0 7 ∷ r 11 1 0 3 ∷ r 11 1 0 4 ∷ r 1 1 0 3 ∷ [])) ≡ refused 6 4 []
+  -- a book that includes itself below another definition is a ring
+  pub late-self-include : run (book (r 12 1 0 7 ∷ r 11 1 8 2 ∷ [])) ≡ refused 8 1 (error 11 0 0 2 ∷ [])
+  -- its book comes first, whatever its number
+  pub late-include-first : table 12 (bundle (r 1 3 0 2 ∷ r 12 1 0 7 ∷ r 11 1 0 3 ∷ r 1 1 0 3 ∷ [])) ≡ (3 ∷ []) ∷ (2 ∷ []) ∷ []
+  -- a book that is not needed needs none
+  pub include-not-needed : table 12 (bundle (r 1 1 0 2 ∷ r 1 2 0 3 ∷ r 11 1 0 4 ∷ [])) ≡ (2 ∷ []) ∷ []
   -- two books, the included one first: its functions come first
   pub smallest-first : run (bundle (r 1 3 0 2 ∷ r 11 1 0 5 ∷ r 14 1 0 3 ∷ r 1 3 0 5 ∷ r 14 2 0 4 ∷ r 21 1 8 0 ∷ []))
       ≡ delivered (plain 0 0 0 nullReturned (0 ∷ 8 ∷ []) ∷ plain 0 0 0 nullReturned (0 ∷ 0 ∷ []) ∷ []) (constant functionKind 0 ∷ constant functionKind 1 ∷ [])

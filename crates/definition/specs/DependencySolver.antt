@@ -16,17 +16,26 @@ use Rattle.definition.specs.Compiler.{Error}
 use Rattle.definition.specs.Book.{Assembly, Context, compileDocument, hasText}
 use Rattle.definition.specs.Prior.{fileNumbers}
 
--- `get_dependencies`: the includes ahead of the first other definition (change point of 2026-04)
+-- the book that a definition includes
+abbrev pub includedFile : Definition → Option ℕ
+includedFile (IncludeDefinition file as′) = some (file .value)
+includedFile (LocalDefinition x) = none
+includedFile (ModelDefinition x y) = none
+includedFile (PublicModelDefinition x y) = none
+includedFile (PlainFunction x) = none
+includedFile (PublicFunction x) = none
+includedFile (ImplementDefinition x y) = none
+includedFile (ApplyDefinition x y) = none
+
+-- a definition that is no include is passed over
+abbrev pub dependenciesBy : Option ℕ → List ℕ → List ℕ
+dependenciesBy none l = l
+dependenciesBy (some file) l = file ∷ l
+
+-- 'all includes of a book are dependencies, wherever they are written' (2026-04; the Rust's `get_dependencies` stops at the first other definition)
 abbrev pub dependencies : List Definition → List ℕ
 dependencies [] = []
-dependencies (IncludeDefinition file as′ ∷ ds) = file .value ∷ dependencies ds
-dependencies (LocalDefinition x ∷ ds) = []
-dependencies (ModelDefinition x y ∷ ds) = []
-dependencies (PublicModelDefinition x y ∷ ds) = []
-dependencies (PlainFunction x ∷ ds) = []
-dependencies (PublicFunction x ∷ ds) = []
-dependencies (ImplementDefinition x y ∷ ds) = []
-dependencies (ApplyDefinition x y ∷ ds) = []
+dependencies (d ∷ ds) = dependenciesBy (includedFile d) (dependencies ds)
 
 -- `documents.get`
 abbrev pub findDocument : ℕ → List Document → Option Document

@@ -7,6 +7,7 @@ pub mod DependencySolver
 pub mod Needed
 pub mod Program
 pub mod Answer
+pub mod HeadIncludes
 pub mod Within
 pub mod ProgramCheck
 pub mod Promise
