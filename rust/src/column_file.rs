@@ -7,7 +7,7 @@ use crate::records::RECORD_WORDS;
 use std::fmt;
 
 /// Bytes of each field: kind, span, line, column, value.
-const WIDTHS: [usize; 5] = [4, 8, 6, 6, 21];
+const WIDTHS: [usize; 5] = [4, 8, 9, 9, 21];
 const FIELDS: [&str; 5] = ["kind", "span", "line", "column", "value"];
 
 /// Bytes of a line, its newline among them.

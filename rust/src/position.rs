@@ -3,7 +3,7 @@
 use std::fmt;
 
 /// The column stands in so many bits of the word, and the line above them.
-const COLUMN_BITS: u32 = 16;
+const COLUMN_BITS: u32 = 32;
 
 /// A place in a source; line 0 and column 0 where there is none.
 #[derive(Clone, Copy, Debug, Default, PartialEq, Eq, Hash, PartialOrd, Ord)]
@@ -18,7 +18,7 @@ impl Position {
     /// No place: line 0, column 0.
     pub const NONE: Position = Position { line: 0, column: 0 };
     /// The greatest line, and the greatest column.
-    pub const MOST: u32 = 65_535;
+    pub const MOST: u32 = 99_999_999;
 
     /// A place. One beyond [`MOST`](Position::MOST) has no word of its own: see [`word`](Position::word).
     pub const fn new(line: u32, column: u32) -> Position {

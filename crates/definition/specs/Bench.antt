@@ -7,9 +7,9 @@ use Rattle.words.specs.Opcode.{Instruction, toInstruction, word, Pop, PushConst
 use Rattle.words.specs.Opcode.{Iterate, InstanceSet, InstanceGetOp}
 use Rattle.words.specs.Opcode.{OPERATION_ADD, OPERATION_SUB, OPERATION_MULTIPLY, OPERATION_DIVIDE, OPERATION_MOD, OPERATION_EQUAL, OPERATION_GREATER}
 use Rattle.words.specs.Opcode.{OPERATION_LESS, OPERATION_GREATER_EQUAL, OPERATION_LESS_EQUAL, OPERATION_AND, OPERATION_OR}
-use Rattle.words.specs.Record.{fieldOf, packPosition}
+use Rattle.words.specs.Record.{fieldOf, packPosition, inPlace}
 use Rattle.tree.specs.Check.{shapeOf, walkBy, headAt, soundAt, thisAfter, sameThis, lacksBy, withinOf}
-use Rattle.tree.specs.Rules.{mayStand, slotAfter, isDue, firstSlot, goesOn, inRange}
+use Rattle.tree.specs.Rules.{mayStand, slotAfter, isDue, firstSlot, goesOn, mayBeAt, inRange}
 use Rattle.tree.specs.Reading.{expressionOf, listOf, pairsOf, parametersOf, definitionOf, documentOf, documentsOf}
 use Rattle.definition.specs.FunctionState.{FunctionState, removePopOrPushNull, emitReturn, emitBreak, exitBreakScope, defineLocal}
 use Rattle.definition.specs.Uses.{firstOver}
@@ -80,8 +80,8 @@ ample = 0 ∷ replicate 12 100
 
 -- its line unfolds all that the call computes with, for whoever unfolds it
 unfoldable pub run : List ℕ → List ℕ → Result
-unfolding shapeOf walkBy headAt soundAt thisAfter sameThis lacksBy withinOf fieldOf mayStand slotAfter isDue firstSlot goesOn inRange expressionOf listOf
-    pairsOf parametersOf definitionOf documentOf documentsOf removePopOrPushNull emitReturn emitBreak exitBreakScope defineLocal firstOver addConstant
+unfolding shapeOf walkBy headAt soundAt thisAfter sameThis lacksBy withinOf fieldOf mayStand slotAfter isDue firstSlot goesOn inRange mayBeAt inPlace
+    expressionOf listOf pairsOf parametersOf definitionOf documentOf documentsOf removePopOrPushNull emitReturn emitBreak exitBreakScope defineLocal firstOver addConstant
     emitConstant emitGlobal compileIntegerExpression compileFloatExpression compileStringExpression compileBooleanExpression compileNullExpression emitName
     compileIdentifierExpression compileThisExpression compileAssignName compilePair compileAssignExpression compileOperation compileInfixExpression
     compilePrefixExpression compileCallExpression compileArrayExpression compilePart compileNoPart compileIfExpression compileForStatement

@@ -2,9 +2,9 @@
 use Prim.Native.Nat.{ℕ, zero, suc, _+_}
 use mathlib.Core.Path.{_≡_, refl}
 use mathlib.Core.List.{List, [], _∷_, _++_}
-use Rattle.words.specs.Record.{fieldOf, packPosition}
+use Rattle.words.specs.Record.{fieldOf, packPosition, inPlace}
 use Rattle.words.specs.Ast.{Token, Identifier, If, Return, Expr, ∅ₛ, _∷ₛ_, PublicFunction, Document}
-use Rattle.tree.specs.Rules.{mayStand, slotAfter, isDue, firstSlot, goesOn, inRange}
+use Rattle.tree.specs.Rules.{mayStand, slotAfter, isDue, firstSlot, goesOn, mayBeAt, inRange}
 use Rattle.tree.specs.Check.{shapeOf, walkBy, headAt, soundAt, thisAfter, sameThis, lacksBy, withinOf}
 use Rattle.tree.specs.Reading.{documentsOf, documentOf, definitionOf, listOf, parametersOf, expressionOf, pairsOf}
 use Rattle.tree.specs.At.{runDepth, depthDoc, depthD, depthE}
@@ -12,7 +12,7 @@ use Rattle.tree.specs.declared.Shape.{Shape}
 use Rattle.tree.specs.declared.Shape.the-variants.{Fine, Refused}
 
 answer : List ℕ → Shape
-unfolding shapeOf walkBy headAt soundAt thisAfter sameThis lacksBy withinOf fieldOf mayStand slotAfter isDue firstSlot goesOn inRange
+unfolding shapeOf walkBy headAt soundAt thisAfter sameThis lacksBy withinOf fieldOf mayStand slotAfter isDue firstSlot goesOn inRange mayBeAt inPlace
 answer w = shapeOf w
 
 infixr 40 _·_

@@ -5,3 +5,4 @@ pub mod Fields
 pub mod Floats
 pub mod Integers
 pub mod Parts
+pub mod Positions
