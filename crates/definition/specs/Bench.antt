@@ -102,8 +102,8 @@ ample = 0 ∷ replicate 12 100
 -- the call on words, with areas of these lengths. Its line unfolds all that the call computes with, for whoever unfolds it
 unfoldable pub runIn : List ℕ → List ℕ → Result
 unfolding shapeOf walkBy headAt soundAt thisAfter sameThis lacksBy withinOf fieldOf mayStand slotAfter isDue firstSlot goesOn inRange mayBeAt inPlace
-    expressionOf listOf pairsOf parametersOf definitionOf documentOf documentsOf removePopOrPushNull emitReturn emitBreak exitBreakScope defineLocal firstOver addConstant
-    emitConstant emitGlobal compileIntegerExpression compileFloatExpression compileStringExpression compileBooleanExpression compileNullExpression emitName
+    expressionOf listOf pairsOf parametersOf definitionOf documentOf documentsOf removePopOrPushNull emitReturn emitBreak exitBreakScope defineLocal firstOver
+    addConstant emitConstant emitGlobal compileIntegerExpression compileFloatExpression compileStringExpression compileBooleanExpression compileNullExpression emitName
     compileIdentifierExpression compileThisExpression compileAssignName compilePair compileAssignExpression compileOperation compileInfixExpression
     compilePrefixExpression compileCallExpression compileArrayExpression compilePart compileNoPart compileIfExpression compileForStatement
     compileExpressionStatement compileValued compileBare compileRescue deeper skip andThen compileExpression compileParameter compileParameters
