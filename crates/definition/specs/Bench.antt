@@ -103,8 +103,8 @@ ample = 0 ∷ replicate 12 100
 unfoldable pub runIn : List ℕ → List ℕ → Result
 unfolding shapeOf walkBy headAt soundAt thisAfter sameThis lacksBy withinOf fieldOf mayStand slotAfter isDue firstSlot goesOn inRange mayBeAt inPlace
     expressionOf listOf pairsOf parametersOf definitionOf documentOf documentsOf removePopOrPushNull emitReturn emitBreak exitBreakScope defineLocal firstOver
-    addConstant emitConstant emitGlobal compileIntegerExpression compileFloatExpression compileStringExpression compileBooleanExpression compileNullExpression emitName
-    compileIdentifierExpression compileThisExpression compileAssignName compilePair compileAssignExpression compileOperation compileInfixExpression
+    addConstant emitConstant emitGlobal compileIntegerExpression compileFloatExpression compileStringExpression compileBooleanExpression compileNullExpression
+    emitName compileIdentifierExpression compileThisExpression compileAssignName compilePair compileAssignExpression compileOperation compileInfixExpression
     compilePrefixExpression compileCallExpression compileArrayExpression compilePart compileNoPart compileIfExpression compileForStatement
     compileExpressionStatement compileValued compileBare compileRescue deeper skip andThen compileExpression compileParameter compileParameters
     compileFunctionDefinitionBase defineContextLocal compileAlias compileIncludeDefinition compileBinding compileLocalDefinition compileProperties
