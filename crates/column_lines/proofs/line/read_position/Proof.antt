@@ -1,50 +1,59 @@
--- `position_in` meets its contract, by the numbers that are there and their limit. Assumes nothing.
+-- `read_position` meets its contract: a number of nine digits is below 10^9, so line × 2^32 + column is a word. Assumes nothing.
 -- Made from Proof.answers by `answers make`: edit that file, and not this one.
-use Rattle.column_lines.specs.Line.{positionIn}
-use Rattle.column_lines.proofs.Lines.{position-yes, position-column, position-line}
-use Rattle.column_lines.proofs.line.position_in.Statement.{statement}
-use Rattle.column_lines.proofs.line.position_in.Tie as tie
+use mathlib.Core.Path.{sym, _∙_}
+use Rattle.column_lines.specs.Form.{lineWidth, columnWidth, linePlace, columnPlace}
+use Rattle.column_lines.proofs.Lines.{position-yes, position-line, position-column}
+use Rattle.column_lines.proofs.Again.{field-below}
+use Rattle.column_lines.proofs.line.read_position.Statement.{statement}
+use Rattle.column_lines.proofs.line.read_position.Tie as tie
 use borrow.Author.Needs.{needs}
+use native.Mathlib.Omega.{arith}
 
 returns : tie.Need-returns
-unfolding positionIn
-returns c = search needs
+returns c = position-line _ _ (sym (c .before .before .before .read-field .ensures) ∙ c .enum-told .given .1)
 
 returns-2 : tie.Need-returns-2
-unfolding positionIn
-returns-2 c = search needs
+returns-2 c =
+    let c5 = c .before .before .before .before .before in
+    let c6 = c5 .before in
+    position-column _ _ (sym (c6 .read-field .ensures) ∙ c .before .before .before .row .given .1) (sym (c5 .read-field2 .ensures) ∙ c .enum-told2 .given .1)
+
+mul-t6 : tie.Need-mul-t6
+mul-t6 c =
+    let c7 = c .before .before .before .before .before .before .before in
+    let c9 = c7 .before .before in
+    let l = field-below (c9 .args .line .now) linePlace lineWidth (omega (arith, c9 .pre)) (sym
+    (c7 .read-field .ensures) ∙ c .before .before .before .before .row .given .1) in omega (arith, l)
+
+add-t7 : tie.Need-add-t7
+add-t7 c =
+    let c6 = c .before .before .before .before .before .before in
+    let c7 = c6 .before in
+    let c9 = c7 .before .before in
+    let l = field-below (c9 .args .line .now) linePlace lineWidth (omega (arith, c9 .pre)) (sym
+    (c7 .read-field .ensures) ∙ c .before .before .before .before .row .given .1) in
+    let k = field-below (c9 .args .line .now) columnPlace columnWidth (omega (arith, c9 .pre)) (sym
+    (c6 .read-field2 .ensures) ∙ c .before .column .given .1) in omega (arith, l, k)
 
 returns-3 : tie.Need-returns-3
 returns-3 c =
     let c6 = c .before .before .before .before .before .before in
-    let c8 = c6 .before .before in
-    position-yes (c8 .args .line) (c8 .args .column) (c6 .line .given .1) (c .before .before .before .column .given .1) (c .before .if1 .taken) (c .if2 .taken)
+    let c7 = c6 .before in
+    position-yes _ _ (sym (c7 .read-field .ensures) ∙ c .before .before .before .before .row .given .1) (sym
+    (c6 .read-field2 .ensures) ∙ c .before .column .given .1)
 
-returns-4 : tie.Need-returns-4
-returns-4 c =
-    let c6 = c .before .before .before .before .before .before in
-    let c8 = c6 .before .before in
-    position-column (c8 .args .line) (c8 .args .column) (c6 .line .given .1) (c .before .before .before .column .given .1) (c .before .if1 .taken)
-    (c .if2 .left)
-
-returns-5 : tie.Need-returns-5
-returns-5 c =
-    let c5 = c .before .before .before .before .before in
-    let c7 = c5 .before .before in
-    position-line (c7 .args .line) (c7 .args .column) (c5 .line .given .1) (c .before .before .column .given .1) (c .if1 .left)
-
-pub position-in-spec : {M : Type 1} → statement M
-position-in-spec =
+pub read-position-spec : {M : Type 1} → statement M
+read-position-spec =
     tie.close
     (tie.spec
+    (λ c κs. search needs)
+    (λ c κs. search needs)
     (λ c. search needs)
     (λ c. search needs)
     returns
     (λ c. search needs)
     (λ c. search needs)
     returns-2
-    (λ c. search needs)
-    (λ c. search needs)
-    returns-3
-    returns-4
-    returns-5)
+    mul-t6
+    add-t7
+    returns-3)
