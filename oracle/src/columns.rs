@@ -185,7 +185,7 @@ mod tests {
     use crate::generate::{case, Sizes};
 
     fn one(value: &str) -> Converted<u64> {
-        column_to_records(format!("{:>4}{:>8}{:>6}{:>6}{value:>21}\n", 1, 1, 0, 0).as_bytes(), 4)
+        column_to_records(format!("{:>4}{:>8}{:>9}{:>9}{value:>21}\n", 1, 1, 0, 0).as_bytes(), 4)
     }
 
     #[test]
@@ -215,8 +215,9 @@ mod tests {
         assert_eq!(column_to_records(b"\n", 0).row, BAD_LINE);
         let file = lines(&[1, 1, 0, 2]);
         assert_eq!(column_to_records(&file, 3), Converted { row: 9, place: 0, total: 0, out: vec![0; 3] });
-        assert_eq!(records_to_column(&[1, 1, 0, 2], 45), Converted { row: 9, place: 0, total: 0, out: vec![0; 45] });
-        let cut = column_to_records(&file[..45], 4);
+        let short = LINE_BYTES - 1;
+        assert_eq!(records_to_column(&[1, 1, 0, 2], short), Converted { row: 9, place: 0, total: 0, out: vec![0; short] });
+        let cut = column_to_records(&file[..short], 4);
         assert_eq!((cut.row, cut.place), (BAD_LINE, 1));
     }
 
