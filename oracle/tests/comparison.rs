@@ -11,7 +11,7 @@ use std::collections::BTreeSet;
 use std::path::Path;
 
 fn assert_alike(seed: u64, count: u64, sizes: Sizes) -> Tally {
-    let (tally, first) = compare(Plan { seed, count, sizes, stop: false }, None);
+    let (tally, first) = compare(Plan { seed, count, sizes, stop: false, head_includes: false }, None);
     if let Some(first) = first {
         panic!("case {}: {}\n{:?}", first.index, first.message, first.shrunk);
     }
