@@ -394,15 +394,20 @@ pub struct Plan {
     pub sizes: Sizes,
     /// Whether the first difference ends it, not shrunk.
     pub stop: bool,
+    /// Whether bundles with an include below another definition are left out.
+    pub head_includes: bool,
 }
 
 /// Compares cases `0..count` of a seed; answers the counts and the first difference, shrunk.
 pub fn compare(plan: Plan, mut side: Option<&mut dyn Side>) -> (Tally, Option<Difference>) {
-    let Plan { seed, count, sizes, stop } = plan;
+    let Plan { seed, count, sizes, stop, head_includes } = plan;
     let mut tally = Tally::default();
     let mut first = None;
     for index in 0..count {
         let made = case(seed, index, sizes);
+        if head_includes && trees(&made.words).is_some() && late_include(&records(&made.words)) {
+            continue;
+        }
         let stream = seed ^ index.rotate_left(32);
         tally.cases += 1;
         tally.records += made.words.len() as u64 / 4;

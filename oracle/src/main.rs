@@ -18,9 +18,10 @@ use std::process::ExitCode;
 use std::time::Instant;
 
 const USAGE: &str = "\
-oracle compare [--seed S] [--seeds K] [--count N] [--large] [--ours] [--stop]
+oracle compare [--seed S] [--seeds K] [--count N] [--large] [--ours] [--stop] [--head-includes]
     the Rust and the model (and the library) over N bundles of each of the K seeds from S on, with a
-    table at the end; --stop ends a seed at its first difference
+    table at the end; --stop ends a seed at its first difference; --head-includes leaves out
+    bundles with an include below another definition
 oracle case --seed S --index I [--large] [--column]
     the words of one bundle, or its column file
 oracle listing [--program]
@@ -91,6 +92,7 @@ fn report(first: &Difference) {
 fn run_compare(arguments: &Arguments) -> ExitCode {
     let (seed, count) = (arguments.number("--seed", 1), arguments.number("--count", 1000));
     let (sizes, stop) = (sizes(arguments), arguments.has("--stop"));
+    let head_includes = arguments.has("--head-includes");
     let mut ours = arguments.has("--ours").then(library);
     let mut columns = Vec::new();
     let mut code = ExitCode::SUCCESS;
@@ -98,7 +100,7 @@ fn run_compare(arguments: &Arguments) -> ExitCode {
         let (start, processor) = (Instant::now(), clock::now());
         let side = ours.as_mut().map(|side| &mut **side as &mut dyn Side);
         println!("seed {seed}");
-        let (tally, first) = compare(Plan { seed, count, sizes, stop }, side);
+        let (tally, first) = compare(Plan { seed, count, sizes, stop, head_includes }, side);
         tally.print();
         let elapsed = start.elapsed().as_secs_f64();
         println!("seconds {elapsed:.1}");
@@ -270,6 +272,7 @@ const COMMANDS: [Command; 12] = [
             Switch("--large"),
             Switch("--ours"),
             Switch("--stop"),
+            Switch("--head-includes"),
         ],
         false,
         run_compare,

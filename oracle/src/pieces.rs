@@ -1,9 +1,9 @@
 //! 01's own example and bench pieces as bundles, and small cases for the fixed readings.
 
-use crate::records::{flatten, kind, Node, MAX_TEXT};
+use crate::records::{flatten, kind, position, Node, MAX_TEXT};
 
 pub fn at(line: u64, column: u64) -> u64 {
-    line << 16 | column
+    position(line, column)
 }
 
 pub fn document(file: u64, definitions: Vec<Node>) -> Node {

@@ -16,9 +16,9 @@ ghost use Rattle.clover_back_end.specs.Refusals.{refusalOf};
 ghost use Rattle.clover_back_end.specs.Versions.{thisVersion};
 
 // Counts releases of the library: one more whenever an answer may be another than before.
-const VERSION: u64 = 1;
+const VERSION: u64 = 2;
 // Counts forms of what goes in and out (docs/FORMAT.md, 'Version and layout').
-const LAYOUT: u64 = 1;
+const LAYOUT: u64 = 2;
 
 // What the shape check answers: the number of a refusal's row and its place, or 0 and 0.
 #[repr(C)]

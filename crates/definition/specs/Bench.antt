@@ -12,9 +12,9 @@ use Rattle.words.specs.Opcode.{OPERATION_ADD, OPERATION_SUB, OPERATION_MULTIPLY
 use Rattle.words.specs.Opcode.{OPERATION_LESS, OPERATION_GREATER_EQUAL, OPERATION_LESS_EQUAL, OPERATION_AND, OPERATION_OR}
 use Rattle.words.specs.Areas.{widths}
 use Rattle.words.specs.Object.{integerKind, floatKind, textKind, modelKind, functionKind}
-use Rattle.words.specs.Record.{fieldOf, packPosition}
+use Rattle.words.specs.Record.{fieldOf, packPosition, inPlace}
 use Rattle.tree.specs.Check.{shapeOf, walkBy, headAt, soundAt, thisAfter, sameThis, lacksBy, withinOf}
-use Rattle.tree.specs.Rules.{mayStand, slotAfter, isDue, firstSlot, goesOn, inRange}
+use Rattle.tree.specs.Rules.{mayStand, slotAfter, isDue, firstSlot, goesOn, mayBeAt, inRange}
 use Rattle.tree.specs.Reading.{expressionOf, listOf, pairsOf, parametersOf, definitionOf, documentOf, documentsOf}
 use Rattle.definition.specs.FunctionState.{removePopOrPushNull, emitReturn, emitBreak, exitBreakScope, defineLocal}
 use Rattle.definition.specs.Uses.{firstOver}
@@ -101,10 +101,10 @@ ample = 0 ∷ replicate 12 100
 
 -- the call on words, with areas of these lengths. Its line unfolds all that the call computes with, for whoever unfolds it
 unfoldable pub runIn : List ℕ → List ℕ → Result
-unfolding shapeOf walkBy headAt soundAt thisAfter sameThis lacksBy withinOf fieldOf mayStand slotAfter isDue firstSlot goesOn inRange expressionOf listOf
-    pairsOf parametersOf definitionOf documentOf documentsOf removePopOrPushNull emitReturn emitBreak exitBreakScope defineLocal firstOver addConstant
-    emitConstant emitGlobal compileIntegerExpression compileFloatExpression compileStringExpression compileBooleanExpression compileNullExpression emitName
-    compileIdentifierExpression compileThisExpression compileAssignName compilePair compileAssignExpression compileOperation compileInfixExpression
+unfolding shapeOf walkBy headAt soundAt thisAfter sameThis lacksBy withinOf fieldOf mayStand slotAfter isDue firstSlot goesOn inRange mayBeAt inPlace
+    expressionOf listOf pairsOf parametersOf definitionOf documentOf documentsOf removePopOrPushNull emitReturn emitBreak exitBreakScope defineLocal firstOver
+    addConstant emitConstant emitGlobal compileIntegerExpression compileFloatExpression compileStringExpression compileBooleanExpression compileNullExpression
+    emitName compileIdentifierExpression compileThisExpression compileAssignName compilePair compileAssignExpression compileOperation compileInfixExpression
     compilePrefixExpression compileCallExpression compileArrayExpression compilePart compileNoPart compileIfExpression compileForStatement
     compileExpressionStatement compileValued compileBare compileRescue deeper skip andThen compileExpression compileParameter compileParameters
     compileFunctionDefinitionBase defineContextLocal compileAlias compileIncludeDefinition compileBinding compileLocalDefinition compileProperties

@@ -12,7 +12,7 @@ use Rattle.words.specs.Areas.{widthOf, entriesIn, codeArea, constantsArea, func
 use Rattle.words.specs.Areas.{publicNamesArea, scopeNamesArea, breaksArea, booksArea, instanceWord, functionNameWord}
 use Rattle.words.specs.Object.{nullKind, booleanKind, textKind, functionKind}
 use Rattle.words.specs.Opcode.{Instruction, Operation}
-use Rattle.words.specs.Record.{mostText, positionLimit}
+use Rattle.words.specs.Record.{mostText, inPlace}
 use Rattle.definition.specs.Book.{hasText}
 use Rattle.definition.specs.Within.{Program, total, present, field, marked, instructionAt, allBelow, where′, areaBound, entryPointBound}
 
@@ -21,9 +21,8 @@ use Rattle.definition.specs.Within.{Program, total, present, field, mark
 abbrev pub isText : ℕ → Bool
 isText n = ltb 0 n && leb n mostText
 
--- change point of 2026-06
 abbrev pub isPosition : ℕ → Bool
-isPosition p = ltb p positionLimit
+isPosition p = inPlace p
 
 abbrev pub isMark : ℕ → Bool
 isMark n = ltb n 2

@@ -10,6 +10,7 @@ use lib.Dec.{eqb}
 use Rattle.words.specs.Areas.{widthOf, codeArea, constantsArea, functionsArea, modelsArea, propertiesArea, methodsArea, contextLocalsArea}
 use Rattle.words.specs.Areas.{publicNamesArea, booksArea, localsWord, rescueWord, startWord, lengthWord, functionFileWord}
 use Rattle.words.specs.Object.{nullKind, booleanKind, textKind, modelKind, functionKind}
+use Rattle.words.specs.Record.{inPlace}
 use Rattle.words.specs.Opcode.{toInstruction, word, unword, PushConstant, ReturnOp, LocalSet, LocalGet, LocalInit, ContextGet, ContextSet, GlobalGet, GlobalSet}
 use Rattle.words.specs.Opcode.{Jump, JumpIf, ForNext, Iterate}
 use Rattle.definition.specs.FunctionState.{Event, Entered, Broke, Left}
@@ -122,24 +123,24 @@ no-function = refl
 
 -- 2026-01's check: the program stands, a word that breaks a bound fails its own area, and so does what 01 does not know
 stands : programFault kept ≡ none
-unfolding programFault areaFine areaBound unword word
+unfolding programFault areaFine areaBound unword word inPlace
 stands = refl
 
 bound-faults : map (λ (c : Change). programFault (changed kept c)) broken ≡ map (λ (c : Change). some (c .area)) broken
-unfolding programFault areaFine areaBound unword word
+unfolding programFault areaFine areaBound unword word inPlace
 bound-faults = refl
 
 -- an opcode and an operation that are none, a position, a kind, null, a boolean, a text; an instance mark, names, a context local's constant without a value;
 -- a book's number, and one twice
 abbrev unknown : List Change
 unknown =
-    instruction 11 0xFF 0 ∷ instruction 11 0x21 10 ∷ change codeArea 11 1 0xFFFF_FFFF_FFFF_FFFF ∷ change constantsArea 5 0 7 ∷ change constantsArea 0 1 1
+    instruction 11 0xFF 0 ∷ instruction 11 0x21 10 ∷ change codeArea 11 1 0xFFFF_FFFF ∷ change codeArea 11 1 100000000 ∷ change codeArea 11 1 429496729600000000 ∷ change constantsArea 5 0 7 ∷ change constantsArea 0 1 1
     ∷ change constantsArea 1 1 2 ∷ change constantsArea 5 1 0 ∷ change functionsArea 0 3 2 ∷ change functionsArea 0 7 0 ∷ change modelsArea 0 1 1048576
     ∷ change propertiesArea 0 1 0 ∷ change methodsArea 0 1 0 ∷ change contextLocalsArea 0 1 0 ∷ change contextLocalsArea 0 2 0 ∷ change publicNamesArea 0 1 0
     ∷ change booksArea 0 0 0 ∷ change booksArea 1 0 3 ∷ []
 
 unknown-faults : map (λ (c : Change). programFault (changed kept c)) unknown ≡ map (λ (c : Change). some (c .area)) unknown
-unfolding programFault areaFine areaBound unword word
+unfolding programFault areaFine areaBound unword word inPlace
 unknown-faults = refl
 
 -- the reading of traces: a break belongs to the innermost loop that is open there

@@ -6,3 +6,4 @@ pub mod Floats
 pub mod Integers
 pub mod ObjectBench
 pub mod Parts
+pub mod Positions
