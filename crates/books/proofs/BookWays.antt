@@ -295,8 +295,7 @@ taken-wait {ds} {tree} {end} set b s (n ∷ ns) h =
     let f = found n ns ds h in
     let p = place tree end n 0 ds (f .0) b (f .1) in
     let small : placeOf n 0 ds < placeUnit = omega (arith, p .inside) in
-    let none-read : (n * bookUnit + placeOf n 0 ds) / placeUnit % placeUnit ≡ 0 = omega arith in
-    (
+    let none-read : (n * bookUnit + placeOf n 0 ds) / placeUnit % placeUnit ≡ 0 = omega arith in (
       record {
         number = omega arith;
         place = omega arith;

@@ -360,7 +360,7 @@ unfolding neededIn
 needed-still zero ds l h = refl
 needed-still (suc k) ds l h = ap (λ (x : List ℕ). neededIn k [] ds x) h ∙ needed-still k ds l h
 
--- `all_in`
+-- numbers that are all in a set, by its words
 pub all-bits : (bits l ns : List ℕ) → SetIs bits l → Below setSize ns → allBits bits ns ≡ allIn ns l
 all-bits bits l [] i b = refl
 all-bits bits l (n ∷ ns) i b = rw (i .has n (b .0), all-bits bits l ns i (b .1))

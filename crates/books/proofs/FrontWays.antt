@@ -1,7 +1,6 @@
 -- Rows 2 to 6, one lemma for each way: what the routines found is what the definition's `answer` asks, one after the other. Assumes nothing.
 use Prim.Native.Nat.{ℕ, zero, suc, _+_, _-_, _*_, _/_, _<_}
 use native.Mathlib.Omega.{arith}
-use native.Mathlib.Nat.{sub-zero}
 use mathlib.Core.Path.{_≡_, refl, sym, ap, subst, _∙_}
 use mathlib.Core.Option.{Option, none, some}
 use mathlib.Core.List.{List, [], _∷_}
@@ -83,14 +82,14 @@ module _ (tree : List ℕ) {x : Shape} (shape-is : x ≡ shapeOf tree) (fine-is 
   }
 
   -- the set of the file numbers is lent to `needed`, and made again after it
-  module _ (none-twice : r ≡ Nothing) {read again files′ set : List ℕ} (read′ : List ℕ) {r′ m : Found} (read-is : read ≡ clearedFrom 0 present′)
-      (N : Needs tree end read chosen₀ set) (kept : length set ≡ length chosen₀) (again-is : again ≡ clearedFrom 0 read′)
-      (long : length read′ ≡ length chosen₀) (F′ : FindsTwice tree end again r′ files′) (M : Misses set files′ m) where
+  module _ (none-twice : r ≡ Nothing) {read again files′ set : List ℕ} {r′ m : Found} (read-is : read ≡ clearedFrom 0 present′)
+      (N : Needs tree end read chosen₀ set) (kept : length set ≡ length chosen₀)
+      (again-is : again ≡ replicate (length chosen₀) 0) (F′ : FindsTwice tree end again r′ files′) (M : Misses set files′ m) where
     again-long : length again ≡ length chosen₀
-    again-long = ap length again-is ∙ length-replicate {A = ℕ} (length read′ - 0) 0 ∙ sub-zero (length read′) ∙ long
+    again-long = ap length again-is ∙ length-replicate {A = ℕ} (length chosen₀) 0
 
     finds-again : (ds : List Document) → Bundle ds tree 0 end → Twice tree end ds r′ files′
-    finds-again ds b = F′ .finds ds b (rw again-long (room ds b)) (rw again-is (set-empty (length read′ - 0)))
+    finds-again ds b = F′ .finds ds b (rw again-long (room ds b)) (rw again-is (set-empty (length chosen₀)))
 
     none-again : r′ ≡ Nothing
     none-again = finds-again (documentsOf tree) bundle .answer end-is ∙ sym (finds (documentsOf tree) bundle .answer end-is) ∙ none-twice

@@ -219,13 +219,7 @@ fn copy(from: &[u64], to: &mut [u64])
 
 // The books needed, from three empty sets: as many rounds as there are documents, or until one finds nothing new. A document is read in one round, the next after
 // it was found.
-pub(crate) fn needed(
-    tree: &[u64],
-    end: usize,
-    read: &mut [u64],
-    set: &mut [u64],
-    next: &mut [u64],
-)
+pub(crate) fn needed(tree: &[u64], end: usize, read: &mut [u64], set: &mut [u64], next: &mut [u64])
     requires { ⌜ (length (now read) ≡ length (now set)) × (now next ≡ now set) ⌝ }
     ensures { λ _. ⌜ Needs (now (tree .entry)) end (now (read .entry)) (now (set .entry)) (now (set .exit)) ⌝ }
 {

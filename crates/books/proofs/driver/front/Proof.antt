@@ -1,7 +1,9 @@
 -- `books::driver::front` meets its contract: a row of the shape's, a book twice, a book missing, and none. Assumes nothing.
 -- Made from Proof.answers by `answers make`: edit that file, and not this one.
 use Rattle.books.proofs.FrontWays.{front-shape, front-twice, front-missing, front-ready}
-use lib.ListN.{length}
+use Prim.Native.Nat.{ℕ}
+use native.Mathlib.Nat.{sub-zero}
+use lib.ListN.{length, replicate}
 use mathlib.Core.Path.{refl, ap, _∙_}
 use Rattle.books.proofs.driver.front.Statement.{statement}
 use Rattle.books.proofs.driver.front.Tie as tie
@@ -65,9 +67,10 @@ returns-3 c =
     let c36 = c34 .before .before in
     let c41 = c36 .before .before .before .before .before in
     front-missing (c41 .args .tree .now) (c36 .check .ensures) (c34 .enum-told .given .1) refl (c41 .pre .0) (c41 .pre .1) (c32 .twice .ensures)
-    (c28 .enum-told2 .given .1) _ (c26 .clear-from .ensures)
-    (c20 .needed .ensures) (c20 .needed .kept .1 .1 .1 .0) (c12 .clear-from2 .ensures)
-    (c20 .needed .kept .1 .1 .0 ∙ c26 .clear-from .kept .0 ∙ c32 .twice .kept .1 .1 .0 ∙ ap length (c41 .pre .1))
+    (c28 .enum-told2 .given .1) (c26 .clear-from .ensures)
+    (c20 .needed .ensures) (c20 .needed .kept .1 .1 .1 .0)
+    (c12 .clear-from2 .ensures ∙ ap (λ (n : ℕ). replicate n 0)
+    (sub-zero _ ∙ c20 .needed .kept .1 .1 .0 ∙ c26 .clear-from .kept .0 ∙ c32 .twice .kept .1 .1 .0 ∙ ap length (c41 .pre .1)))
     (c8 .twice2 .ensures) (c .before .before .before .missing .ensures) (c .before .absent .given .1)
 
 same-length-5 : tie.Need-same-length-5
@@ -101,9 +104,10 @@ returns-4 c =
     let c35 = c33 .before .before in
     let c40 = c35 .before .before .before .before .before in
     front-ready (c40 .args .tree .now) (c35 .check .ensures) (c33 .enum-told .given .1) refl (c40 .pre .0) (c40 .pre .1) (c31 .twice .ensures)
-    (c27 .enum-told2 .given .1) _ (c25 .clear-from .ensures)
-    (c19 .needed .ensures) (c19 .needed .kept .1 .1 .1 .0) (c11 .clear-from2 .ensures)
-    (c19 .needed .kept .1 .1 .0 ∙ c25 .clear-from .kept .0 ∙ c31 .twice .kept .1 .1 .0 ∙ ap length (c40 .pre .1))
+    (c27 .enum-told2 .given .1) (c25 .clear-from .ensures)
+    (c19 .needed .ensures) (c19 .needed .kept .1 .1 .1 .0)
+    (c11 .clear-from2 .ensures ∙ ap (λ (n : ℕ). replicate n 0)
+    (sub-zero _ ∙ c19 .needed .kept .1 .1 .0 ∙ c25 .clear-from .kept .0 ∙ c31 .twice .kept .1 .1 .0 ∙ ap length (c40 .pre .1)))
     (c7 .twice2 .ensures) (c .before .before .missing .ensures) (c .enum-told3 .given .1)
 
 pub front-spec : {M : Type 1} → statement M
