@@ -3,7 +3,7 @@
 
 use crate::damage::damage;
 use crate::random::Random;
-use crate::records::{flatten, kind, Node, MAIN, MAX_LEVEL, MAX_TEXT};
+use crate::records::{flatten, kind, position, Node, MAIN, MAX_LEVEL, MAX_PLACE, MAX_TEXT};
 use std::collections::BTreeMap;
 
 #[derive(Clone, Debug)]
@@ -58,6 +58,7 @@ struct Generator {
     deepest: usize,
     doublings: u32,
     wide_positions: bool,
+    far_positions: bool,
     fresh: u64,
     scopes: Vec<Vec<u64>>,
     loops: usize,
@@ -87,6 +88,7 @@ impl Generator {
         let slips = random.pick(&[0, 0, 0, 0, 0, 3, 10, 40, 200]);
         let this = random.pick(&[2, 2, 3, 3, 7, 7, 12, 500, 500, MAX_TEXT, MAX_TEXT, MAIN]);
         let wide_positions = random.chance(300);
+        let far_positions = random.chance(150);
         let mut generator = Generator {
             random,
             palette: Vec::new(),
@@ -96,6 +98,7 @@ impl Generator {
             deepest,
             doublings: 0,
             wide_positions,
+            far_positions,
             fresh: 2000,
             scopes: Vec::new(),
             loops: 0,
@@ -133,11 +136,16 @@ impl Generator {
     }
 
     fn position(&mut self) -> u64 {
+        // Beyond the Rust's 16 bits: `real.rs` maps these back.
+        if self.far_positions {
+            let line = self.random.pick(&[0, 1, 65_536, MAX_PLACE - 1, MAX_PLACE, 70_000]);
+            return position(line, self.random.pick(&[0, 1, 65_536, 1_048_577, MAX_PLACE]));
+        }
         if self.wide_positions {
             let line = self.random.pick(&[0, 1, 65_534, 65_535, 300, 40_000]);
-            return line << 16 | self.random.pick(&[0, 1, 65_535, 77, 32_768]);
+            return position(line, self.random.pick(&[0, 1, 65_535, 77, 32_768]));
         }
-        self.random.below(400) << 16 | self.random.below(90)
+        position(self.random.below(400), self.random.below(90))
     }
 
     fn node(&mut self, kind: u64, value: u64, children: Vec<Node>) -> Node {

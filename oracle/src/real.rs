@@ -5,8 +5,9 @@
 
 use crate::areas::{Answer, Delivery, ErrorAnswer, FunctionAnswer, ModelAnswer};
 use crate::books::{needed, order};
-use crate::documents::{pack, Builder, Positions, Texts};
-use crate::records::{kind, Record};
+use crate::documents::{self, Builder, Positions, Texts};
+use crate::merge::merge_floats;
+use crate::records::{kind, position, Record};
 use clover::backend::compiler::{compile_document, CompilerContext};
 use clover::backend::dependency_solver::DependencySolver;
 use clover::intermediate::ast::*;
@@ -77,13 +78,30 @@ fn is_the_known_panic(message: &str) -> bool {
     message.contains("function_state.rs") && message.contains("`Option::unwrap()` on a `None` value")
 }
 
-/// Drives the Rust over records that rows 2 to 5 have nothing against.
+/// Drives the Rust over records that rows 2 to 5 have nothing against; equal floats of its pool are merged.
 pub fn run(records: &[Record]) -> Outcome {
+    run_counting(records).0
+}
+
+/// The same, with the entries of its pool that the merging took away.
+pub fn run_counting(records: &[Record]) -> (Outcome, u64) {
+    match run_unmerged(records) {
+        Outcome::Answer(answer) => {
+            let (answer, merged) = merge_floats(answer);
+            (Outcome::Answer(answer), merged)
+        }
+        outcome => (outcome, 0),
+    }
+}
+
+fn run_unmerged(records: &[Record]) -> Outcome {
     let texts = Texts::new(records);
     if !texts.consistent(records) {
         return Outcome::Inexpressible;
     }
-    let driven = Driven { records, texts };
+    let all_fit = records.iter().all(|record| documents::fits(record.position));
+    let positions = if all_fit { Positions::Given } else { Positions::Tagged };
+    let driven = Driven { records, texts, positions };
     match quiet(|| driven.answer()) {
         Ok(answer) => Outcome::Answer(answer),
         Err(message) if is_the_known_panic(&message) => Outcome::Panicked,
@@ -149,6 +167,8 @@ impl Prepared {
 struct Driven<'a> {
     records: &'a [Record],
     texts: Texts,
+    /// Given where all fit the Rust's 16 bits, else tagged and mapped back.
+    positions: Positions,
 }
 
 /// The bundle as the Rust holds it, with the order of compiling.
@@ -247,7 +267,7 @@ impl Driven<'_> {
     }
 
     fn answer(&self) -> Answer {
-        let planned = match self.plan(Positions::Given) {
+        let planned = match self.plan(self.positions) {
             Ok(planned) => planned,
             Err(refusal) => return refusal,
         };
@@ -273,14 +293,22 @@ impl Driven<'_> {
         pairs
             .map(|(error, tag)| {
                 let number = 1 + MESSAGES.iter().position(|m| *m == error.message).expect("a message of 01") as u64;
-                let at = pack(tag.token.position) as usize - 1;
+                let at = documents::tag(tag.token.position) - 1;
                 let record = self.records[at];
-                let token = self.builder(Positions::Given).token(at);
+                let token = self.builder(self.positions).token(at);
                 assert_eq!(error.message, tag.message, "positions change the errors");
                 assert!(error.token.value == token.value || is_nan(&token.value), "the token is another record's");
-                [number, pack(error.token.position), record.kind, record.value]
+                [number, self.position(error.token.position), record.kind, record.value]
             })
             .collect()
+    }
+
+    /// The word of a position that the Rust answered.
+    fn position(&self, found: Position) -> u64 {
+        match self.positions {
+            Positions::Given => position(u64::from(found.line), u64::from(found.column)),
+            Positions::Tagged => documents::tag(found).checked_sub(1).map_or(0, |at| self.records[at].position),
+        }
     }
 
     fn tagged_errors(&self) -> CompileErrorList {
@@ -321,7 +349,7 @@ impl Driven<'_> {
         let read = |index: usize| {
             let function = &program.functions[index];
             assert_eq!(function.instructions.len(), positions[index].len());
-            let places = positions[index].iter().map(|&position| pack(position));
+            let places = positions[index].iter().map(|&position| self.position(position));
             FunctionAnswer {
                 parameters: function.parameter_count as u64,
                 locals: function.local_count as u64,

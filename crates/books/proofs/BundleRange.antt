@@ -11,7 +11,7 @@ use borrow.Author.Tests.{leb-true, eq-eqb, le-ltb}
 use Rattle.words.specs.Ast.{Token, Document, Definition, LocalDefinition, IncludeDefinition, ModelDefinition, PublicModelDefinition, PlainFunction}
 use Rattle.words.specs.Ast.{PublicFunction, ImplementDefinition, ApplyDefinition}
 use Rattle.words.specs.Record.{kindAt, positionAt, valueAt, mostRecords, mostText}
-use Rattle.tree.specs.Rules.{inRange, ruleOf}
+use Rattle.tree.specs.Rules.{mayBeAt, inRange, ruleOf}
 use Rattle.tree.specs.Check.{shapeOf, recordsOf}
 use Rattle.tree.specs.declared.Shape.the-variants.{Fine, Refused}
 use Rattle.tree.specs.At.{RunAt, runSize, DefinitionAt, sizeD, DocumentsAt, sizeDoc}
@@ -29,7 +29,7 @@ unfolding inRange
 at-most k p v h =
     leb-true v (ruleOf k .most)
     (and-right (leb (ruleOf k .least) v) (leb v (ruleOf k .most))
-    (and-right (leb p (ruleOf k .position)) (leb (ruleOf k .least) v && leb v (ruleOf k .most)) h))
+    (and-right (mayBeAt (ruleOf k .position) p) (leb (ruleOf k .least) v && leb v (ruleOf k .most)) h))
 
 module _ (w : List ℕ) (end : ℕ) (ranges : (j : ℕ) → j < end → inRange (kindAt w j) (positionAt w j) (valueAt w j) ≡ true) where
   text-range : (j k : ℕ) → j < end → kindAt w j ≡ k → ruleOf k .most ≡ mostText → valueAt w j < setSize

@@ -32,17 +32,17 @@ unfolding shortReply
 short-fine s e = rw e
 
 -- a record's line is put in its place
-pub record-put : (tree out : List ℕ) (at : ℕ) {part : List ℕ} {r : Bool} → (at + 1) * 46 ≤ length out
+pub record-put : (tree out : List ℕ) (at : ℕ) {part : List ℕ} {r : Bool} → (at + 1) * lineLength ≤ length out
     → LineWrote (getD tree (at * 4) 0) (getD tree (at * 4 + 1) 0) (getD tree (at * 4 + 2) 0) (getD tree (at * 4 + 3) 0)
-    (midOf (at * 46) (at * 46 + 46 - at * 46) out) part r
-    → Lent (linesBy 1 (drop (at * 4) tree)) (at * 46) (at * 46 + 46) out (putMid (at * 46) (at * 46 + 46 - at * 46) out part)
+    (midOf (at * lineLength) (at * lineLength + lineLength - at * lineLength) out) part r
+    → Lent (linesBy 1 (drop (at * 4) tree)) (at * lineLength) (at * lineLength + lineLength) out (putMid (at * lineLength) (at * lineLength + lineLength - at * lineLength) out part)
 unfolding linesBy
 record-put tree out at {part} {r} h w =
-    let n : length (midOf (at * 46) (at * 46 + 46 - at * 46) out) ≡ lineLength = mid-len (at * 46) (at * 46 + 46) out (omega arith) ∙ omega arith in
-    let t : eqb (length (midOf (at * 46) (at * 46 + 46 - at * 46) out)) lineLength ≡ true = eq-eqb _ lineLength n in
+    let n : length (midOf (at * lineLength) (at * lineLength + lineLength - at * lineLength) out) ≡ lineLength = mid-len (at * lineLength) (at * lineLength + lineLength) out (omega arith) ∙ omega arith in
+    let t : eqb (length (midOf (at * lineLength) (at * lineLength + lineLength - at * lineLength) out)) lineLength ≡ true = eq-eqb _ lineLength n in
     let b : part ≡ recordLine (getD tree (at * 4) 0) (getD tree (at * 4 + 1) 0) (getD tree (at * 4 + 2) 0) (getD tree (at * 4 + 3) 0) = simp t at (w .bytes) in
     let z : at * 4 + 0 ≡ at * 4 = omega arith in
-    record { is = rw (b, post-is (at * 46) (at * 46 + 46) out (omega arith)) (simp (getD-drop, z, append-nil)) }
+    record { is = rw (b, post-is (at * lineLength) (at * lineLength + lineLength) out (omega arith)) (simp (getD-drop, z, append-nil)) }
 
 -- a line's words are put in its record's place
 pub words-put : (file out : List ℕ) (at : ℕ) {l : Line} {after : List ℕ} {r : Bool} → (at + 1) * 4 ≤ length out → l ≡ readLine (lineOf at file)
@@ -54,7 +54,7 @@ words-put file out at {l} {after} {r} h L w =
 
 -- one after the other
 
-pub records-begun : (tree out : List ℕ) → Begun (linesBy 0 tree) out out (0 * 46)
+pub records-begun : (tree out : List ℕ) → Begun (linesBy 0 tree) out out (0 * lineLength)
 unfolding linesBy
 records-begun tree out = record { long = refl; rest = refl }
 
@@ -62,18 +62,18 @@ pub lines-begun : (file out : List ℕ) → Begun (wordsBy 0 file) out out (0 * 
 unfolding wordsBy
 lines-begun file out = record { long = refl; rest = refl }
 
-line-long : (w : List ℕ) → length (linesBy 1 w) ≡ 46
+line-long : (w : List ℕ) → length (linesBy 1 w) ≡ lineLength
 unfolding linesBy
 line-long w =
     ap length (append-nil (recordLine (getD w 0 0) (getD w 1 0) (getD w 2 0) (getD w 3 0)))
     ∙ line-size (getD w 0 0) (getD w 1 0) (getD w 2 0) (getD w 3 0)
 
-pub records-more : (tree before out after : List ℕ) (i : ℕ) → Begun (linesBy i tree) before out (i * 46)
-    → Lent (linesBy 1 (drop (i * 4) tree)) (i * 46) (i * 46 + 46) out after → Begun (linesBy (i + 1) tree) before after ((i + 1) * 46)
+pub records-more : (tree before out after : List ℕ) (i : ℕ) → Begun (linesBy i tree) before out (i * lineLength)
+    → Lent (linesBy 1 (drop (i * 4) tree)) (i * lineLength) (i * lineLength + lineLength) out after → Begun (linesBy (i + 1) tree) before after ((i + 1) * lineLength)
 records-more tree before out after i b l =
-    let e : i * 46 + 46 ≡ (i + 1) * 46 = omega arith in
-    let n : length (linesBy 1 (drop (i * 4) tree)) ≡ i * 46 + 46 - i * 46 = line-long (drop (i * 4) tree) ∙ omega arith in
-    rw (lines-more i tree, ← e) (begun-more (linesBy i tree) before out _ after (i * 46) (i * 46 + 46) b n (omega arith) (l .is))
+    let e : i * lineLength + lineLength ≡ (i + 1) * lineLength = omega arith in
+    let n : length (linesBy 1 (drop (i * 4) tree)) ≡ i * lineLength + lineLength - i * lineLength = line-long (drop (i * 4) tree) ∙ omega arith in
+    rw (lines-more i tree, ← e) (begun-more (linesBy i tree) before out _ after (i * lineLength) (i * lineLength + lineLength) b n (omega arith) (l .is))
 
 pub lines-next : (file before out after : List ℕ) (i : ℕ) → Begun (wordsBy i file) before out (i * 4)
     → Lent (wordsIn (readLine (lineOf i file))) (i * 4) (i * 4 + 4) out after → Begun (wordsBy (i + 1) file) before after ((i + 1) * 4)
@@ -82,20 +82,20 @@ lines-next file before out after i b l =
     let n : length (wordsIn (readLine (lineOf i file))) ≡ i * 4 + 4 - i * 4 = words-in (readLine (lineOf i file)) ∙ omega arith in
     rw (words-more i file, ← e) (begun-more (wordsBy i file) before out _ after (i * 4) (i * 4 + 4) b n (omega arith) (l .is))
 
-pub records-all : (tree before out : List ℕ) (i n : ℕ) → Begun (linesBy i tree) before out (i * 46) → i ≡ n → out ≡ linesBy n tree ++ drop (n * 46) before
-records-all tree before out i n b e = b .rest ∙ ap (λ (k : ℕ). linesBy k tree ++ drop (k * 46) before) e
+pub records-all : (tree before out : List ℕ) (i n : ℕ) → Begun (linesBy i tree) before out (i * lineLength) → i ≡ n → out ≡ linesBy n tree ++ drop (n * lineLength) before
+records-all tree before out i n b e = b .rest ∙ ap (λ (k : ℕ). linesBy k tree ++ drop (k * lineLength) before) e
 
 -- reading ends at a bad line, after the last, or at a rest of a line
-module _ (file before out : List ℕ) (i : ℕ) (B : firstBad file ≡ badBy (linesIn file - i) (i + 1) (drop (i * 46) file)) where
+module _ (file before out : List ℕ) (i : ℕ) (B : firstBad file ≡ badBy (linesIn file - i) (i + 1) (drop (i * lineLength) file)) where
   pub lines-bad : {l : Line} → i < linesIn file → l ≡ readLine (lineOf i file) → l ≡ Bad → LinesRead file before out (i + 1)
   lines-bad h L e = record { first = sym (B ∙ bad-here file i h L e); words = λ z. absurd (omega (arith, z)) }
 
-  pub lines-good : Begun (wordsBy i file) before out (i * 4) → linesIn file ≤ i → i ≤ linesIn file → length file % 46 ≡ 0 → LinesRead file before out 0
+  pub lines-good : Begun (wordsBy i file) before out (i * 4) → linesIn file ≤ i → i ≤ linesIn file → length file % lineLength ≡ 0 → LinesRead file before out 0
   lines-good b h l z =
       let e : i ≡ linesIn file = omega arith in
       record { first = sym (B ∙ bad-none file i h l z); words = λ _. b .rest ∙ ap (λ (k : ℕ). wordsBy k file ++ drop (k * 4) before) e }
 
-  pub lines-rest : linesIn file ≤ i → i ≤ linesIn file → (length file % 46 ≡ 0 → ⊥) → LinesRead file before out (linesIn file + 1)
+  pub lines-rest : linesIn file ≤ i → i ≤ linesIn file → (length file % lineLength ≡ 0 → ⊥) → LinesRead file before out (linesIn file + 1)
   lines-rest h l z = record { first = sym (B ∙ bad-rest file i h l z); words = λ y. absurd (omega (arith, y)) }
 
 -- what is cleared
@@ -135,10 +135,10 @@ answer-done s c n room e l a =
 -- records to columns
 
 module _ (tree out : List ℕ) {s : Shape} (S : s ≡ shapeOf tree) where
-  long : length (columnsOf tree) ≡ length tree / 4 * 46
+  long : length (columnsOf tree) ≡ length tree / 4 * lineLength
   long = lines-length (length tree / 4) tree
 
-  pub columns-short : {after : List ℕ} {r : Converted} → length out / 46 < length tree / 4 → after ≡ clearedFrom 0 out → r ≡ shortReply s
+  pub columns-short : {after : List ℕ} {r : Converted} → length out / lineLength < length tree / 4 → after ≡ clearedFrom 0 out → r ≡ shortReply s
       → Converts (recordsToColumns tree (length out)) after r
   unfolding recordsToColumns
   columns-short h a e =
@@ -149,13 +149,13 @@ module _ (tree out : List ℕ) {s : Shape} (S : s ≡ shapeOf tree) where
   unfolding recordsToColumns
   columns-refused e a = rw (← S) (answer-refused s (columnsOf tree) (length tree / 4) (length out) e (a ∙ cleared-all out (length out) refl))
 
-  pub columns-done : (mid : List ℕ) {after : List ℕ} → s ≡ Fine → length tree / 4 ≤ length out / 46 → length mid ≡ length out
-      → mid ≡ linesBy (length tree / 4) tree ++ drop (length tree / 4 * 46) out → after ≡ clearedFrom (length tree / 4 * 46) mid
+  pub columns-done : (mid : List ℕ) {after : List ℕ} → s ≡ Fine → length tree / 4 ≤ length out / lineLength → length mid ≡ length out
+      → mid ≡ linesBy (length tree / 4) tree ++ drop (length tree / 4 * lineLength) out → after ≡ clearedFrom (length tree / 4 * lineLength) mid
       → Converts (recordsToColumns tree (length out)) after (success (length tree / 4))
   unfolding recordsToColumns
   columns-done mid e h n m a =
       rw (← S) (answer-done s (columnsOf tree) (length tree / 4) (length out) e (omega (arith, long))
-      (a ∙ cleared-rest (columnsOf tree) _ mid (length tree / 4 * 46) (length out) m long n))
+      (a ∙ cleared-rest (columnsOf tree) _ mid (length tree / 4 * lineLength) (length out) m long n))
 
 -- columns to records
 

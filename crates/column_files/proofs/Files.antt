@@ -20,12 +20,12 @@ use Rattle.column_files.specs.Files.{linesIn, wordsIn, wordIn, wordsBy, 
 
 -- line i of a file
 abbrev pub lineOf : ℕ → List ℕ → List ℕ
-lineOf i file = take lineLength (drop (i * 46) file)
+lineOf i file = take lineLength (drop (i * lineLength) file)
 
 pub line-none : (file : List ℕ) (i : ℕ) → linesIn file ≤ i → Bad ≡ readLine (lineOf i file)
 line-none file i h =
-    let x : length (lineOf i file) ≤ length (drop (i * 46) file) = simp length-take (omega arith) in
-    line-length (lineOf i file) (λ e. omega (arith, x, length-drop (i * 46) file, e))
+    let x : length (lineOf i file) ≤ length (drop (i * lineLength) file) = simp length-take (omega arith) in
+    line-length (lineOf i file) (λ e. omega (arith, x, length-drop (i * lineLength) file, e))
 
 pub words-in : (l : Line) → length (wordsIn l) ≡ 4
 words-in (Record k s p v) = refl
@@ -33,8 +33,8 @@ words-in Bad = refl
 
 next-line : (i : ℕ) (file : List ℕ) → lineOf i (drop lineLength file) ≡ lineOf (suc i) file
 next-line i file =
-    let e : 46 + i * 46 ≡ suc i * 46 = omega arith in
-    ap (take lineLength) (drop-drop (i * 46) 46 file ∙ ap (λ (n : ℕ). drop n file) e)
+    let e : lineLength + i * lineLength ≡ suc i * lineLength = omega arith in
+    ap (take lineLength) (drop-drop (i * lineLength) lineLength file ∙ ap (λ (n : ℕ). drop n file) e)
 
 -- words
 
@@ -118,47 +118,47 @@ word-off l k e = rw e (sym (word-bad k))
 
 -- row 1
 
-pub bad-start : (file : List ℕ) → firstBad file ≡ badBy (linesIn file - 0) (0 + 1) (drop (0 * 46) file)
+pub bad-start : (file : List ℕ) → firstBad file ≡ badBy (linesIn file - 0) (0 + 1) (drop (0 * lineLength) file)
 bad-start file = ap (λ (n : ℕ). badBy n 1 file) (let e : linesIn file ≡ linesIn file - 0 = omega arith in e)
 
 pub bad-end : (file : List ℕ) (i : ℕ) → linesIn file ≤ i → i ≤ linesIn file
-    → badBy (linesIn file - i) (i + 1) (drop (i * 46) file) ≡ cond (eqb (length (drop (i * 46) file)) 0) 0 (i + 1)
+    → badBy (linesIn file - i) (i + 1) (drop (i * lineLength) file) ≡ cond (eqb (length (drop (i * lineLength) file)) 0) 0 (i + 1)
 unfolding badBy
 bad-end file i h l = let e : linesIn file - i ≡ 0 = omega arith in rw e
 
-bad-step : (n i : ℕ) (file : List ℕ) → badBy (suc n) (i + 1) (drop (i * 46) file)
-    ≡ goodThen (readLine (lineOf i file)) (i + 1) (badBy n (i + 1 + 1) (drop ((i + 1) * 46) file))
+bad-step : (n i : ℕ) (file : List ℕ) → badBy (suc n) (i + 1) (drop (i * lineLength) file)
+    ≡ goodThen (readLine (lineOf i file)) (i + 1) (badBy n (i + 1 + 1) (drop ((i + 1) * lineLength) file))
 unfolding badBy
 bad-step n i file =
-    let e : i * 46 + 46 ≡ (i + 1) * 46 = omega arith in
-    ap (λ (l : List ℕ). goodThen (readLine (lineOf i file)) (i + 1) (badBy n (i + 1 + 1) l)) (drop-drop 46 (i * 46) file ∙ ap (λ (k : ℕ). drop k file) e)
+    let e : i * lineLength + lineLength ≡ (i + 1) * lineLength = omega arith in
+    ap (λ (l : List ℕ). goodThen (readLine (lineOf i file)) (i + 1) (badBy n (i + 1 + 1) l)) (drop-drop lineLength (i * lineLength) file ∙ ap (λ (k : ℕ). drop k file) e)
 
 module _ (file : List ℕ) (i : ℕ) (h : i < linesIn file) {l : Line} (L : l ≡ readLine (lineOf i file)) where
-  step : badBy (linesIn file - i) (i + 1) (drop (i * 46) file)
-      ≡ goodThen (readLine (lineOf i file)) (i + 1) (badBy (linesIn file - (i + 1)) (i + 1 + 1) (drop ((i + 1) * 46) file))
+  step : badBy (linesIn file - i) (i + 1) (drop (i * lineLength) file)
+      ≡ goodThen (readLine (lineOf i file)) (i + 1) (badBy (linesIn file - (i + 1)) (i + 1 + 1) (drop ((i + 1) * lineLength) file))
   step =
       let e : linesIn file - i ≡ suc (linesIn file - (i + 1)) = omega arith in
-      ap (λ (n : ℕ). badBy n (i + 1) (drop (i * 46) file)) e ∙ bad-step (linesIn file - (i + 1)) i file
+      ap (λ (n : ℕ). badBy n (i + 1) (drop (i * lineLength) file)) e ∙ bad-step (linesIn file - (i + 1)) i file
 
-  pub bad-here : l ≡ Bad → badBy (linesIn file - i) (i + 1) (drop (i * 46) file) ≡ i + 1
+  pub bad-here : l ≡ Bad → badBy (linesIn file - i) (i + 1) (drop (i * lineLength) file) ≡ i + 1
   bad-here e =
-      step ∙ ap (λ (x : Line). goodThen x (i + 1) (badBy (linesIn file - (i + 1)) (i + 1 + 1) (drop ((i + 1) * 46) file))) (sym L ∙ e)
+      step ∙ ap (λ (x : Line). goodThen x (i + 1) (badBy (linesIn file - (i + 1)) (i + 1 + 1) (drop ((i + 1) * lineLength) file))) (sym L ∙ e)
 
   pub bad-next : {a b c d : ℕ} → l ≡ Record a b c d
-      → badBy (linesIn file - i) (i + 1) (drop (i * 46) file) ≡ badBy (linesIn file - (i + 1)) (i + 1 + 1) (drop ((i + 1) * 46) file)
+      → badBy (linesIn file - i) (i + 1) (drop (i * lineLength) file) ≡ badBy (linesIn file - (i + 1)) (i + 1 + 1) (drop ((i + 1) * lineLength) file)
   bad-next e =
-      step ∙ ap (λ (x : Line). goodThen x (i + 1) (badBy (linesIn file - (i + 1)) (i + 1 + 1) (drop ((i + 1) * 46) file))) (sym L ∙ e)
+      step ∙ ap (λ (x : Line). goodThen x (i + 1) (badBy (linesIn file - (i + 1)) (i + 1 + 1) (drop ((i + 1) * lineLength) file))) (sym L ∙ e)
 
-pub bad-none : (file : List ℕ) (i : ℕ) → linesIn file ≤ i → i ≤ linesIn file → length file % 46 ≡ 0
-    → badBy (linesIn file - i) (i + 1) (drop (i * 46) file) ≡ 0
+pub bad-none : (file : List ℕ) (i : ℕ) → linesIn file ≤ i → i ≤ linesIn file → length file % lineLength ≡ 0
+    → badBy (linesIn file - i) (i + 1) (drop (i * lineLength) file) ≡ 0
 bad-none file i h l z =
-    let e : eqb (length (drop (i * 46) file)) 0 ≡ true = eq-eqb (length (drop (i * 46) file)) 0 (omega (arith, length-drop (i * 46) file)) in
+    let e : eqb (length (drop (i * lineLength) file)) 0 ≡ true = eq-eqb (length (drop (i * lineLength) file)) 0 (omega (arith, length-drop (i * lineLength) file)) in
     bad-end file i h l ∙ rw e
 
-pub bad-rest : (file : List ℕ) (i : ℕ) → linesIn file ≤ i → i ≤ linesIn file → (length file % 46 ≡ 0 → ⊥)
-    → badBy (linesIn file - i) (i + 1) (drop (i * 46) file) ≡ linesIn file + 1
+pub bad-rest : (file : List ℕ) (i : ℕ) → linesIn file ≤ i → i ≤ linesIn file → (length file % lineLength ≡ 0 → ⊥)
+    → badBy (linesIn file - i) (i + 1) (drop (i * lineLength) file) ≡ linesIn file + 1
 bad-rest file i h l z =
-    let e : eqb (length (drop (i * 46) file)) 0 ≡ false = ne-eqb (length (drop (i * 46) file)) 0 (λ x. z (omega (arith, length-drop (i * 46) file, x))) in
+    let e : eqb (length (drop (i * lineLength) file)) 0 ≡ false = ne-eqb (length (drop (i * lineLength) file)) 0 (λ x. z (omega (arith, length-drop (i * lineLength) file, x))) in
     bad-end file i h l ∙ rw e (let y : i + 1 ≡ linesIn file + 1 = omega arith in y)
 
 -- lines
@@ -175,8 +175,8 @@ lines-more (suc n) w =
     ∙ sym (append-assoc r (linesBy n (drop 4 w)) (linesBy 1 (drop (suc n * 4) w))))
 
 -- the part of a file that is a line
-pub line-part : (file : List ℕ) (i : ℕ) → readLine (take (i * 46 + 46 - i * 46) (drop (i * 46) file)) ≡ readLine (lineOf i file)
-line-part file i = let e : i * 46 + 46 - i * 46 ≡ 46 = omega arith in ap (λ (n : ℕ). readLine (take n (drop (i * 46) file))) e
+pub line-part : (file : List ℕ) (i : ℕ) → readLine (take (i * lineLength + lineLength - i * lineLength) (drop (i * lineLength) file)) ≡ readLine (lineOf i file)
+line-part file i = let e : i * lineLength + lineLength - i * lineLength ≡ lineLength = omega arith in ap (λ (n : ℕ). readLine (take n (drop (i * lineLength) file))) e
 
 -- the words of a file for the shape check
 
@@ -201,7 +201,7 @@ words-some file h x = h (let e = records-is file in omega (arith, e, x))
 pub words-walk : (file : List ℕ) {o : Outcome} → o ≡ walkOf (wordsOf file) 1 1 0 0 (linesIn file) → o ≡ walkOf (wordsOf file) 1 1 0 0 (recordsOf (wordsOf file))
 words-walk file e = e ∙ ap (λ (n : ℕ). walkOf (wordsOf file) 1 1 0 0 n) (sym (records-is file))
 
-pub lines-length : (n : ℕ) (w : List ℕ) → length (linesBy n w) ≡ n * 46
+pub lines-length : (n : ℕ) (w : List ℕ) → length (linesBy n w) ≡ n * lineLength
 unfolding linesBy
 lines-length zero w = refl
 lines-length (suc n) w =

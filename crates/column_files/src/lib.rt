@@ -21,6 +21,7 @@ ghost use mathlib.Core.Path.{_≡_};
 ghost use mathlib.Core.List.{_++_};
 ghost use Prim.Native.Nat.{_+_, _*_, _≤_};
 ghost use lib.ListN.{length, drop};
+ghost use Rattle.column_lines.specs.Form.{lineLength};
 ghost use Rattle.column_files.specs.Files.{Lent, linesIn, linesBy, LinesRead};
 ghost use Rattle.column_files.specs.Convert.{columnsToRecords, recordsToColumns, refusal, shortReply, Converts};
 
@@ -35,8 +36,8 @@ pub struct Converted {
 // Writes a record's line at a place.
 fn write_record(tree: &[u64], at: usize, out: &mut [u8])
     requires { ⌜ (at + 1) * 4 ≤ length (now tree) ⌝ }
-    requires { ⌜ (at + 1) * 46 ≤ length (now out) ⌝ }
-    ensures { λ _. ⌜ Lent (linesBy 1 (drop (at * 4) (now (tree .entry)))) (at * 46) (at * 46 + 46) (now (out .entry)) (now (out .exit)) ⌝ }
+    requires { ⌜ (at + 1) * lineLength ≤ length (now out) ⌝ }
+    ensures { λ _. ⌜ Lent (linesBy 1 (drop (at * 4) (now (tree .entry)))) (at * lineLength) (at * lineLength + lineLength) (now (out .entry)) (now (out .exit)) ⌝ }
 {
     let i = at * RECORD_WORDS;
     let from = at * LINE_LENGTH;
@@ -53,8 +54,8 @@ fn write_record(tree: &[u64], at: usize, out: &mut [u8])
 // Writes the lines of a number of records.
 fn write_records(tree: &[u64], records: usize, out: &mut [u8])
     requires { ⌜ records * 4 ≤ length (now tree) ⌝ }
-    requires { ⌜ records * 46 ≤ length (now out) ⌝ }
-    ensures { λ _. ⌜ now (out .exit) ≡ linesBy records (now (tree .entry)) ++ drop (records * 46) (now (out .entry)) ⌝ }
+    requires { ⌜ records * lineLength ≤ length (now out) ⌝ }
+    ensures { λ _. ⌜ now (out .exit) ≡ linesBy records (now (tree .entry)) ++ drop (records * lineLength) (now (out .entry)) ⌝ }
 {
     let mut i: usize = 0;
     while i < records {

@@ -7,10 +7,11 @@ use mathlib.Core.Bool.{Bool, true, false, cond, _&&_}
 use mathlib.Core.List.{List, [], _∷_, _++_, append-assoc}
 use lib.ListN.{length, take, drop, getD, set, replicate, length-append, length-replicate, length-drop, length-set, drop-of-length-le}
 use lib.Seq.{take-at, drop-at, drop-drop, drop-append-add, set-at, drop-cons}
-use lib.Dec.{eqb, ltb}
-use borrow.Author.Tests.{eq-eqb, ne-eqb, lt-ltb, le-ltb}
-use Rattle.words.specs.Record.{positionBase, packPosition, lineOf, columnOf}
-use Rattle.column_lines.specs.Form.{lineLength, newlinePlace, newline}
+use lib.Dec.{eqb}
+use borrow.Author.Tests.{eq-eqb, ne-eqb}
+use Rattle.words.specs.Record.{packPosition, lineOf, columnOf}
+use Rattle.column_lines.specs.Form.{kindWidth, spanWidth, lineWidth, columnWidth, valueWidth, spanPlace, linePlace, columnPlace, valuePlace}
+use Rattle.column_lines.specs.Form.{newlinePlace, lineLength, newline, signedKind}
 use Rattle.column_lines.specs.Numeral.{blank, digitOf, leadOf, restOf, spelled, numeral, Wrote}
 use Rattle.column_lines.specs.Line.{signedIs, positionIn, recordIn, kindIn, spanIn, placeIn, valueIn, wholeLine, readLine, recordLine, LineWrote}
 use borrow.Rule.Slice.PartMut.{midOf, putMid, post-is, mid-len}
@@ -22,19 +23,19 @@ use Rattle.column_lines.specs.declared.line.Line.the-variants.{Record, B
 -- positions
 
 module _ (a b : Number) {l c : ℕ} (A : a ≡ Word l) (B : b ≡ Word c) where
-  pub position-yes : l < positionBase → c < positionBase → Word (l * 65536 + c) ≡ positionIn a b
+  pub position-yes : Word (packPosition l c) ≡ positionIn a b
   unfolding positionIn
-  position-yes h k = rw (A, B) (simp (lt-ltb l positionBase h, lt-ltb c positionBase k))
+  position-yes = rw (A, B)
 
-  pub position-column : l < positionBase → positionBase ≤ c → Off ≡ positionIn a b
-  unfolding positionIn
-  position-column h k = rw (A, B) (simp (lt-ltb l positionBase h, le-ltb c positionBase k))
+pub position-column : (a b : Number) {l : ℕ} → a ≡ Word l → b ≡ Off → Off ≡ positionIn a b
+unfolding positionIn
+position-column a b A B = rw (A, B)
 
-  pub position-line : positionBase ≤ l → Off ≡ positionIn a b
-  unfolding positionIn
-  position-line h = rw (A, B) (simp (le-ltb l positionBase h))
+pub position-line : (a b : Number) → a ≡ Off → Off ≡ positionIn a b
+unfolding positionIn
+position-line a b A = rw A
 
-pub signed-word : (a : Number) {k : ℕ} → a ≡ Word k → eqb k 33 ≡ signedIs a
+pub signed-word : (a : Number) {k : ℕ} → a ≡ Word k → eqb k signedKind ≡ signedIs a
 signed-word a e = rw e
 
 pub record-all : (a b c d : Number) {k s p v : ℕ} → a ≡ Word k → b ≡ Word s → c ≡ Word p → d ≡ Word v → Record k s p v ≡ recordIn a b c d
@@ -137,43 +138,45 @@ line-done kind span position value before after l e =
 
 module _ (kind span position value : ℕ) (b0 b1 b2 b3 b4 b5 : List ℕ) (long : length b0 ≡ lineLength) {row column : ℕ} (Ro : row ≡ lineOf position)
     (Co : column ≡ columnOf position)
-    (e1 : b1 ≡ take 0 b0 ++ (numeral 4 false kind ++ drop 4 b0)) (e2 : b2 ≡ take 4 b1 ++ (numeral 8 false span ++ drop 12 b1))
-    (e3 : b3 ≡ take 12 b2 ++ (numeral 6 false row ++ drop 18 b2)) (e4 : b4 ≡ take 18 b3 ++ (numeral 6 false column ++ drop 24 b3))
-    (e5 : b5 ≡ take 24 b4 ++ (numeral 21 (eqb kind 33) value ++ drop 45 b4)) where
-  s1 : Begun ([] ++ numeral 4 false kind) b0 b1 4
-  s1 = begun-more [] b0 b0 _ b1 0 4 (begun b0) (numeral-length 4 false kind) (omega arith) e1
+    (e1 : b1 ≡ take 0 b0 ++ (numeral kindWidth false kind ++ drop spanPlace b0)) (e2 : b2 ≡ take spanPlace b1 ++ (numeral spanWidth false span ++ drop linePlace b1))
+    (e3 : b3 ≡ take linePlace b2 ++ (numeral lineWidth false row ++ drop columnPlace b2))
+    (e4 : b4 ≡ take columnPlace b3 ++ (numeral columnWidth false column ++ drop valuePlace b3))
+    (e5 : b5 ≡ take valuePlace b4 ++ (numeral valueWidth (eqb kind signedKind) value ++ drop newlinePlace b4)) where
+  s1 : Begun ([] ++ numeral kindWidth false kind) b0 b1 spanPlace
+  s1 = begun-more [] b0 b0 _ b1 0 spanPlace (begun b0) (numeral-length kindWidth false kind) (omega arith) e1
 
-  s2 : Begun (([] ++ numeral 4 false kind) ++ numeral 8 false span) b0 b2 12
-  s2 = begun-more _ b0 b1 _ b2 4 12 s1 (numeral-length 8 false span) (omega arith) e2
+  s2 : Begun (([] ++ numeral kindWidth false kind) ++ numeral spanWidth false span) b0 b2 linePlace
+  s2 = begun-more _ b0 b1 _ b2 spanPlace linePlace s1 (numeral-length spanWidth false span) (omega arith) e2
 
-  s3 : Begun ((([] ++ numeral 4 false kind) ++ numeral 8 false span) ++ numeral 6 false row) b0 b3 18
-  s3 = begun-more _ b0 b2 _ b3 12 18 s2 (numeral-length 6 false row) (omega arith) e3
+  s3 : Begun ((([] ++ numeral kindWidth false kind) ++ numeral spanWidth false span) ++ numeral lineWidth false row) b0 b3 columnPlace
+  s3 = begun-more _ b0 b2 _ b3 linePlace columnPlace s2 (numeral-length lineWidth false row) (omega arith) e3
 
-  s4 : Begun (((([] ++ numeral 4 false kind) ++ numeral 8 false span) ++ numeral 6 false row) ++ numeral 6 false column) b0 b4 24
-  s4 = begun-more _ b0 b3 _ b4 18 24 s3 (numeral-length 6 false column) (omega arith) e4
+  s4 : Begun (((([] ++ numeral kindWidth false kind) ++ numeral spanWidth false span) ++ numeral lineWidth false row) ++ numeral columnWidth false column)
+      b0 b4 valuePlace
+  s4 = begun-more _ b0 b3 _ b4 columnPlace valuePlace s3 (numeral-length columnWidth false column) (omega arith) e4
 
-  s5 : Begun ((((([] ++ numeral 4 false kind) ++ numeral 8 false span) ++ numeral 6 false row) ++ numeral 6 false column)
-      ++ numeral 21 (eqb kind 33) value) b0 b5 45
-  s5 = begun-more _ b0 b4 _ b5 24 45 s4 (numeral-length 21 (eqb kind 33) value) (omega arith) e5
+  s5 : Begun ((((([] ++ numeral kindWidth false kind) ++ numeral spanWidth false span) ++ numeral lineWidth false row) ++ numeral columnWidth false column)
+      ++ numeral valueWidth (eqb kind signedKind) value) b0 b5 newlinePlace
+  s5 = begun-more _ b0 b4 _ b5 valuePlace newlinePlace s4 (numeral-length valueWidth (eqb kind signedKind) value) (omega arith) e5
 
-  pub line-written : LineWrote kind span position value b0 (set b5 45 10) true
+  pub line-written : LineWrote kind span position value b0 (set b5 newlinePlace newline) true
   unfolding recordLine
-  line-written = line-done kind span position value b0 (set b5 45 10) long
-      (begun-last _ b0 b5 45 10 s5 long ∙ rw (Ro, Co) (simp append-assoc))
+  line-written = line-done kind span position value b0 (set b5 newlinePlace newline) long
+      (begun-last _ b0 b5 newlinePlace newline s5 long ∙ rw (Ro, Co) (simp append-assoc))
 
-  pub written-inside : 45 < length b5
-  written-inside = let x = begun-length _ b0 b5 45 s5 (omega arith) in omega (arith, x, long)
+  pub written-inside : newlinePlace < length b5
+  written-inside = let x = begun-length _ b0 b5 newlinePlace s5 (omega arith) in omega (arith, x, long)
 
-  pub written-length : length (set b5 45 10) ≡ length b0
-  written-length = let x = begun-length _ b0 b5 45 s5 (omega arith) in length-set b5 45 10 ∙ x
+  pub written-length : length (set b5 newlinePlace newline) ≡ length b0
+  written-length = let x = begun-length _ b0 b5 newlinePlace s5 (omega arith) in length-set b5 newlinePlace newline ∙ x
 
 -- a record's line is as long as every line
 pub line-size : (kind span position value : ℕ) → length (recordLine kind span position value) ≡ lineLength
 unfolding recordLine
 line-size kind span position value =
-    let a = numeral-length 4 false kind in
-    let b = numeral-length 8 false span in
-    let c = numeral-length 6 false (lineOf position) in
-    let d = numeral-length 6 false (columnOf position) in
-    let e = numeral-length 21 (eqb kind 33) value in
+    let a = numeral-length kindWidth false kind in
+    let b = numeral-length spanWidth false span in
+    let c = numeral-length lineWidth false (lineOf position) in
+    let d = numeral-length columnWidth false (columnOf position) in
+    let e = numeral-length valueWidth (eqb kind signedKind) value in
     simp length-append (omega (arith, a, b, c, d, e))

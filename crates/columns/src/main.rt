@@ -4,6 +4,7 @@
 ghost use Prim.Native.Nat.{_*_, _≤_};
 ghost use lib.ListN.{length};
 use column_files::records_to_columns;
+use column_lines::line::LINE_LENGTH;
 use column_lines::number::Number;
 use column_lines::number::read_number;
 use libc::STDIN_FILENO;
@@ -11,11 +12,13 @@ use libc::STDOUT_FILENO;
 
 const WORD_LINE: usize = 22;
 
-const MOST_BYTES: usize = 65472;
-
 const MOST_RECORDS: usize = 744;
 
-const LINE_LENGTH: usize = 46;
+const MOST_WORDS: usize = MOST_RECORDS * 4;
+
+const MOST_BYTES: usize = MOST_WORDS * WORD_LINE;
+
+const FILE_BYTES: usize = MOST_RECORDS * LINE_LENGTH;
 
 fn reply(number: u64, place: u64, total: u64) {
     io::print_decimal(STDOUT_FILENO, number);
@@ -58,7 +61,7 @@ fn convert(text: &[u8]) {
         return;
     }
     let count = text.len() / WORD_LINE;
-    let mut words = [0; 2976];
+    let mut words = [0; MOST_WORDS];
     let bad = read_words(text, count, &mut words);
     if bad != 0 {
         reply(1, bad as u64, 0);
@@ -68,7 +71,7 @@ fn convert(text: &[u8]) {
         reply(1, count as u64 + 1, 0);
         return;
     }
-    let mut out = [0; 34224];
+    let mut out = [0; FILE_BYTES];
     let answer = records_to_columns(&words[0..count], &mut out);
     reply(answer.number, answer.place as u64, answer.total as u64);
     let total = answer.total;

@@ -17,7 +17,7 @@ use Rattle.definition.specs.Uses.{Use, Limits}
 use Rattle.definition.specs.Compiler.{Error}
 use Rattle.definition.specs.Book.{Context, compileDocument, hasText}
 use Rattle.definition.specs.DependencySolver.{dependencies, dependenciesOf, findDocument, insertNumber, insertNumbers, reachedFrom, neededIn, needed}
-use Rattle.definition.specs.DependencySolver.{missing, allIn, ready, readyBy, without, Worked, afterBook, driveBy, drive, filesOf, compileNeeded}
+use Rattle.definition.specs.DependencySolver.{missing, allIn, ready, readyBy, without, Worked, afterBook, driveBy, drive, loadedOf, compileNeeded}
 use Rattle.definition.specs.Answer.{Answer, answerWorked, answerNeeded, answerBundle, answerDocuments, answerTwice, answerFrom, twice, documentPlaces}
 use Rattle.definition.specs.Answer.{answerShape, limitsOf}
 use Rattle.definition.specs.HeadIncludes.{headIncludes, headIncludesOf, reachedBefore, neededInBefore, neededBefore, readyBefore, readyByBefore}
@@ -125,14 +125,14 @@ drive-before (suc k) ds done left c uses h =
     go (some d) e = let b = compileDocument d c uses in after d (b .compiler .errors) (b .context) (b .uses) (e d _ _)
 
 -- the call
-documents-before : (ds : List Document) (l : Limits) (c : Context) → HeadIncludes (filesOf (c .assemblies)) ds
+documents-before : (ds : List Document) (l : Limits) (c : Context) → HeadIncludes (loadedOf c) ds
     → answerDocumentsBefore ds l c ≡ answerDocuments ds l c
 unfolding answerBundle compileNeeded compileNeededBefore
 documents-before [] l c h = refl
 documents-before (root ∷ others) l c h = rw same (go (missing ds numbers))
   where
     standing : List ℕ
-    standing = filesOf (c .assemblies)
+    standing = loadedOf c
 
     ds : List Document
     ds = root ∷ others
@@ -150,7 +150,7 @@ documents-before (root ∷ others) l c h = rw same (go (missing ds numbers))
     go (some n) = refl
     go none = ap (λ (w : Worked). answerWorked l w) (drive-before (length numbers) ds standing numbers c _ first)
 
-pub head-includes-as-before : (c : Context) (w lengths : List ℕ) → HeadIncludes (filesOf (c .assemblies)) (documentsOf w)
+pub head-includes-as-before : (c : Context) (w lengths : List ℕ) → HeadIncludes (loadedOf c) (documentsOf w)
     → answerFromBefore c w lengths ≡ answerFrom c w lengths
 unfolding answerFrom answerFromBefore
 head-includes-as-before c w lengths h = go (shapeOf w)

@@ -1,11 +1,15 @@
+pub mod AllRows
+pub mod AllStandingRows
 pub mod Safe
 pub mod Lists
+pub mod Needed
 pub mod Moves
 pub mod Sound
 pub mod Good
 pub mod Program
 pub mod Cells
 pub mod FunctionCode
+pub mod Tests
 pub mod Keeps
 pub mod Answer
 pub mod HeadIncludes
@@ -16,5 +20,9 @@ pub mod Operands
 pub mod Counts
 pub mod Tables
 pub mod Delivery
+pub mod Promise
 pub mod Scopes
 pub mod Steady
+pub mod WithinBench
+pub mod PromiseBench
+pub mod SharedOnce

@@ -15,7 +15,7 @@ use Rattle.tree.specs.declared.Shape.the-variants.{Fine, Refused}
 use Rattle.definition.specs.Uses.{Use, Limits, using′}
 use Rattle.definition.specs.Book.{Context, hasText}
 use Rattle.definition.specs.DependencySolver.{includedFile, dependenciesOf, findDocument, insertNumbers, missing, allIn, without, Worked, Delivered}
-use Rattle.definition.specs.DependencySolver.{driveBy, filesOf}
+use Rattle.definition.specs.DependencySolver.{driveBy, loadedOf}
 use Rattle.definition.specs.Answer.{Answer, Refusal, answerWorked, twice, documentPlaces, limitsOf}
 
 -- `get_dependencies`: a definition that is no include ends the list
@@ -61,7 +61,7 @@ driveBefore (suc k) ds done left c uses =
 -- the work after row 6
 unfoldable pub compileNeededBefore : List ℕ → List Document → Context → Worked
 compileNeededBefore numbers ds c =
-    let standing = filesOf (c .assemblies) in
+    let standing = loadedOf c in
     driveBefore (length numbers) ds standing numbers c
     (using′ booksArea (length standing + length numbers) ∷ using′ constantsArea (length (c .pool .constants)) ∷ [])
 
@@ -73,7 +73,7 @@ answerNeededBefore none numbers ds l c = answerWorked l (compileNeededBefore num
 abbrev pub answerDocumentsBefore : List Document → Limits → Context → Answer
 answerDocumentsBefore [] l c = Refusal 3 0 []
 answerDocumentsBefore (root ∷ others) l c =
-    let numbers = neededBefore (filesOf (c .assemblies)) root others in
+    let numbers = neededBefore (loadedOf c) root others in
     answerNeededBefore (missing (root ∷ others) numbers) numbers (root ∷ others) l c
 
 abbrev pub answerTwiceBefore : Option ℕ → List ℕ → Limits → Context → Answer

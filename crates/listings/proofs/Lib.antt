@@ -1,5 +1,7 @@
 -- Laws of the listing, each file by its subject. Assumes nothing.
+pub mod BenchTable
 pub mod Walking
 pub mod Keys
+pub mod Places
 pub mod Text
 pub mod Whole

@@ -4,6 +4,7 @@
 use mathlib.Core.Path.{_≡_, refl, sym, _∙_}
 use Prim.Native.Nat.{_+_, _-_, _*_, _≤_}
 use lib.ListN.{length, drop}
+use Rattle.column_lines.specs.Form.{lineLength}
 use Rattle.column_lines.proofs.Lines.{Begun}
 use Rattle.column_files.specs.Files.{wordsBy, badBy, firstBad, linesIn}
 use Rattle.column_files.proofs.Files.{bad-start, bad-next}
@@ -14,7 +15,7 @@ use borrow.Author.Needs.{needs}
 use native.Mathlib.Omega.{arith}
 
 abbrev Inv-loop : tie.InvT-loop
-Inv-loop file out₀ lines i₀ out i = (firstBad file ≡ badBy (linesIn file - i) (i + 1) (drop (i * 46) file)) × Begun (wordsBy i file) out₀ out (i * 4)
+Inv-loop file out₀ lines i₀ out i = (firstBad file ≡ badBy (linesIn file - i) (i + 1) (drop (i * lineLength) file)) × Begun (wordsBy i file) out₀ out (i * 4)
     × (i ≤ linesIn file) × (length out ≡ length out₀)
 
 abbrev μ-loop : tie.MeasureT-loop

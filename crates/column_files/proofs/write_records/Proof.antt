@@ -4,6 +4,7 @@
 use mathlib.Core.Path.{_≡_, refl}
 use Prim.Native.Nat.{_-_, _*_, _≤_}
 use lib.ListN.{length}
+use Rattle.column_lines.specs.Form.{lineLength}
 use Rattle.column_lines.proofs.Lines.{Begun}
 use Rattle.column_files.specs.Files.{linesBy}
 use Rattle.column_files.proofs.Converting.{records-begun, records-more, records-all}
@@ -13,7 +14,7 @@ use borrow.Author.Needs.{needs}
 use native.Mathlib.Omega.{arith}
 
 abbrev Inv-loop : tie.InvT-loop
-Inv-loop tree records out₀ i₀ out i = Begun (linesBy i tree) out₀ out (i * 46) × (i ≤ records) × (length out ≡ length out₀)
+Inv-loop tree records out₀ i₀ out i = Begun (linesBy i tree) out₀ out (i * lineLength) × (i ≤ records) × (length out ≡ length out₀)
 
 abbrev μ-loop : tie.MeasureT-loop
 μ-loop tree records out₀ i₀ out i = records - i

@@ -3,6 +3,7 @@
 use mathlib.Core.Path.{_≡_, sym, _∙_}
 use Prim.Native.Nat.{_+_, _-_, _*_, _≤_}
 use lib.ListN.{drop}
+use Rattle.column_lines.specs.Form.{lineLength}
 use Rattle.column_files.specs.Files.{badBy, firstBad, linesIn}
 use Rattle.column_files.proofs.Files.{bad-start, bad-here, bad-next, bad-none, bad-rest}
 use Rattle.column_files.proofs.file.first_bad.Statement.{statement}
@@ -11,7 +12,7 @@ use borrow.Author.Needs.{needs}
 use native.Mathlib.Omega.{arith}
 
 abbrev Inv-loop : tie.InvT-loop
-Inv-loop file lines i₀ i = (firstBad file ≡ badBy (linesIn file - i) (i + 1) (drop (i * 46) file)) × (i ≤ linesIn file)
+Inv-loop file lines i₀ i = (firstBad file ≡ badBy (linesIn file - i) (i + 1) (drop (i * lineLength) file)) × (i ≤ linesIn file)
 
 abbrev μ-loop : tie.MeasureT-loop
 μ-loop file lines i₀ i = linesIn file - i
