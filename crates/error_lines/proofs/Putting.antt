@@ -1,11 +1,11 @@
 -- Writing from a place on: nothing, a byte, one part after the other, and what a loop has left to write. Assumes nothing.
-use Prim.Native.Nat.{ℕ, zero, suc, _+_, _≤_, _<_}
+use Prim.Native.Nat.{ℕ, zero, suc, _+_, _-_, _≤_, _<_}
 use native.Mathlib.Omega.{arith}
 use native.Mathlib.Decide.{decLt}
 use mathlib.Core.Path.{_≡_, refl, sym, ap, subst, _∙_}
 use mathlib.Core.List.{List, [], _∷_, _++_, append-assoc, append-nil}
-use lib.ListN.{length, take, drop, getD, set, length-append, length-set, drop-of-length-le}
-use lib.Seq.{drop-cons, take-suc-set}
+use lib.ListN.{length, take, drop, getD, set, length-append, length-set, length-drop, drop-of-length-le}
+use lib.Seq.{drop-cons, take-suc-set, take-all}
 use Rattle.error_lines.specs.Puts.{Puts}
 
 pub puts-none : (at : ℕ) (out : List ℕ) → Puts [] at out out at
@@ -80,3 +80,7 @@ bytes-more bytes i l =
 
 pub bytes-none : (bytes : List ℕ) (i : ℕ) → length bytes ≤ i → drop i bytes ≡ []
 bytes-none bytes i l = drop-of-length-le bytes l
+
+-- the bytes from a place to the end, as a part
+pub part-all : (l : List ℕ) (k : ℕ) → take (length l - k) (drop k l) ≡ drop k l
+part-all l k = take-all (length l - k) (drop k l) (let e = length-drop k l in omega (arith, e))

@@ -1,10 +1,10 @@
 -- The answer of the call (2026-10: 'Checks: row 3, its index, for the first error ..; then row 9, place 13, for a short line buffer, all zero after
 -- either'): the reply and the whole line buffer
-use Prim.Native.Nat.{ℕ, _+_, _-_}
+use Prim.Native.Nat.{ℕ, _+_, _-_, _<_}
 use mathlib.Core.Bool.{cond}
 use mathlib.Core.Option.{Option, none, some}
 use mathlib.Core.List.{List, [], _∷_, _++_}
-use lib.ListN.{length, replicate}
+use lib.ListN.{length, take, getD, replicate}
 use lib.Dec.{leb}
 use Rattle.column_files.specs.Convert.{Conversion, refuse, success}
 use Rattle.definition.specs.Compiler.{Error}
@@ -33,3 +33,11 @@ inWordsBy none lines room = delivered lines room
 unfoldable pub inWords : List ℕ → ℕ → List ℕ → List ℕ → ℕ → Conversion
 inWords errors file table bytes room =
     inWordsBy (firstUnknown 0 (errorsIn errors)) (linesOf table bytes file (errorsIn errors)) room
+
+-- the bytes that a call has delivered
+abbrev pub written : Conversion → List ℕ
+written c = take (c .reply .total) (c .output)
+
+-- the elements of a lent slice are numbers below a bound
+abbrev pub AllBelow : ℕ → List ℕ → Type 0
+AllBelow bound l = (j : ℕ) → getD l j 0 < bound
