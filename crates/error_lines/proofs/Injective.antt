@@ -38,11 +38,11 @@ freeOf c (b ∷ bs) = cond (eqb b c) false (freeOf c bs)
 
 free-of : (c : ℕ) (l : List ℕ) → freeOf c l ≡ true → Free c l
 free-of c [] e = end
-free-of c (b ∷ l) e = go (ℕ-discrete b c)
+free-of c (b ∷ l) e = go (ℕ-discrete b c) (free-of c l)
   where
-    go : Dec (b ≡ c) → Free c (b ∷ l)
-    go (yes q) = absurd (let x : false ≡ true = simp (eq-eqb b c q) at e in let z : _≡_ {A = ℕ} 0 1 = cc x in omega (arith, z))
-    go (no d) = more d (free-of c l (simp (ne-eqb b c d) at e))
+    go : Dec (b ≡ c) → (freeOf c l ≡ true → Free c l) → Free c (b ∷ l)
+    go (yes q) r = absurd (let x : false ≡ true = simp (eq-eqb b c q) at e in let z : _≡_ {A = ℕ} 0 1 = cc x in omega (arith, z))
+    go (no d) r = more d (r (simp (ne-eqb b c d) at e))
 
 abbrev allFree : ℕ → List (List ℕ) → Bool
 allFree c [] = true
@@ -50,12 +50,12 @@ allFree c (m ∷ ms) = cond (freeOf c m) (allFree c ms) false
 
 free-among : (c : ℕ) (ms : List (List ℕ)) → allFree c ms ≡ true → (n : ℕ) → Free c (getD ms n [])
 free-among c [] e n = end
-free-among c (m ∷ ms) e n = go (freeOf c m) refl n
+free-among c (m ∷ ms) e n = go (freeOf c m) refl n (free-among c ms)
   where
-    go : (t : Bool) → freeOf c m ≡ t → (n : ℕ) → Free c (getD (m ∷ ms) n [])
-    go true q zero = free-of c m q
-    go true q (suc n) = free-among c ms (simp q at e) n
-    go false q n = absurd (let x : false ≡ true = simp q at e in let z : _≡_ {A = ℕ} 0 1 = cc x in omega (arith, z))
+    go : (t : Bool) → freeOf c m ≡ t → (n : ℕ) → (allFree c ms ≡ true → (n : ℕ) → Free c (getD ms n [])) → Free c (getD (m ∷ ms) n [])
+    go true q zero r = free-of c m q
+    go true q (suc n) r = r (simp q at e) n
+    go false q n r = absurd (let x : false ≡ true = simp q at e in let z : _≡_ {A = ℕ} 0 1 = cc x in omega (arith, z))
 
 free-message : (n : ℕ) → Free 44 (message n)
 unfolding message
@@ -261,7 +261,7 @@ module _ (table bytes : List ℕ) (B : AllBelow 256 bytes) (D : TextsDiffer tabl
   lines-read (d ∷ ds) [] (more′ {n} {p} {k} {v} K F R) none′ e =
       absurd (no-line (message n) (32 ∷ from₂ table bytes f n p k v (linesOf table bytes f ds)) [] 44
       (sym e ∙ line-on table bytes f n p k v (linesOf table bytes f ds)))
-  lines-read (x ∷ es) (y ∷ ds) (more′ {n} {p} {k} {v} K F R) (more′ {n′} {p′} {k′} {v′} K′ F′ R′) e =
+  lines-read (x ∷ es) (y ∷ ds) (more′ {n} {p} {k} {v} K F R) (more′ {n = n′} {p = p′} {k = k′} {v = v′} K′ F′ R′) e =
       let h = line-read table bytes B D f g n p k v n′ p′ k′ v′ (linesOf table bytes f es) (linesOf table bytes g ds) K K′ F F′ e in
       let t = lines-read es ds R R′ (h .1) in
       ap (λ (z : Error). z ∷ es) (h .0) ∙ ap (λ (l : List Error). error n′ p′ k′ v′ ∷ l) t

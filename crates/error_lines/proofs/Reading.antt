@@ -67,7 +67,7 @@ module _ (c : ℕ) (A : Apart c) where
   free-lead (suc w) true = free-append c (replicate w 32) (45 ∷ []) (free-replicate c 32 w (A .blank)) (more (A .minus) end)
 
   free-digit : (m : ℕ) → Free c (digitOf m ∷ [])
-  free-digit m = more (λ e. let l = A .low in omega (arith, e, l)) end
+  free-digit m = more {b = digitOf m} (λ (e : digitOf m ≡ c). let l = A .low in omega (arith, e, l)) end
 
   free-rest : (w : ℕ) (g : Bool) (m : ℕ) → Free c (restOf w g m)
   unfolding restOf
@@ -130,6 +130,21 @@ mark-digit : (b m : ℕ) → (b ≡ 34) ⊎ (b ≡ 92) → b ≡ digitOf m → �
 mark-digit b m (inl e) h = omega (arith, e, h)
 mark-digit b m (inr e) h = omega (arith, e, h)
 
+ten : (q r : ℕ) → q / 10 ≡ r / 10 → digitOf q ≡ digitOf r → q ≡ r
+ten q r a b = omega (arith, a, b)
+
+hundred : (b : ℕ) → b / 10 / 10 ≡ b / 100
+hundred b = omega arith
+
+small : (q r : ℕ) → q < 10 → r < 10 → digitOf q ≡ digitOf r → q ≡ r
+small q r h k e = omega (arith, h, k, e)
+
+digits-same : (b c : ℕ) → b < 256 → c < 256 → digitOf (b / 100) ≡ digitOf (c / 100) → digitOf (b / 10) ≡ digitOf (c / 10) → digitOf b ≡ digitOf c → b ≡ c
+digits-same b c h k x y z =
+    let l : b / 100 < 10 = omega (arith, h) in
+    let m : c / 100 < 10 = omega (arith, k) in
+    ten b c (ten (b / 10) (c / 10) (hundred b ∙ (small (b / 100) (c / 100) l m x ∙ sym (hundred c))) y) z
+
 escape-split : (b c : ℕ) {x y : List ℕ} (r s : List ℕ) → Escape b x → Escape c y → b < 256 → c < 256 → x ++ r ≡ y ++ s → (b ≡ c) × (r ≡ s)
 escape-split b c r s (mark m) (mark n) h k e = (cons-head (cons-tail e), cons-tail (cons-tail e))
 escape-split b c r s (mark m) (printed p q) h k e = absurd (q (sym (cons-head e)))
@@ -143,15 +158,15 @@ escape-split b c r s digits digits h k e =
     let x : digitOf (b / 100) ≡ digitOf (c / 100) = cons-head (cons-tail e) in
     let y : digitOf (b / 10) ≡ digitOf (c / 10) = cons-head (cons-tail (cons-tail e)) in
     let z : digitOf b ≡ digitOf c = cons-head (cons-tail (cons-tail (cons-tail e))) in
-    (omega (arith, h, k, x, y, z), cons-tail (cons-tail (cons-tail (cons-tail e))))
+    (digits-same b c h k x y z, cons-tail (cons-tail (cons-tail (cons-tail e))))
 
 escape-no-end : (b : ℕ) {x : List ℕ} (r s : List ℕ) → Escape b x → x ++ r ≡ 34 ∷ s → ⊥
 escape-no-end b r s (mark m) e = let h : _≡_ {A = ℕ} 92 34 = cons-head e in omega (arith, h)
 escape-no-end b r s (printed p q) e = p (cons-head e)
 escape-no-end b r s digits e = let h : _≡_ {A = ℕ} 92 34 = cons-head e in omega (arith, h)
 
-below-tail : {n b : ℕ} {l : List ℕ} → AllBelow n (b ∷ l) → AllBelow n l
-below-tail h j = h (suc j)
+below-tail : (n b : ℕ) (l : List ℕ) → AllBelow n (b ∷ l) → AllBelow n l
+below-tail n b l h j = h (suc j)
 
 escaped-split : (t u r s : List ℕ) → AllBelow 256 t → AllBelow 256 u → escaped t ++ (34 ∷ r) ≡ escaped u ++ (34 ∷ s) → (t ≡ u) × (r ≡ s)
 unfolding escaped
@@ -163,7 +178,7 @@ escaped-split (b ∷ t) [] r s T U e =
 escaped-split (b ∷ t) (c ∷ u) r s T U e =
     let x = escape-split b c (escaped t ++ (34 ∷ r)) (escaped u ++ (34 ∷ s)) (escape-is b) (escape-is c) (T 0) (U 0)
     (sym (append-assoc (escape b) (escaped t) (34 ∷ r)) ∙ (e ∙ append-assoc (escape c) (escaped u) (34 ∷ s))) in
-    let y = escaped-split t u r s (below-tail T) (below-tail U) (x .1) in
+    let y = escaped-split t u r s (below-tail 256 b t T) (below-tail 256 c u U) (x .1) in
     let h : b ≡ c = x .0 in
     (ap (λ (z : ℕ). z ∷ t) h ∙ ap (λ (l : List ℕ). c ∷ l) (y .0), y .1)
 
