@@ -144,7 +144,7 @@ pub record Fits (n p k v : ℕ) : Type 0 where
   pub kind : k < wordEnd
   pub value : v < wordEnd
 
-error-eq : {n n′ p p′ k k′ v v′ : ℕ} → n ≡ n′ → p ≡ p′ → k ≡ k′ → v ≡ v′ → error n p k v ≡ error n′ p′ k′ v′
+pub error-eq : {n n′ p p′ k k′ v v′ : ℕ} → n ≡ n′ → p ≡ p′ → k ≡ k′ → v ≡ v′ → error n p k v ≡ error n′ p′ k′ v′
 error-eq {n} {n′} {p} {p′} {k} {k′} {v} {v′} a b c d =
     ap (λ (x : ℕ). error x p k v) a ∙ (ap (λ (x : ℕ). error n′ x k v) b ∙ (ap (λ (x : ℕ). error n′ p′ x v) c ∙ ap (λ (x : ℕ). error n′ p′ k′ x) d))
 
@@ -200,7 +200,6 @@ module _ (table bytes : List ℕ) (B : AllBelow 256 bytes) (D : TextsDiffer tabl
           let x = free-split 10 (plain (eqb kind signedKind) v) (plain (eqb kind signedKind) w) r s (free-plain 10 apart-10 (eqb kind signedKind) v)
           (free-plain 10 apart-10 (eqb kind signedKind) w) e in
           (plain-same (eqb kind signedKind) v w h k (x .0), x .1)
-
 
   pub line-read : (f g n p k v n′ p′ k′ v′ : ℕ) (r s : List ℕ) → known (error n p k v) ≡ true → known (error n′ p′ k′ v′) ≡ true → Fits n p k v → Fits n′ p′ k′ v′
       → errorLine table bytes f (error n p k v) ++ r ≡ errorLine table bytes g (error n′ p′ k′ v′) ++ s → (error n p k v ≡ error n′ p′ k′ v′) × (r ≡ s)

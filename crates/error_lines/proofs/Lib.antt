@@ -8,3 +8,4 @@ pub mod Walking
 pub mod Messages
 pub mod Reading
 pub mod Injective
+pub mod Compiled

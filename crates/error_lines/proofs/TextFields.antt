@@ -80,9 +80,11 @@ module _ (bytes : List ℕ) (start len : ℕ) where
       let a : start ≡ s = cc h in
       let b : start + len ≡ e = cc h in
       let l = leb-true (start + len) (length bytes) (sym q) in
-      let k : len ≡ e - s = omega (arith, a, b) in
-      (omega (arith, a, b), omega (arith, b, l),
-      ap some (ap (λ (m : ℕ). take m (drop start bytes)) k ∙ ap (λ (m : ℕ). take (e - s) (drop m bytes)) a))
+      let k : len ≡ e - s = omega (arith, a, b) in (
+        omega (arith, a, b),
+        omega (arith, b, l),
+        ap some (ap (λ (m : ℕ). take m (drop start bytes)) k ∙ ap (λ (m : ℕ). take (e - s) (drop m bytes)) a),
+      )
   from true false q s e h = absurd (let z : _≡_ {A = ℕ} 0 1 = cc h in omega (arith, z))
   from false u q s e h = absurd (let z : _≡_ {A = ℕ} 0 1 = cc h in omega (arith, z))
 
