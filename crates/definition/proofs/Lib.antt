@@ -1,3 +1,4 @@
+pub mod AllRows
 pub mod Safe
 pub mod Lists
 pub mod Needed

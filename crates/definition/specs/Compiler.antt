@@ -205,7 +205,7 @@ pub data InfixKind : Type 0 where
   Unknown : InfixKind
 
 -- by 01's infix values: 0 Assign; 1 to 5 plus, minus, star, slash, percent; 6 to 10 the same with assign; 11 Equal, 12 NotEqual, 13 Greater, 14 Less,
--- 15 GreaterEqual, 16 LessEqual, 17 And, 18 Or, 19 other. Each value beside its operation: `infix-operations` in `Bench`
+-- 15 GreaterEqual, 16 LessEqual, 17 And, 18 Or, 19 other. Each value beside its operation: `infix-operations` of `Kinds` in `Bench`
 abbrev pub infixKind : ℕ → InfixKind
 infixKind n =
     cond (eqb n 0) Assigning

@@ -1,4 +1,5 @@
 -- Laws of the listing, each file by its subject. Assumes nothing.
+pub mod BenchTable
 pub mod Walking
 pub mod Keys
 pub mod Text

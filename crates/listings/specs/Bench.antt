@@ -3,7 +3,7 @@ use Prim.Native.Nat.{ℕ}
 use mathlib.Core.Path.{_≡_, refl}
 use mathlib.Core.Bool.{true, false, cond, _&&_}
 use mathlib.Core.List.{List, [], _∷_, map}
-use lib.ListN.{getD, replicate}
+use lib.ListN.{getD}
 use lib.Dec.{leb}
 use Rattle.words.specs.Opcode.{word, unword}
 use Rattle.words.specs.Program.{codeOf}
@@ -11,7 +11,7 @@ use Rattle.words.specs.Record.{packPosition}
 use Rattle.words.specs.declared.reply.Reply.{Reply}
 use Rattle.words.specs.declared.reply.Totals.{Totals}
 use Rattle.definition.specs.Answer.{Reply as Answered, answer, replyOf, areasOf}
-use Rattle.definition.specs.Bench.{run, r, example, exact}
+use Rattle.definition.specs.Bench.{run, r, book, ample, example, exampleLines, exact}
 use Rattle.definition.specs.Program.{tablesOf, errorTables}
 use Rattle.column_files.specs.Convert.{Conversion, success, refusal, answerBy}
 use Rattle.column_lines.specs.Numeral.{leadOf, restOf, spelled, leadFits, restFits, spellFits}
@@ -64,35 +64,31 @@ listed w lengths =
 abbrev l : (section a b c d e f last : ℕ) → Fields
 l section a b c d e f last = line section a b c d e f last false
 
--- (l) the listing of 01's example
-bench-l : listed example exact ≡
-    l 1 1 4 0 1 0 1 0
-    ∷ l 2 0 1 1 0 0 0 3
-    ∷ l 3 0 0 2 6 7 0 0
-    ∷ l 3 0 1 2 6 82 0 4
-    ∷ l 3 0 2 2 6 2 0 0
-    ∷ l 3 0 3 2 6 81 0 6
-    ∷ l 3 0 4 2 6 2 0 0
-    ∷ l 3 0 5 3 5 5 0 0
-    ∷ l 4 0 0 0 0 0 0 0
-    ∷ l 4 1 1 0 0 0 0 1
-    ∷ l 4 2 1 0 0 0 0 0
-    ∷ l 4 3 6 0 0 0 0 0
-    ∷ l 8 0 3 0 0 0 0 0
-    ∷ l 10 0 0 0 0 0 0 2
-    ∷ []
+-- a line's eight numbers, where its last is unsigned
+abbrev numbers : Fields → List ℕ
+numbers x =
+    cond (x .signed) []
+    (x .section ∷ x .first ∷ x .second ∷ x .third ∷ x .fourth ∷ x .fifth ∷ x .sixth ∷ x .last ∷ [])
+
+-- the listing of a tree that takes of each area what 01's example takes
+pub listing : List ℕ → List (List ℕ)
 unfolding listed
+listing w = map numbers (listed w exact)
+
+-- (l) the listing of 01's example: a row of the table in definition (proofs/BenchTable.antt has the whole)
+pub bench-l : listing example ≡ exampleLines
+unfolding listing
 bench-l = refl
 
 -- models, properties and methods, the last by model, then name: models 3 and 4 (two properties), 4 implemented before 3, each with two methods
 models : List ℕ
-models = r 1 11 0 2 (r 12 1 0 3 (r 12 3 0 4 (r 40 1 0 7 (r 40 1 0 8 (r 16 3 0 4 (r 14 1 0 9 (r 14 1 0 6 (r 16 3 0 3 (r 14 1 0 9 (r 14 1 0 6 []))))))))))
+models = book (r 12 1 0 3 ∷ r 12 3 0 4 ∷ r 40 1 0 7 ∷ r 40 1 0 8 ∷ r 16 3 0 4 ∷ r 14 1 0 9 ∷ r 14 1 0 6 ∷ r 16 3 0 3 ∷ r 14 1 0 9 ∷ r 14 1 0 6 ∷ [])
 
 sections-5-to-7 : (ls : List Fields) → List Fields
 sections-5-to-7 [] = []
 sections-5-to-7 (x ∷ ls) = let rest = sections-5-to-7 ls in cond (leb 5 (x .section) && leb (x .section) 7) (x ∷ rest) rest
 
-by-model : sections-5-to-7 (listed models (0 ∷ replicate 12 100)) ≡
+by-model : sections-5-to-7 (listed models ample) ≡
     l 5 0 0 0 0 0 0 3
     ∷ l 5 1 0 0 0 0 0 4
     ∷ l 6 1 0 0 0 0 0 7
@@ -106,7 +102,7 @@ unfolding listed models sections-5-to-7
 by-model = refl
 
 -- a refusal: its line, and the errors
-faulty : listed (r 1 3 0 2 (r 16 2 (packPosition 1 7) 3 (r 14 1 0 4 []))) (0 ∷ replicate 12 100) ≡ l 0 7 2 0 0 0 0 0 ∷ l 11 0 10 1 7 16 0 3 ∷ []
+faulty : listed (book (r 16 2 (packPosition 1 7) 3 ∷ r 14 1 0 4 ∷ [])) ample ≡ l 0 7 2 0 0 0 0 0 ∷ l 11 0 10 1 7 16 0 3 ∷ []
 unfolding listed
 faulty = refl
 
