@@ -9,3 +9,4 @@ pub mod Messages
 pub mod Reading
 pub mod Injective
 pub mod Compiled
+pub mod Examples
