@@ -1,28 +1,37 @@
 # Writes the stored cases of column_cases, and those of records and columns, by a reading of 01 of its own. Run at the root of the repository.
 import random, os
-W=[4,8,6,6,21]
+W=[4,8,9,9,21]
+LINE=sum(W)+1
+MOST=99999999 # the greatest line, and the greatest column
 def line(k,s,l,c,v): return ''.join(str(x).rjust(w) for x,w in zip([k,s,l,c,v],W))+'\n'
 D=lambda n,f=1: line(1,n,0,0,f)
 # example of 01: file 2, f (text 3, position 1 10), parameter x (text 4): if x return end
 ex=D(8,2)+line(14,7,1,10,3)+line(40,1,1,11,4)+line(25,5,0,0,0)+line(42,4,0,0,0)+line(30,1,2,6,4)+line(43,2,0,0,0)+line(21,1,3,5,0)
 def const(kind,v): # document, function, 25, constant
-    return D(4)+line(14,3,1,1,5)+line(25,2,0,0,0)+line(kind,1,65535,65535,v)
+    return D(4)+line(14,3,1,1,5)+line(25,2,0,0,0)+line(kind,1,MOST,MOST,v)
 cases=[]
 def add(f,room,exp): cases.append((f,room,exp))
-ok=lambda f,last: (0,0,len(f)//46,last,1)
+ok=lambda f,last: (0,0,len(f)//LINE,last,1)
 ref=lambda n,p: (n,p,0,0,1)
 add(ex,256,ok(ex,0)); add(ex,32,ok(ex,0)); add(ex,31,ref(9,0)); add(ex,0,ref(9,0))
 for k,v,w in [(33,-2**63,2**63),(33,2**63-1,2**63-1),(33,-1,2**64-1),(33,0,0),(34,0x7FF8000000000001,0x7FF8000000000001),(34,0xFFF0000000000001,0xFFF0000000000001),(34,2**64-1,2**64-1)]:
     f=const(k,v); add(f,64,ok(f,w))
 for k,v in [(33,-2**63-1),(33,2**63),(33,'-0'),(33,'007'),(33,'+7'),(33,'- 7'),(33,'7 '),(33,''),(33,'-'),(34,2**64),(34,-1),(34,'99999999999999999999'),(33,'1a')]:
     f=const(k,v); add(f,64,ref(1,4))
-add(ex[:-1],256,ref(1,8)); add(ex+'x',256,ref(1,9)); add('',256,ref(3,0)); add('\n',256,ref(1,1)); add(ex[:46*3]+'\n'+ex[46*3:],256,ref(1,4))
+add(ex[:-1],256,ref(1,8)); add(ex+'x',256,ref(1,9)); add('',256,ref(3,0)); add('\n',256,ref(1,1)); add(ex[:LINE*3]+'\n'+ex[LINE*3:],256,ref(1,4))
 f=D(1,1)+'' ; add(f,256,(0,0,1,1,1))
 add(D(2),256,ref(3,0)); add(D(2),0,ref(3,0))              # span past the end, also without room
 add(D(2)+line(99,1,0,0,0),256,ref(3,1)); add(D(2)+line(99,1,0,0,0),4,ref(3,1))
-f=D(3)+line(14,2,65536,0,5)+line(21,1,0,0,0); add(f,64,ref(1,2))
-f=D(3)+line(14,2,65535,65535,5)+line(21,1,0,0,0); add(f,64,ok(f,0))
-f=D(3)+line(14,2,0,99999,5)+line(21,1,0,0,0); add(f,64,ref(1,2))
+at=lambda l,c: D(3)+line(14,2,l,c,5)+line(21,1,0,0,0)
+# each half at its limit; past it row 3 at the record, with room and without; ten digits are row 1
+for l,c in [(MOST,MOST),(0,MOST),(MOST,0),(65536,65536)]: add(at(l,c),64,ok(at(l,c),0))
+for l,c in [(MOST+1,0),(0,MOST+1),(999999999,999999999),(MOST,999999999)]: add(at(l,c),64,ref(3,1)); add(at(l,c),3,ref(3,1))
+add(at(1000000000,0),64,ref(1,2)); add(at(0,1000000000),64,ref(1,2))
+f=at(MOST+1,0); add(f[:-2]+'x\n',64,ref(1,3))             # row 1 before row 3
+f=D(3)+line(14,2,1,1,0)+line(21,1,0,MOST+1,0); add(f,64,ref(3,1)) # in record order
+# fields of six, as they were before
+old=lambda f: ''.join(l[:12]+l[15:21]+l[24:] for l in f.splitlines(True))
+add(old(ex),256,ref(1,1)); add(old(D(1,2))*26,256,ref(1,1)) # 26 lines of 46 bytes are 23 of 52
 f=D(2)+line(14,1,0,0,1048575); add(f,64,ok(f,1048575))
 f=D(2)+line(14,1,0,0,1048576); add(f,64,ref(3,1))
 f=D(2)+'0014'+line(14,1,0,0,5)[4:]; add(f,64,ref(1,2))
@@ -43,15 +52,15 @@ print(len(cases),'cases')
 open('crates/records/stdin','w',newline='').write(ex)
 def words(f):
     out=[]
-    for i in range(0,len(f),46):
-        l=f[i:i+46]; k,sp,li,c,v=[int(x) for x in (l[0:4],l[4:12],l[12:18],l[18:24],l[24:45])]
-        out+= [k,sp,li*65536+c,v%2**64]
+    for i in range(0,len(f),LINE):
+        l=f[i:i+LINE]; k,sp,li,c,v=[int(l[sum(W[:j]):sum(W[:j+1])]) for j in range(5)]
+        out+= [k,sp,li*2**32+c,v%2**64]
     return out
 open('crates/records/stdout','w').write('0 0 8\n'+''.join(str(w).rjust(21)+'\n' for w in words(ex)))
 f=const(33,-2**63)
 open('crates/columns/stdin','w').write(''.join(str(w).rjust(21)+'\n' for w in words(f)))
 open('crates/columns/stdout','w').write('0 0 4\n'+f)
 # one record more than the buffers hold: `long_records` and `long_columns` are the programs `records` and `columns`
-open('crates/long_records/stdin','w').write(D(1,2)*1425)
+open('crates/long_records/stdin','w').write(D(1,2)*1261)
 open('crates/long_columns/stdin','w').write(''.join(str(w).rjust(21)+'\n' for w in words(D(1,2)*745)))
 for name in ('long_records','long_columns'): open(f'crates/{name}/stdout','w').write('9 0 0\n')

@@ -15,7 +15,7 @@ IDENTIFIER, INTEGER, FLOAT, INFIX, NAME, IF, BLOCK, CALL, ABSENT = 30, 33, 34, 3
 # the same: infix values
 SIGNS = {"=": 0, "+": 1, "-": 2, "*": 3, "/": 4, "%": 5, "==": 11, "!=": 12, ">": 13, "<": 14, ">=": 15, "<=": 16, "and": 17, "or": 18}
 # 'Column files': widths of kind, span, line, column, value
-WIDTHS = (4, 8, 6, 6, 21)
+WIDTHS = (4, 8, 9, 9, 21)
 # how tightly signs hold, the loosest first
 LEVELS = (("=",), ("and", "or"), ("==", "!="), (">", "<", ">=", "<="), ("+", "-"), ("*", "/", "%"))
 NOWHERE = (0, 0)

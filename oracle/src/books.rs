@@ -10,7 +10,7 @@ const BOOK_MISSING: u64 = 6;
 pub struct Book {
     /// Index of the document's record.
     pub at: usize,
-    /// Files of the includes ahead of its first other definition.
+    /// Files of its includes, wherever they are written (2026-04).
     pub needs: BTreeSet<u64>,
 }
 
@@ -29,9 +29,16 @@ pub fn children(records: &[Record], at: usize) -> Vec<usize> {
     out
 }
 
-fn leading_includes(records: &[Record], at: usize) -> BTreeSet<u64> {
+/// 2026-04: "all includes of a book are dependencies, wherever they are written".
+fn includes(records: &[Record], at: usize) -> BTreeSet<u64> {
     let definitions = children(records, at).into_iter().map(|d| records[d]);
-    definitions.take_while(|d| d.kind == kind::INCLUDE).map(|d| d.value).collect()
+    definitions.filter(|d| d.kind == kind::INCLUDE).map(|d| d.value).collect()
+}
+
+/// Whether a book has an include below another definition.
+pub fn has_late_include(records: &[Record], at: usize) -> bool {
+    let kinds = children(records, at).into_iter().map(|d| records[d].kind);
+    kinds.skip_while(|&k| k == kind::INCLUDE).any(|k| k == kind::INCLUDE)
 }
 
 /// All documents by file number, or row 5.
@@ -62,7 +69,7 @@ pub fn needed(records: &[Record]) -> Result<Books, Refusal> {
                 absent.insert(file);
             }
             Some(&at) => {
-                let needs = leading_includes(records, at);
+                let needs = includes(records, at);
                 waiting.extend(&needs);
                 books.insert(file, Book { at, needs });
             }

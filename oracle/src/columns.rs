@@ -2,19 +2,17 @@
 //! rows 1 to 4; an output too short is then row 9, place 0, all zero.
 
 use crate::random::Random;
-use crate::records::{kind, records, MAX_RECORDS, RECORD_WORDS};
+use crate::records::{kind, line_and_column, position, records, MAX_RECORDS, RECORD_WORDS};
 use crate::shape::{check, Refusal};
 
 /// Kind, span, line, column, value.
-pub const WIDTHS: [usize; 5] = [4, 8, 6, 6, 21];
+pub const WIDTHS: [usize; 5] = [4, 8, 9, 9, 21];
 /// With its newline.
-pub const LINE_BYTES: usize = 46;
+pub const LINE_BYTES: usize = 52;
 
 const BAD_LINE: u64 = 1;
 const BAD_LENGTH: u64 = 2;
 const OUTPUT_SHORT: u64 = 9;
-/// Lines and columns of a position.
-const MAX_PLACE: u64 = 65_535;
 
 /// The reply and the output in its full length.
 #[derive(Clone, Debug, PartialEq, Eq)]
@@ -85,7 +83,7 @@ fn line(text: &[u8]) -> Option<[u64; 4]> {
         fields[i] = if is_integer { signed(field)? } else { unsigned(field)? };
     }
     let [kind, span, row, column, value] = fields;
-    (row <= MAX_PLACE && column <= MAX_PLACE).then_some([kind, span, row << 16 | column, value])
+    Some([kind, span, position(row, column), value])
 }
 
 /// The words of a column file, whatever they say, or row 1.
@@ -117,8 +115,8 @@ pub fn lines(words: &[u64]) -> Vec<u8> {
     let mut out = String::new();
     for r in records(words) {
         let value = if r.kind == kind::INTEGER { (r.value as i64).to_string() } else { r.value.to_string() };
-        let (row, column) = (r.position >> 16, r.position & 0xFFFF);
-        out += &format!("{:>4}{:>8}{:>6}{:>6}{:>21}\n", r.kind, r.span, row, column, value);
+        let (row, column) = line_and_column(r.position);
+        out += &format!("{:>4}{:>8}{:>9}{:>9}{:>21}\n", r.kind, r.span, row, column, value);
     }
     out.into_bytes()
 }
@@ -149,17 +147,20 @@ pub fn damaged(random: &mut Random, whole: &[u8]) -> Vec<u8> {
         let text = format!("{text:>width$}");
         bytes[end - width..end].copy_from_slice(&text.as_bytes()[text.len() - width..]);
     };
-    match random.below(14) {
+    match random.below(17) {
         0 => write("-0"),
         1 => write("007"),
         2 => write(""),
-        3 => write("65536"),
-        4 => write("65535"),
+        3 => write("100000000"),
+        4 => write("99999999"),
         5 => write("18446744073709551616"),
         6 => write("18446744073709551615"),
         7 => write("-9223372036854775808"),
         8 => write("-9223372036854775809"),
         9 => write("9223372036854775808"),
+        14 => write("999999999"),
+        15 => write("1000000000"),
+        16 => write("65536"),
         10 => {
             let (at, byte) = (random.index(bytes.len()), random.pick(b" \n\r\t0-+x9\0\xFF"));
             bytes[at] = byte;
@@ -184,7 +185,7 @@ mod tests {
     use crate::generate::{case, Sizes};
 
     fn one(value: &str) -> Converted<u64> {
-        column_to_records(format!("{:>4}{:>8}{:>6}{:>6}{value:>21}\n", 1, 1, 0, 0).as_bytes(), 4)
+        column_to_records(format!("{:>4}{:>8}{:>9}{:>9}{value:>21}\n", 1, 1, 0, 0).as_bytes(), 4)
     }
 
     #[test]
@@ -214,8 +215,9 @@ mod tests {
         assert_eq!(column_to_records(b"\n", 0).row, BAD_LINE);
         let file = lines(&[1, 1, 0, 2]);
         assert_eq!(column_to_records(&file, 3), Converted { row: 9, place: 0, total: 0, out: vec![0; 3] });
-        assert_eq!(records_to_column(&[1, 1, 0, 2], 45), Converted { row: 9, place: 0, total: 0, out: vec![0; 45] });
-        let cut = column_to_records(&file[..45], 4);
+        let short = LINE_BYTES - 1;
+        assert_eq!(records_to_column(&[1, 1, 0, 2], short), Converted { row: 9, place: 0, total: 0, out: vec![0; short] });
+        let cut = column_to_records(&file[..short], 4);
         assert_eq!((cut.row, cut.place), (BAD_LINE, 1));
     }
 

@@ -2,13 +2,16 @@
 
 use crate::alive::alive;
 use crate::areas::{
-    answer, area, capacities, Answer, Areas, Counts, Lengths, Lent, Memory, Reply, AREAS, ENTRY_WORDS, UNLIMITED,
+    answer, area, capacities, Answer, Areas, Counts, Delivery, Lengths, Lent, Memory, Reply, AREAS, ENTRY_WORDS,
+    UNLIMITED,
 };
+use crate::books::has_late_include;
 use crate::generate::{case, Case, Sizes};
+use crate::model::constant::{FLOAT, INTEGER};
 use crate::model::{compile, first_beyond, Run};
 use crate::random::Random;
-use crate::real::{run, Outcome};
-use crate::records::{flatten, records, trees, words, Node};
+use crate::real::{run_counting, Outcome};
+use crate::records::{flatten, records, trees, words, Node, Record};
 use crate::views::{view, Answered, Viewed};
 use std::fmt::Debug;
 
@@ -56,12 +59,15 @@ pub struct Tally {
     /// Cases that the Rust answered (delivered, or rows 6 to 8).
     pub compared: u64,
     pub rows: [u64; 10],
+    /// Bundles past row 5 with an include below another definition.
+    pub late: u64,
     pub panics: u64,
     /// `this` numbered as `main`.
     pub inexpressible: u64,
     /// Too much code for the Rust to be let loose on.
     pub oversized: u64,
     pub errors: [u64; 12],
+    pub floats: Floats,
     /// Lengths tried on the model, and row 9 by area.
     pub lengths: u64,
     pub full: [u64; AREAS],
@@ -71,11 +77,49 @@ pub struct Tally {
     pub differences: u64,
 }
 
+/// Deliveries that were compared with the Rust, by what stands in their pools (2026-05).
+#[derive(Clone, Copy, Debug, Default, PartialEq, Eq)]
+pub struct Floats {
+    /// The Rust added some float again, and entries that it added so.
+    pub repeated: u64,
+    pub merged: u64,
+    /// Both zeros; two NaNs or more; a float and an integer of the same bits.
+    pub zeros: u64,
+    pub nans: u64,
+    pub integers: u64,
+}
+
+impl Floats {
+    /// Of one answer, from which the merging took this many entries.
+    fn of(answer: &Answer, merged: u64) -> Floats {
+        let Answer::Delivered(Delivery { constants, .. }) = answer else { return Floats::default() };
+        let has = |constant: (u64, u64)| constants.contains(&constant);
+        let floats = || constants.iter().filter(|constant| constant.0 == FLOAT).map(|constant| constant.1);
+        Floats {
+            repeated: u64::from(merged > 0),
+            merged,
+            zeros: u64::from(has((FLOAT, 0)) && has((FLOAT, 1 << 63))),
+            nans: u64::from(floats().filter(|&bits| f64::from_bits(bits).is_nan()).count() > 1),
+            integers: u64::from(floats().any(|bits| has((INTEGER, bits)))),
+        }
+    }
+
+    fn join(&mut self, other: &Floats) {
+        self.repeated += other.repeated;
+        self.merged += other.merged;
+        self.zeros += other.zeros;
+        self.nans += other.nans;
+        self.integers += other.integers;
+    }
+}
+
 /// What one case showed.
 struct Verdict {
     row: u64,
+    late: bool,
     outcome: Seen,
     errors: Vec<u64>,
+    floats: Floats,
 }
 
 enum Seen {
@@ -101,7 +145,7 @@ fn judge(case: &Case) -> Result<(Verdict, Run), String> {
             return Err(format!("broken to answer {expected:?}, the model answers {:?}", model.reply));
         }
     }
-    let mut verdict = Verdict { row, outcome: Seen::NotForTheRust, errors: Vec::new() };
+    let mut verdict = Verdict { row, late: false, outcome: Seen::NotForTheRust, errors: Vec::new(), floats: Floats::default() };
     if row == AREA_FULL {
         verdict.outcome = Seen::Oversized;
         return Ok((verdict, model));
@@ -110,21 +154,36 @@ fn judge(case: &Case) -> Result<(Verdict, Run), String> {
         return Ok((verdict, model));
     }
     keeps_count(&case.words, &model)?;
+    verdict.late = late_include(&records(&case.words));
     let ours = answer(&model.reply, &model.areas);
     if let Answer::Refused { errors, .. } = &ours {
         verdict.errors = errors.iter().map(|error| error[0]).collect();
     }
-    let theirs = run(&records(&case.words));
+    let (theirs, merged) = run_counting(&records(&case.words));
     verdict.outcome = match theirs {
         Outcome::Inexpressible => Seen::Inexpressible,
         Outcome::Unforeseen(message) => return Err(format!("unforeseen: {message}")),
         Outcome::Panicked if model.panics => Seen::Panicked,
         Outcome::Panicked => return Err("the Rust panics, the model does not expect it".to_string()),
         Outcome::Answer(_) if model.panics => return Err("the model expects a panic of the Rust".to_string()),
-        Outcome::Answer(theirs) if theirs == ours => Seen::Compared,
+        Outcome::Answer(theirs) if theirs == ours => {
+            verdict.floats = Floats::of(&theirs, merged);
+            Seen::Compared
+        }
         Outcome::Answer(theirs) => return Err(difference(("the Rust", &theirs), ("the model", &ours))),
     };
     Ok((verdict, model))
+}
+
+fn late_include(records: &[Record]) -> bool {
+    let mut at = 0;
+    while at < records.len() {
+        if has_late_include(records, at) {
+            return true;
+        }
+        at += records[at].span as usize;
+    }
+    false
 }
 
 /// What a delivery must hold by itself: totals that say how much is there, and the greatest numbers
@@ -335,15 +394,20 @@ pub struct Plan {
     pub sizes: Sizes,
     /// Whether the first difference ends it, not shrunk.
     pub stop: bool,
+    /// Whether bundles with an include below another definition are left out.
+    pub head_includes: bool,
 }
 
 /// Compares cases `0..count` of a seed; answers the counts and the first difference, shrunk.
 pub fn compare(plan: Plan, mut side: Option<&mut dyn Side>) -> (Tally, Option<Difference>) {
-    let Plan { seed, count, sizes, stop } = plan;
+    let Plan { seed, count, sizes, stop, head_includes } = plan;
     let mut tally = Tally::default();
     let mut first = None;
     for index in 0..count {
         let made = case(seed, index, sizes);
+        if head_includes && trees(&made.words).is_some() && late_include(&records(&made.words)) {
+            continue;
+        }
         let stream = seed ^ index.rotate_left(32);
         tally.cases += 1;
         tally.records += made.words.len() as u64 / 4;
@@ -386,6 +450,8 @@ impl Tally {
             Seen::NotForTheRust => {}
         }
         self.rows[verdict.row as usize] += 1;
+        self.floats.join(&verdict.floats);
+        self.late += u64::from(verdict.late);
         for &error in &verdict.errors {
             self.errors[error as usize] += 1;
         }
@@ -404,10 +470,12 @@ impl Tally {
         self.records += other.records;
         self.compared += other.compared;
         each(&mut self.rows, &other.rows);
+        self.late += other.late;
         self.panics += other.panics;
         self.inexpressible += other.inexpressible;
         self.oversized += other.oversized;
         each(&mut self.errors, &other.errors);
+        self.floats.join(&other.floats);
         self.lengths += other.lengths;
         each(&mut self.full, &other.full);
         each(&mut self.calls, &other.calls);
@@ -422,8 +490,14 @@ impl Tally {
         for row in 2..=8 {
             println!("refused by row {row}: {}", self.rows[row]);
         }
+        println!("with an include below another definition {}", self.late);
         let errors: Vec<String> = (1..12).map(|n| format!("{n}: {}", self.errors[n])).collect();
         println!("errors listed, by number: {}", errors.join(", "));
+        let Floats { repeated, merged, zeros, nans, integers } = self.floats;
+        println!("pools with a float that the Rust adds again {repeated}, entries merged {merged}");
+        println!(
+            "pools with both zeros {zeros}, with two NaNs {nans}, with a float and an integer of its bits {integers}"
+        );
         println!("panics of emit_return {}", self.panics);
         println!("`this` numbered as `main`, not for the Rust {}", self.inexpressible);
         println!("more than {} code entries, not for the Rust {}", MAX_CODE / ENTRY_WORDS[0], self.oversized);

@@ -3,7 +3,7 @@
 
 use crate::generate::Case;
 use crate::random::Random;
-use crate::records::{flatten, kind, records, words, Node, Record, MAX_TEXT, RECORD_WORDS};
+use crate::records::{flatten, kind, line_and_column, position, records, words, Node, Record, MAX_PLACE, MAX_TEXT, RECORD_WORDS};
 use crate::shape::check;
 use std::collections::BTreeSet;
 
@@ -69,8 +69,19 @@ fn field(random: &mut Random, whole: &[u64]) -> Case {
         0 => r.kind = random.pick(&[0, 2, 9, 18, 19, 26, 29, 48, 50, 1 << 32, u64::MAX, 257, 295]),
         1 => r.span = 0,
         2 => r.span = random.pick(&[count + 1, u64::MAX, 1 << 32, u64::MAX - at as u64, (1 << 62) + r.span]),
-        3 if kind::has_no_position(r.kind) => r.position = random.pick(&[1, 65_536, u64::MAX]),
-        3 => r.position = random.pick(&[1 << 32, u64::MAX, 65_536 * 65_536 + r.position, 1 << 63]),
+        3 if kind::has_no_position(r.kind) => r.position = random.pick(&[1, 1 << 32, u64::MAX]),
+        3 => {
+            let (line, column) = line_and_column(r.position);
+            let far = MAX_PLACE + 1;
+            r.position = random.pick(&[
+                position(line, far),
+                position(far, column),
+                position(0, u64::from(u32::MAX)),
+                position(line, u64::from(u32::MAX)),
+                u64::MAX,
+                1 << 63,
+            ]);
+        }
         4 if kind::holds_text(r.kind) => r.value = random.pick(&[0, MAX_TEXT + 1, u64::MAX, r.value | 1 << 40]),
         4 => {
             let limit = match r.kind {
@@ -97,7 +108,7 @@ fn field(random: &mut Random, whole: &[u64]) -> Case {
         }
         _ => {
             known = false;
-            r.position = random.pick(&[0, 1, 0xFFFF_FFFF]);
+            r.position = random.pick(&[0, 1, position(0, MAX_PLACE), position(MAX_PLACE, 0), position(MAX_PLACE, MAX_PLACE)]);
         }
     }
     // A span that is too long stops the parent's hop, so the record itself is at fault.

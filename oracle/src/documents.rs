@@ -1,7 +1,7 @@
 //! Records to the `Document`s of the Rust, and its tokens back to numbers.
 
 use crate::books::children;
-use crate::records::{kind, Record, MAIN};
+use crate::records::{kind, line_and_column, Record, MAIN};
 use clover::intermediate::ast::*;
 use clover::intermediate::{Position, Token, TokenValue};
 
@@ -67,12 +67,24 @@ pub enum Positions {
     Tagged,
 }
 
-pub fn pack(position: Position) -> u64 {
-    (position.line as u64) << 16 | position.column as u64
+/// The number of the record, plus one, that a tagged position holds; 0 for a position that is no record's.
+pub fn tag(position: Position) -> usize {
+    usize::from(position.line) << 16 | usize::from(position.column)
 }
 
-fn unpack(position: u64) -> Position {
-    Position::new((position >> 16) as u16, position as u16)
+fn tagged(tag: usize) -> Position {
+    Position::new((tag >> 16) as u16, tag as u16)
+}
+
+/// Whether the Rust's 16 bits hold line and column.
+pub fn fits(position: u64) -> bool {
+    let (line, column) = line_and_column(position);
+    line <= u64::from(u16::MAX) && column <= u64::from(u16::MAX)
+}
+
+fn given(position: u64) -> Position {
+    let (line, column) = line_and_column(position);
+    Position::new(line as u16, column as u16)
 }
 
 pub struct Builder<'a> {
@@ -132,10 +144,10 @@ impl Builder<'_> {
             other => unreachable!("kind {other} has no token"),
         };
         let position = match self.positions {
-            Positions::Given => r.position,
-            Positions::Tagged => at as u64 + 1,
+            Positions::Given => given(r.position),
+            Positions::Tagged => tagged(at + 1),
         };
-        Token::new(value, unpack(position))
+        Token::new(value, position)
     }
 
     fn tokens(&self, places: &[usize]) -> Vec<Token> {

@@ -10,15 +10,6 @@ const MOST_INPUT: usize = 58_000;
 const MOST_PART: usize = 300;
 const MOST_ROOM: usize = 1900;
 
-/// Positions below 65,536: line 0, whatever the width of a half. Those that no width knows stay.
-fn on_line_0(errors: &mut [u64]) {
-    for at in (1..errors.len()).step_by(4) {
-        if errors[at] <= u32::MAX as u64 * 65_536 {
-            errors[at] &= 0xFFFF;
-        }
-    }
-}
-
 /// A line buffer one byte short, longer, of any length, or exactly long enough.
 fn buffer_length(case: &Case, index: u64) -> usize {
     let long = Case { out_len: 1 << 16, ..case.clone() };
@@ -59,7 +50,6 @@ pub fn files() -> BTreeMap<String, Vec<u8>> {
             break;
         }
         let mut case = case(SEED, index - 1);
-        on_line_0(&mut case.errors);
         case.out_len = buffer_length(&case, index);
         let parts = [case.errors.len(), case.table.len(), case.bytes.len()];
         if case.out_len > MOST_ROOM || parts.iter().any(|&part| part > MOST_PART) {

@@ -3,7 +3,7 @@
 
 use crate::damage::damage;
 use crate::random::Random;
-use crate::records::{flatten, kind, Node, MAIN, MAX_LEVEL, MAX_TEXT};
+use crate::records::{flatten, kind, position, Node, MAIN, MAX_LEVEL, MAX_PLACE, MAX_TEXT};
 use std::collections::BTreeMap;
 
 #[derive(Clone, Debug)]
@@ -58,6 +58,7 @@ struct Generator {
     deepest: usize,
     doublings: u32,
     wide_positions: bool,
+    far_positions: bool,
     fresh: u64,
     scopes: Vec<Vec<u64>>,
     loops: usize,
@@ -87,6 +88,7 @@ impl Generator {
         let slips = random.pick(&[0, 0, 0, 0, 0, 3, 10, 40, 200]);
         let this = random.pick(&[2, 2, 3, 3, 7, 7, 12, 500, 500, MAX_TEXT, MAX_TEXT, MAIN]);
         let wide_positions = random.chance(300);
+        let far_positions = random.chance(150);
         let mut generator = Generator {
             random,
             palette: Vec::new(),
@@ -96,6 +98,7 @@ impl Generator {
             deepest,
             doublings: 0,
             wide_positions,
+            far_positions,
             fresh: 2000,
             scopes: Vec::new(),
             loops: 0,
@@ -133,11 +136,16 @@ impl Generator {
     }
 
     fn position(&mut self) -> u64 {
+        // Beyond the Rust's 16 bits: `real.rs` maps these back.
+        if self.far_positions {
+            let line = self.random.pick(&[0, 1, 65_536, MAX_PLACE - 1, MAX_PLACE, 70_000]);
+            return position(line, self.random.pick(&[0, 1, 65_536, 1_048_577, MAX_PLACE]));
+        }
         if self.wide_positions {
             let line = self.random.pick(&[0, 1, 65_534, 65_535, 300, 40_000]);
-            return line << 16 | self.random.pick(&[0, 1, 65_535, 77, 32_768]);
+            return position(line, self.random.pick(&[0, 1, 65_535, 77, 32_768]));
         }
-        self.random.below(400) << 16 | self.random.below(90)
+        position(self.random.below(400), self.random.below(90))
     }
 
     fn node(&mut self, kind: u64, value: u64, children: Vec<Node>) -> Node {
@@ -659,7 +667,7 @@ struct Graph {
     files: Vec<u64>,
     /// Leading includes of each book, as files; books come after those that they include.
     leading: Vec<Vec<u64>>,
-    /// Includes below the first other definition.
+    /// Includes below the first other definition (2026-04).
     late: Vec<Vec<u64>>,
 }
 
@@ -676,14 +684,14 @@ fn graph(g: &mut Generator, sizes: Sizes) -> Graph {
             files.push(file);
         }
     }
-    let dense = g.random.pick(&[300, 500, 800]);
+    let dense = g.random.pick(&[100, 300, 500, 800]);
+    let with_late = g.random.chance(if count > 1 { 700 } else { 40 });
     let mut leading = Vec::new();
     let mut late = Vec::new();
     for book in 0..count {
         let earlier = files[..book].to_vec();
         leading.push(earlier.iter().copied().filter(|_| g.random.chance(dense)).collect::<Vec<_>>());
-        let lates: u64 = g.random.pick(&[0, 0, 0, 1, 2]);
-        late.push((0..lates).map(|_| if g.random.chance(900) { g.random.pick(&files) } else { g.fresh() }).collect());
+        late.push(if with_late { late_includes(g, &files, book) } else { Vec::new() });
     }
     // The last book is the root; it needs a way to the others.
     if count > 1 && leading[count - 1].is_empty() && g.random.chance(900) {
@@ -700,6 +708,21 @@ fn graph(g: &mut Generator, sizes: Sizes) -> Graph {
     }
     break_graph(g, &files, &mut leading);
     Graph { files, leading, late }
+}
+
+/// Mostly of books that come before this one, so that most bundles have no ring; now and then of any, or of one that is absent.
+fn late_includes(g: &mut Generator, files: &[u64], book: usize) -> Vec<u64> {
+    let count = g.random.pick(&[0, 1, 1, 2, 4]);
+    let mut late = Vec::new();
+    for _ in 0..count {
+        match g.random.weighted(&[960, 25, 15]) {
+            0 if book > 0 => late.push(g.random.pick(&files[..book])),
+            0 if files.len() > 1 => {}
+            0 | 1 => late.push(g.random.pick(files)),
+            _ => late.push(g.fresh()),
+        }
+    }
+    late
 }
 
 /// Now and then a ring, a book that includes itself, or a missing book.
@@ -739,8 +762,7 @@ fn books(g: &mut Generator, sizes: Sizes) -> Vec<Node> {
             let Some(definition) = g.definition(&mut plan) else { continue };
             definitions.push(definition);
             if let Some(file) = late.pop() {
-                // Only a book that is included on top too is sure to be compiled by now.
-                let known = if graph.leading[book].contains(&file) { public.get(&file).cloned() } else { None };
+                let known = public.get(&file).cloned();
                 definitions.push(g.include(&mut plan, file, known.as_ref()));
             }
         }

@@ -87,6 +87,7 @@ fn squared(size: u64) -> Vec<(String, Vec<u64>)> {
     let array = |values: Vec<Node>| body(&[], vec![statement(Node::new(kind::ARRAY, 0, 0, values))]);
     let name = |i: u64| 1 + i % MAX_TEXT;
     let integers = (0..size).map(|i| leaf(kind::INTEGER, i)).collect();
+    let floats = (0..size).map(|i| leaf(kind::FLOAT, (i as f64).to_bits())).collect();
     let globals = (0..size).map(|i| leaf(kind::IDENTIFIER, name(i))).collect();
     let properties = (0..size).map(|i| name_node(name(i))).collect();
     let named = |kind| flatten(&[document(2, (0..size).map(|i| Node::leaf(kind, 0, name(i))).collect())]);
@@ -97,6 +98,7 @@ fn squared(size: u64) -> Vec<(String, Vec<u64>)> {
         (format!("{size} locals"), local(|i| i + 1)),
         (format!("{size} times the same local"), local(|_| 5)),
         (format!("{size} integers"), array(integers)),
+        (format!("{size} floats"), array(floats)),
         (format!("{size} globals"), array(globals)),
         (format!("{size} properties"), flatten(&[document(2, vec![Node::new(kind::MODEL, 0, 3, properties)])])),
         (format!("{size} functions"), named(kind::FUNCTION)),

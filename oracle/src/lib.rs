@@ -19,6 +19,7 @@ pub mod examples;
 pub mod generate;
 pub mod hostile;
 pub mod listing;
+pub mod merge;
 pub mod model;
 #[cfg(feature = "link")]
 pub mod ours;

@@ -4,10 +4,10 @@
 use crate::areas::{answer, Answer, Delivery, Lengths, ENTRY_WORDS};
 use crate::columns::column_to_records;
 use crate::model::compile;
-use crate::records::RECORD_WORDS;
+use crate::records::{line_and_column, RECORD_WORDS};
 
 /// The buffers of the program (docs/FORMAT.md): bytes of input and output, entries of each area.
-pub const INPUT_BYTES: usize = 65_504;
+pub const INPUT_BYTES: usize = 65_520;
 pub const OUTPUT_BYTES: usize = 65_490;
 pub const AREA_ENTRIES: usize = 1_000;
 
@@ -63,7 +63,8 @@ fn refusal(row: u64, place: u64, errors: &[[u64; 4]]) -> Vec<u8> {
     let mut writer = Writer::new();
     writer.line(0, &[row, place], value(0, false));
     for (index, &[number, position, kind, token]) in (0..).zip(errors) {
-        let middle = [index, number, position >> 16, position & 0xFFFF, kind];
+        let (line, column) = line_and_column(position);
+        let middle = [index, number, line, column, kind];
         writer.line(11, &middle, value(token, kind == INTEGER_TOKEN));
     }
     writer.finish()
@@ -87,7 +88,8 @@ fn delivery(program: &Delivery) -> Vec<u8> {
     }
     for (function, f) in (0..).zip(&program.functions) {
         for (index, &(word, position)) in (0..).zip(&f.code) {
-            let middle = [function, index, position >> 16, position & 0xFFFF, word >> 56];
+            let (line, column) = line_and_column(position);
+            let middle = [function, index, line, column, word >> 56];
             writer.line(3, &middle, plain(word & ((1 << 56) - 1)));
         }
     }

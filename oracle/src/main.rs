@@ -18,9 +18,10 @@ use std::process::ExitCode;
 use std::time::Instant;
 
 const USAGE: &str = "\
-oracle compare [--seed S] [--seeds K] [--count N] [--large] [--ours] [--stop]
+oracle compare [--seed S] [--seeds K] [--count N] [--large] [--ours] [--stop] [--head-includes]
     the Rust and the model (and the library) over N bundles of each of the K seeds from S on, with a
-    table at the end; --stop ends a seed at its first difference
+    table at the end; --stop ends a seed at its first difference; --head-includes leaves out
+    bundles with an include below another definition
 oracle case --seed S --index I [--large] [--column]
     the words of one bundle, or its column file
 oracle listing [--program]
@@ -34,7 +35,7 @@ oracle convert [--seed S] [--count N] [--large] [--limits]
     or over those at the limits
 oracle bench [--runs R]
     the library's converters and shape check beside plain Rust on 1,000,000 records
-oracle speed [--runs R] [--longest SECONDS] [--small]
+oracle speed [--shape NAME] [--runs R] [--longest SECONDS] [--small]
     the library's compile call beside the original's compile_document and to_program, as a table;
     --small for bundles of hundreds of records
 oracle shapes
@@ -93,6 +94,7 @@ fn report(first: &Difference) {
 fn run_compare(arguments: &Arguments) -> ExitCode {
     let (seed, count) = (arguments.number("--seed", 1), arguments.number("--count", 1000));
     let (sizes, stop) = (sizes(arguments), arguments.has("--stop"));
+    let head_includes = arguments.has("--head-includes");
     let mut ours = arguments.has("--ours").then(library);
     let mut columns = Vec::new();
     let mut code = ExitCode::SUCCESS;
@@ -100,7 +102,7 @@ fn run_compare(arguments: &Arguments) -> ExitCode {
         let (start, processor) = (Instant::now(), clock::now());
         let side = ours.as_mut().map(|side| &mut **side as &mut dyn Side);
         println!("seed {seed}");
-        let (tally, first) = compare(Plan { seed, count, sizes, stop }, side);
+        let (tally, first) = compare(Plan { seed, count, sizes, stop, head_includes }, side);
         tally.print();
         let elapsed = start.elapsed().as_secs_f64();
         println!("seconds {elapsed:.1}");
@@ -194,7 +196,12 @@ fn run_bench(_: &Arguments) -> ExitCode {
 fn run_speed(arguments: &Arguments) -> ExitCode {
     let (runs, longest) = (arguments.number("--runs", 15), arguments.number("--longest", 60));
     let sizes: &[usize] = if arguments.has("--small") { &speed::SMALL } else { &speed::SIZES };
-    speed::run(&mut *library(), runs as usize, longest as f64, sizes);
+    let only = arguments.word("--shape").map(speed::Shape::named);
+    if only.is_some_and(|shape| shape.is_none()) {
+        eprintln!("oracle: `--shape` is followed by a name that `oracle shapes` prints");
+        return ExitCode::from(WRONGLY_CALLED);
+    }
+    speed::run(&mut *library(), only.flatten(), runs as usize, longest as f64, sizes);
     ExitCode::SUCCESS
 }
 
@@ -271,6 +278,7 @@ const COMMANDS: [Command; 13] = [
             Switch("--large"),
             Switch("--ours"),
             Switch("--stop"),
+            Switch("--head-includes"),
         ],
         false,
         run_compare,
@@ -280,7 +288,7 @@ const COMMANDS: [Command; 13] = [
     ("hostile", &[Switch("--ours"), Number("--stack"), Number("--size")], false, run_hostile),
     ("convert", &[Number("--seed"), Number("--count"), Switch("--large"), Switch("--limits")], false, run_convert),
     ("bench", &[Number("--runs")], false, run_bench),
-    ("speed", &[Number("--runs"), Number("--longest"), Switch("--small")], false, run_speed),
+    ("speed", &[Word("--shape"), Number("--runs"), Number("--longest"), Switch("--small")], false, run_speed),
     ("shapes", &[], false, run_shapes),
     ("once", &[Word("--shape"), Number("--records"), Switch("--original")], false, run_once),
     ("sample", &[], false, run_sample),

@@ -13,7 +13,7 @@ const RING: u64 = 8;
 const AREA_FULL: u64 = 9;
 const NAME_NOT_PUBLIC: u64 = 11;
 
-mod op {
+pub mod op {
     pub const POP: u64 = 0x01;
     pub const PUSH_CONSTANT: u64 = 0x02;
     pub const RETURN: u64 = 0x05;
@@ -69,7 +69,7 @@ const PREFIX_MINUS: u64 = 0;
 const PREFIX_NOT: u64 = 1;
 
 /// Kinds of constants (01, "Emission"), from 0.
-mod constant {
+pub mod constant {
     pub const NULL: u64 = 0;
     pub const BOOLEAN: u64 = 1;
     pub const INTEGER: u64 = 2;
@@ -121,8 +121,6 @@ type Step<T = ()> = Result<T, Stop>;
 /// Which of the later requests' rules hold.
 #[derive(Debug, Clone, Copy, Default, PartialEq, Eq)]
 pub struct Rules {
-    /// 2026-05: equal floats share an entry.
-    pub shared_floats: bool,
     /// 2026-07: all names of an include together.
     pub strict: bool,
 }
@@ -188,6 +186,8 @@ struct Work<'a> {
     code: Vec<[u64; 2]>,
     constants: Vec<[u64; 3]>,
     integers: HashMap<u64, u64>,
+    /// By their bits (2026-05).
+    floats: HashMap<u64, u64>,
     texts: HashMap<u64, u64>,
     functions: Vec<[u64; 8]>,
     models: Vec<[u64; 2]>,
@@ -221,6 +221,7 @@ impl<'a> Work<'a> {
             code: Vec::new(),
             constants: Vec::new(),
             integers: HashMap::new(),
+            floats: HashMap::new(),
             texts: HashMap::new(),
             functions: Vec::new(),
             models: Vec::new(),
@@ -255,6 +256,7 @@ impl<'a> Work<'a> {
         for (index, &[kind, value, _]) in (0..).zip(&self.constants) {
             let known = match kind {
                 constant::INTEGER => &mut self.integers,
+                constant::FLOAT => &mut self.floats,
                 constant::TEXT => &mut self.texts,
                 _ => continue,
             };
@@ -301,12 +303,6 @@ impl<'a> Work<'a> {
     // Constants.
 
     fn add_constant(&mut self, kind: u64, value: u64) -> Step<u64> {
-        if self.rules.shared_floats && kind == constant::FLOAT {
-            // The first number that has these 64 bits as a float.
-            if let Some(known) = self.constants.iter().position(|c| (c[0], c[1]) == (kind, value)) {
-                return Ok(known as u64);
-            }
-        }
         self.take(area::CONSTANTS)?;
         self.constants.push([kind, value, 0]);
         Ok(self.constants.len() as u64 - 1)
@@ -318,6 +314,16 @@ impl<'a> Work<'a> {
         }
         let index = self.add_constant(constant::INTEGER, value)?;
         self.integers.insert(value, index);
+        Ok(index)
+    }
+
+    /// 2026-05: the first number that has these 64 bits as a float.
+    fn float(&mut self, bits: u64) -> Step<u64> {
+        if let Some(&known) = self.floats.get(&bits) {
+            return Ok(known);
+        }
+        let index = self.add_constant(constant::FLOAT, bits)?;
+        self.floats.insert(bits, index);
         Ok(index)
     }
 
@@ -439,7 +445,7 @@ impl<'a> Work<'a> {
             kind::INTEGER | kind::FLOAT | kind::STRING => {
                 let index = match r.kind {
                     kind::INTEGER => self.integer(r.value)?,
-                    kind::FLOAT => self.add_constant(constant::FLOAT, r.value)?,
+                    kind::FLOAT => self.float(r.value)?,
                     _ => self.text(r.value)?,
                 };
                 self.emit(f, op::PUSH_CONSTANT, index, r.position).map(drop)
@@ -718,7 +724,7 @@ impl<'a> Work<'a> {
                 kind::BOOLEAN if value.value == 1 => TRUE_CONSTANT,
                 kind::BOOLEAN => FALSE_CONSTANT,
                 kind::INTEGER => self.integer(value.value)?,
-                kind::FLOAT => self.add_constant(constant::FLOAT, value.value)?,
+                kind::FLOAT => self.float(value.value)?,
                 _ => {
                     self.error(error::CONSTANT_ONLY, pair[1])?;
                     continue;

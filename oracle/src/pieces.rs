@@ -1,9 +1,9 @@
 //! 01's own example and bench pieces as bundles, and small cases for the fixed readings.
 
-use crate::records::{flatten, kind, Node, MAX_TEXT};
+use crate::records::{flatten, kind, position, Node, MAX_TEXT};
 
 pub fn at(line: u64, column: u64) -> u64 {
-    line << 16 | column
+    position(line, column)
 }
 
 pub fn document(file: u64, definitions: Vec<Node>) -> Node {
@@ -177,8 +177,19 @@ pub fn more() -> Vec<(&'static str, Vec<u64>)> {
         ("book twice", bundle(vec![document(2, vec![]), document(3, vec![]), document(3, vec![])])),
         ("books missing", bundle(vec![document(2, vec![include(9, &[]), include(8, &[])])])),
         (
-            "include below a definition is not needed",
+            "include below a definition is needed",
             bundle(vec![document(2, vec![function(3, &[], vec![]), include(8, &[(5, 6)])])]),
+        ),
+        (
+            "self-include below a definition",
+            bundle(vec![document(2, vec![named(kind::MODEL, 7, vec![]), include(2, &[])])]),
+        ),
+        (
+            "second include below a definition",
+            bundle(vec![
+                document(2, vec![named(kind::MODEL, 7, vec![]), include(3, &[]), include(4, &[])]),
+                document(3, vec![]),
+            ]),
         ),
         ("break in an enumerable", one(for_node(5, broken_if(), vec![]))),
         (
@@ -237,6 +248,10 @@ pub fn more() -> Vec<(&'static str, Vec<u64>)> {
                 ),
                 lib(),
             ]),
+        ),
+        (
+            "late include alone",
+            bundle(vec![document(3, vec![function(1, &[], vec![]), include(9, &[(21, 21), (20, 22)])]), lib()]),
         ),
         (
             "late include of a compiled book",
@@ -388,4 +403,24 @@ pub fn more() -> Vec<(&'static str, Vec<u64>)> {
             )]),
         ),
     ]
+}
+
+/// Both zeros, two NaNs and the integers of the zeros' bits; then the floats once more, backwards.
+fn each_float() -> Vec<Node> {
+    let floats = [0.5f64.to_bits(), 0, 1 << 63, 0x7FF8_0000_0000_0000, 0x7FF8_0000_0000_0001];
+    let float = |bits: u64| leaf(kind::FLOAT, bits);
+    let integers = [0, 1 << 63].map(|bits| leaf(kind::INTEGER, bits));
+    let (before, after) = floats.split_at(3);
+    let again = floats.iter().rev().map(|&bits| float(bits));
+    let first = before.iter().map(|&bits| float(bits)).chain(integers);
+    first.chain(after.iter().map(|&bits| float(bits))).chain(again).collect()
+}
+
+/// Cases of document 02's requests.
+pub fn requests() -> Vec<(&'static str, Vec<u64>)> {
+    let floats = vec![
+        locals(kind::LOCAL_DEFINITION, vec![(5, leaf(kind::FLOAT, 0.5f64.to_bits()))]),
+        function(3, &[], vec![statement(Node::new(kind::ARRAY, 0, 0, each_float()))]),
+    ];
+    vec![("2026-05 floats by their bits", flatten(&[document(2, floats)]))]
 }

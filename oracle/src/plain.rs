@@ -4,7 +4,7 @@
 
 use crate::columns::{column_to_records, LINE_BYTES, WIDTHS};
 use crate::convert::Converters;
-use crate::records::{kind, MAX_LEVEL, MAX_POSITION, MAX_RECORDS, MAX_TEXT, RECORD_WORDS};
+use crate::records::{kind, MAX_LEVEL, MAX_PLACE, MAX_RECORDS, MAX_TEXT, RECORD_WORDS};
 
 /// Row and place.
 type Refusal = (u64, u64);
@@ -47,8 +47,9 @@ fn is_due(parent: u64, count: usize) -> bool {
 }
 
 fn in_range([kind, _, position, value]: Record) -> bool {
-    let most_position = if kind::has_no_position(kind) { 0 } else { MAX_POSITION };
-    position <= most_position
+    let most_place = if kind::has_no_position(kind) { 0 } else { MAX_PLACE };
+    position >> 32 <= most_place
+        && position & 0xFFFF_FFFF <= most_place
         && match kind {
             kind::INTEGER | kind::FLOAT => true,
             kind::BOOLEAN => value <= 1,
@@ -150,10 +151,10 @@ fn read_line(line: &[u8; LINE_BYTES]) -> Option<Record> {
     let (value, newline) = rest.split_at(WIDTHS[4]);
     let kind = number(kind, false)?;
     let (row, column) = (number(row, false)?, number(column, false)?);
-    if row > 0xFFFF || column > 0xFFFF || newline != b"\n" {
+    if newline != b"\n" {
         return None;
     }
-    Some([kind, number(span, false)?, row << 16 | column, number(value, kind == kind::INTEGER)?])
+    Some([kind, number(span, false)?, row << 32 | column, number(value, kind == kind::INTEGER)?])
 }
 
 fn write_number(field: &mut [u8], number: u64, negative: bool) {
@@ -182,8 +183,8 @@ fn write_line(line: &mut [u8; LINE_BYTES], [kind, span, position, value]: Record
     let (value_field, newline) = rest.split_at_mut(WIDTHS[4]);
     write_number(kind_field, kind, false);
     write_number(span_field, span, false);
-    write_number(row, position >> 16, false);
-    write_number(column, position & 0xFFFF, false);
+    write_number(row, position >> 32, false);
+    write_number(column, position & 0xFFFF_FFFF, false);
     let negative = kind == kind::INTEGER && value >> 63 == 1;
     write_number(value_field, if negative { value.wrapping_neg() } else { value }, negative);
     newline[0] = b'\n';

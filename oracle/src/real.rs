@@ -1,11 +1,13 @@
 //! The original back end, driven: `compile_document` on a fresh `CompilerContext` in 01's order,
 //! then `to_program`, and all of it read back. The dependency solver of the Rust says which books
-//! are missing, which are ready and which are left in a ring.
+//! are missing, which are ready and which are left in a ring: it is fed each book's includes alone, so
+//! that its `get_dependencies` lists them all (2026-04).
 
 use crate::areas::{Answer, Delivery, ErrorAnswer, FunctionAnswer, ModelAnswer};
 use crate::books::{needed, order};
-use crate::documents::{pack, Builder, Positions, Texts};
-use crate::records::{kind, Record};
+use crate::documents::{self, Builder, Positions, Texts};
+use crate::merge::merge_floats;
+use crate::records::{kind, position, Record};
 use clover::backend::compiler::{compile_document, CompilerContext};
 use clover::backend::dependency_solver::DependencySolver;
 use clover::intermediate::ast::*;
@@ -76,13 +78,30 @@ fn is_the_known_panic(message: &str) -> bool {
     message.contains("function_state.rs") && message.contains("`Option::unwrap()` on a `None` value")
 }
 
-/// Drives the Rust over records that rows 2 to 5 have nothing against.
+/// Drives the Rust over records that rows 2 to 5 have nothing against; equal floats of its pool are merged.
 pub fn run(records: &[Record]) -> Outcome {
+    run_counting(records).0
+}
+
+/// The same, with the entries of its pool that the merging took away.
+pub fn run_counting(records: &[Record]) -> (Outcome, u64) {
+    match run_unmerged(records) {
+        Outcome::Answer(answer) => {
+            let (answer, merged) = merge_floats(answer);
+            (Outcome::Answer(answer), merged)
+        }
+        outcome => (outcome, 0),
+    }
+}
+
+fn run_unmerged(records: &[Record]) -> Outcome {
     let texts = Texts::new(records);
     if !texts.consistent(records) {
         return Outcome::Inexpressible;
     }
-    let driven = Driven { records, texts };
+    let all_fit = records.iter().all(|record| documents::fits(record.position));
+    let positions = if all_fit { Positions::Given } else { Positions::Tagged };
+    let driven = Driven { records, texts, positions };
     match quiet(|| driven.answer()) {
         Ok(answer) => Outcome::Answer(answer),
         Err(message) if is_the_known_panic(&message) => Outcome::Panicked,
@@ -93,6 +112,8 @@ pub fn run(records: &[Record]) -> Outcome {
 /// The books of a bundle as the Rust holds them, in 01's order, made before anything is timed.
 pub struct Prepared {
     books: Vec<Document>,
+    /// Their includes alone, for the solver.
+    includes: Vec<Document>,
     /// Which of them is the root.
     root: usize,
 }
@@ -107,7 +128,9 @@ impl Prepared {
         assert!(left.is_empty(), "no ring");
         let builder = Builder { records, texts, positions: Positions::Given };
         let root = files.iter().position(|&file| file == records[0].value).expect("the root is needed");
-        Prepared { books: files.iter().map(|file| builder.document(books[file].at)).collect(), root }
+        let books: Vec<Document> = files.iter().map(|file| builder.document(books[file].at)).collect();
+        let includes = books.iter().map(includes_alone).collect();
+        Prepared { books, includes, root }
     }
 
     /// `compile_document` of each book, then `to_program`.
@@ -125,14 +148,15 @@ impl Prepared {
     #[inline(never)]
     pub fn compile_with_solver(&self) -> (CompilerContext, Program) {
         let mut context = CompilerContext::new();
-        let documents: HashMap<&str, &Document> = self.books.iter().map(|book| (&*book.filename, book)).collect();
+        let both = self.books.iter().zip(&self.includes);
+        let documents: HashMap<&str, (&Document, &Document)> = both.map(|both| (&*both.0.filename, both)).collect();
         let mut solver = DependencySolver::new();
-        solver.solve(&self.books[self.root], &no_books());
+        solver.solve(&self.includes[self.root], &no_books());
         while let Some(name) = solver.get_unsolved_filename() {
-            solver.solve(documents[&*name], &no_books());
+            solver.solve(documents[&*name].1, &no_books());
         }
         while let Some(name) = solver.get_next_no_dependency_filename() {
-            compile_document(documents[&*name], &mut context).expect("no errors");
+            compile_document(documents[&*name].0, &mut context).expect("no errors");
             solver.set_loaded(&name);
         }
         let program = context.to_program();
@@ -143,6 +167,8 @@ impl Prepared {
 struct Driven<'a> {
     records: &'a [Record],
     texts: Texts,
+    /// Given where all fit the Rust's 16 bits, else tagged and mapped back.
+    positions: Positions,
 }
 
 /// The bundle as the Rust holds it, with the order of compiling.
@@ -154,6 +180,15 @@ struct Planned {
 
 fn no_books() -> HashSet<String> {
     HashSet::new()
+}
+
+/// A book with nothing but its includes.
+fn includes_alone(book: &Document) -> Document {
+    let is_include = |definition: &&Definition| matches!(definition, Definition::Include(_));
+    Document {
+        definitions: book.definitions.iter().filter(is_include).cloned().collect(),
+        filename: book.filename.clone(),
+    }
 }
 
 impl Driven<'_> {
@@ -174,13 +209,13 @@ impl Driven<'_> {
         let root = self.records[0].value;
         let mut loaded = vec![root];
         let mut missing = BTreeSet::new();
-        solver.solve(&documents[&root].1, &no_books());
+        solver.solve(&includes_alone(&documents[&root].1), &no_books());
         while let Some(name) = solver.get_unsolved_filename() {
             let file = self.file(&name);
             match documents.get(&file) {
                 Some((_, document)) => {
                     loaded.push(file);
-                    solver.solve(document, &no_books());
+                    solver.solve(&includes_alone(document), &no_books());
                 }
                 // An empty book in its place lets the solver go on, so that all missing ones are seen.
                 None => {
@@ -208,7 +243,7 @@ impl Driven<'_> {
         })?;
         let mut open: BTreeMap<u64, BTreeSet<u64>> = BTreeMap::new();
         for file in loaded {
-            let names = documents[&file].1.get_dependencies();
+            let names = includes_alone(&documents[&file].1).get_dependencies();
             open.insert(file, names.iter().map(|name| self.file(name)).collect());
         }
         let mut order = Vec::new();
@@ -232,7 +267,7 @@ impl Driven<'_> {
     }
 
     fn answer(&self) -> Answer {
-        let planned = match self.plan(Positions::Given) {
+        let planned = match self.plan(self.positions) {
             Ok(planned) => planned,
             Err(refusal) => return refusal,
         };
@@ -258,14 +293,22 @@ impl Driven<'_> {
         pairs
             .map(|(error, tag)| {
                 let number = 1 + MESSAGES.iter().position(|m| *m == error.message).expect("a message of 01") as u64;
-                let at = pack(tag.token.position) as usize - 1;
+                let at = documents::tag(tag.token.position) - 1;
                 let record = self.records[at];
-                let token = self.builder(Positions::Given).token(at);
+                let token = self.builder(self.positions).token(at);
                 assert_eq!(error.message, tag.message, "positions change the errors");
                 assert!(error.token.value == token.value || is_nan(&token.value), "the token is another record's");
-                [number, pack(error.token.position), record.kind, record.value]
+                [number, self.position(error.token.position), record.kind, record.value]
             })
             .collect()
+    }
+
+    /// The word of a position that the Rust answered.
+    fn position(&self, found: Position) -> u64 {
+        match self.positions {
+            Positions::Given => position(u64::from(found.line), u64::from(found.column)),
+            Positions::Tagged => documents::tag(found).checked_sub(1).map_or(0, |at| self.records[at].position),
+        }
     }
 
     fn tagged_errors(&self) -> CompileErrorList {
@@ -306,7 +349,7 @@ impl Driven<'_> {
         let read = |index: usize| {
             let function = &program.functions[index];
             assert_eq!(function.instructions.len(), positions[index].len());
-            let places = positions[index].iter().map(|&position| pack(position));
+            let places = positions[index].iter().map(|&position| self.position(position));
             FunctionAnswer {
                 parameters: function.parameter_count as u64,
                 locals: function.local_count as u64,

@@ -5,10 +5,26 @@ pub const RECORD_WORDS: usize = 4;
 pub const MAX_RECORDS: usize = 1_048_576;
 pub const MAX_TEXT: u64 = 1_048_575;
 pub const MAX_LEVEL: usize = 64;
-/// Line and column have 16 bits each.
-pub const MAX_POSITION: u64 = 0xFFFF_FFFF;
+/// The greatest line, and the greatest column (2026-06).
+pub const MAX_PLACE: u64 = 99_999_999;
 /// The text `main`.
 pub const MAIN: u64 = 1;
+
+/// The word of a position (2026-06): line × 2^32 + column.
+pub fn position(line: u64, column: u64) -> u64 {
+    line << 32 | column
+}
+
+/// Line and column of a position's word; of any other word, its halves.
+pub fn line_and_column(position: u64) -> (u64, u64) {
+    (position >> 32, position & 0xFFFF_FFFF)
+}
+
+/// Whether a word is a position: each half by itself.
+pub fn is_position(word: u64) -> bool {
+    let (line, column) = line_and_column(word);
+    line <= MAX_PLACE && column <= MAX_PLACE
+}
 
 pub mod kind {
     pub const DOCUMENT: u64 = 1;

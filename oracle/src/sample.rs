@@ -15,6 +15,8 @@ use std::collections::{BTreeMap, BTreeSet};
 /// No file of numbers is longer, so that a small buffer holds any of them.
 const FILE_BYTES: usize = 60_000;
 const SEED: u64 = 2026;
+/// What the program `book_cases` reads of one case, in bytes.
+const CASE_BYTES: usize = 8_000;
 const GENERATED_RECORDS: usize = 80;
 /// For the generated cases; the pieces are always taken.
 const GENERATED_BYTES: usize = 110_000;
@@ -125,7 +127,7 @@ impl Collected {
 
 /// Each piece with exactly what it needs and a tail; some also one entry short in each area.
 fn add_pieces(collected: &mut Collected) {
-    for (name, words) in [pieces::bench(), pieces::more()].concat() {
+    for (name, words) in [pieces::bench(), pieces::more(), pieces::requests()].concat() {
         assert_shared(name, &words);
         let exact = needed(&words);
         let tailed: Lengths = std::array::from_fn(|i| exact[i] + ENTRY_WORDS[i] - 1);
@@ -161,7 +163,8 @@ fn add_generated(collected: &mut Collected) {
         if short < AREAS && exact[short] > 0 {
             lengths[short] = exact[short] - 1;
         }
-        if !features(&made.words, &lengths).is_subset(&collected.features) {
+        let fits = compile_case(&made.words, &lengths).len() <= CASE_BYTES;
+        if fits && !features(&made.words, &lengths).is_subset(&collected.features) {
             assert_shared(&format!("case {index}"), &made.words);
             room -= collected.add(&format!("seed {SEED} case {index}"), &made.words, &lengths) as i64;
         }
@@ -213,7 +216,7 @@ fn column_cases() -> Vec<String> {
     for index in 0..400 {
         let made = case(SEED, index, Sizes::Mixed);
         let count = made.words.len() / 4;
-        if count == 0 || count > COLUMN_RECORDS || records(&made.words).iter().any(|r| r.position > 0xFFFF_FFFF) {
+        if count == 0 || count > COLUMN_RECORDS {
             continue;
         }
         let file = lines(&made.words);

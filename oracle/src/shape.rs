@@ -1,6 +1,6 @@
 //! Rows 2 to 4: the tree rules of 01, read in record order (readings 5.1 to 5.3).
 
-use crate::records::{kind, records, Record, MAX_LEVEL, MAX_POSITION, MAX_RECORDS, MAX_TEXT, RECORD_WORDS};
+use crate::records::{is_position, kind, records, Record, MAX_LEVEL, MAX_RECORDS, MAX_TEXT, RECORD_WORDS};
 
 /// Row and place.
 pub type Refusal = (u64, u64);
@@ -95,7 +95,7 @@ fn position_fits(kind: u64, position: u64) -> bool {
     if kind::has_no_position(kind) {
         position == 0
     } else {
-        position <= MAX_POSITION
+        is_position(position)
     }
 }
 

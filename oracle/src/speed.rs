@@ -158,8 +158,12 @@ fn one_book(definitions: Vec<Node>) -> Vec<Node> {
 }
 
 const SEARCH_FUNCTIONS: &str = "names of the book, searched at each function";
+const SEARCH_FLOATS: &str = "constants, searched at each float";
 
-pub const SHAPES: [Shape; 9] = [
+/// Floats of the catalogue that repeats them.
+const PRICES: u64 = 50;
+
+pub const SHAPES: [Shape; 10] = [
     Shape { name: "arithmetic bodies", make: |n| one_book(filled(n, arithmetic_function)), squared: None },
     Shape {
         name: "many small functions",
@@ -181,10 +185,15 @@ pub const SHAPES: [Shape; 9] = [
     Shape {
         name: "catalogue of floats",
         make: |n| one_book(leaves(n, |i| leaf(kind::FLOAT, (i as f64 * 0.5).to_bits()))),
+        squared: Some(SEARCH_FLOATS),
+    },
+    Shape {
+        name: "catalogue of few floats",
+        make: |n| one_book(leaves(n, |i| leaf(kind::FLOAT, (1.35 + (i % PRICES) as f64).to_bits()))),
         squared: None,
     },
     Shape { name: "many books", make: many_books, squared: Some("books, looked through for the next ready one") },
-    Shape { name: "one large book", make: |n| one_book(filled(n, mixed_function)), squared: None },
+    Shape { name: "one large book", make: |n| one_book(filled(n, mixed_function)), squared: Some(SEARCH_FLOATS) },
 ];
 
 impl Shape {
@@ -260,15 +269,15 @@ pub const SIZES: [usize; 3] = [10_000, 100_000, 1_000_000];
 /// Those of a rule book as one writes it.
 pub const SMALL: [usize; 2] = [100, 1_000];
 
-/// A table of every shape at each size; a size that would take longer than `longest` seconds a call
+/// A table of every shape, or of one, at each size; a size that would take longer than `longest` seconds a call
 /// is left out.
-pub fn run(side: &mut dyn Side, runs: usize, longest: f64, sizes: &[usize]) {
+pub fn run(side: &mut dyn Side, only: Option<&Shape>, runs: usize, longest: f64, sizes: &[usize]) {
     println!("Processor time, medians of {runs} runs ({} at 1,000,000 records). Ratios: the library's time by the original's.", least(runs));
     println!();
     println!("| Shape | Records | Library, ns a record | Growth | Ratio | Ratio, areas 4 times as long | Ratio, the original with its solver |");
     println!("|---|---|---|---|---|---|---|");
     let mut ratios = Vec::new();
-    for shape in &SHAPES {
+    for shape in SHAPES.iter().filter(|shape| only.is_none_or(|only| only.name == shape.name)) {
         let mut before: Option<(usize, f64)> = None;
         for &count in sizes {
             if let Some((size, seconds)) = before {
@@ -311,11 +320,13 @@ pub fn run(side: &mut dyn Side, runs: usize, longest: f64, sizes: &[usize]) {
                 .collect(),
         )
     };
-    println!(
-        "Median of the ratios: {:.2}; of the shapes where nothing is searched: {:.2}",
-        all(|_| true),
-        all(|shape| shape.squared.is_none())
-    );
+    if only.is_none() {
+        println!(
+            "Median of the ratios: {:.2}; of the shapes where nothing is searched: {:.2}",
+            all(|_| true),
+            all(|shape| shape.squared.is_none())
+        );
+    }
     println!();
     plot(&ratios);
     println!();

@@ -314,7 +314,7 @@ pub fn run(
     capacities: Counts,
 ) -> Result<Run, Refusal> {
     let records = check(words)?;
-    let rules = Rules { shared_floats: true, strict };
+    let rules = Rules { strict };
     let Some((areas, totals)) = program else {
         let books = needed(&records, &BTreeSet::new())?;
         return Ok(compile_books(rules, &records, &books, capacities, None));

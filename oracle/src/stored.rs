@@ -10,7 +10,7 @@ use crate::records::{flatten, kind, records, Node, Record, MAX_LEVEL, MAX_TEXT};
 use std::collections::BTreeSet;
 
 /// The books of the longest input: each but the root takes a document and an include.
-const MOST_BOOKS: u64 = 712;
+const MOST_BOOKS: u64 = 630;
 
 pub struct Case {
     pub name: String,
@@ -35,7 +35,7 @@ const OPCODES: [u64; 23] = [
 ];
 
 /// What the cases must show. Row 2 and a number wider than its field are missing: a column file of
-/// at most 1,424 lines has neither.
+/// at most 1,260 lines has neither.
 pub fn items() -> Vec<String> {
     let fixed = [
         "01's example",
@@ -47,9 +47,9 @@ pub fn items() -> Vec<String> {
         "self-include, row 8",
         "ring of two, row 8",
         "two loops, breaks, rescue, implement and apply in one book",
-        "input of 65,504 bytes, delivered",
-        "input of 65,505 bytes",
-        "input of 1,425 records",
+        "input of 65,520 bytes, delivered",
+        "input of 65,521 bytes",
+        "input of 1,261 records",
         "delivery of 885 lines",
         "delivery of 886 lines, row 9, place 0",
         "refusal of 885 lines",
@@ -200,9 +200,9 @@ impl Case {
         };
         show(self.file.is_empty(), "a file of no bytes");
         show(self.file == lines(&example()), "01's example");
-        show(self.file.len() == INPUT_BYTES && row == 0, "input of 65,504 bytes, delivered");
-        show(self.file.len() == INPUT_BYTES + 1, "input of 65,505 bytes");
-        show(self.file.len() == INPUT_BYTES + LINE_BYTES, "input of 1,425 records");
+        show(self.file.len() == INPUT_BYTES && row == 0, "input of 65,520 bytes, delivered");
+        show(self.file.len() == INPUT_BYTES + 1, "input of 65,521 bytes");
+        show(self.file.len() == INPUT_BYTES + LINE_BYTES, "input of 1,261 records");
         if self.file.len() <= INPUT_BYTES {
             if let Some(words) = self.words().filter(|words| !words.is_empty()) {
                 shown_by_records(&words, row, &mut found);
@@ -323,7 +323,7 @@ fn limits() -> Vec<Case> {
         Case::new("885 errors, 886 lines, a listing too long", book(vec![property_errors(885)])),
         Case::new("877 properties, 885 lines", book(vec![properties(877)])),
         Case::new("878 properties, 886 lines, a listing too long", book(vec![properties(878)])),
-        Case::new("712 books in 1,424 records, the longest input", many_books(0)),
+        Case::new("630 books in 1,260 records, the longest input", many_books(0)),
         Case::new("one byte more than the longest input", one_byte_more),
         Case::new("one record more than the longest input", many_books(1)),
     ]
@@ -362,11 +362,14 @@ fn bad_lines() -> Vec<Case> {
         Case::new("bad line: a span of blanks", with_field(1, 1, "        ")),
         Case::new("bad line: a leading zero", with_field(1, 1, "      07")),
         Case::new("bad line: a blank behind a number", with_field(1, 1, "      7 ")),
-        Case::new("bad line: a blank inside a number", with_field(1, 3, "   1 0")),
-        Case::new("bad line: a plus", with_field(1, 3, "   +10")),
-        Case::new("bad line: line 65,536", with_field(1, 2, " 65536")),
-        Case::new("line 65,535 and column 65,535", with_both(1, " 65535 65535")),
-        Case::new("bad line: column 65,536", with_field(1, 3, " 65536")),
+        Case::new("bad line: a blank inside a number", with_field(1, 3, "      1 0")),
+        Case::new("bad line: a plus", with_field(1, 3, "      +10")),
+        Case::new("bad shape: line 100,000,000", with_field(1, 2, "100000000")),
+        Case::new("line 99,999,999 and column 99,999,999", with_both(1, " 99999999 99999999")),
+        Case::new("bad shape: column 100,000,000", with_field(1, 3, "100000000")),
+        Case::new("bad shape: line and column 999,999,999", with_both(1, "999999999999999999")),
+        Case::new("bad line: a line of ten digits", ten_digits()),
+        Case::new("bad line: fields of six, as they were before", old_width()),
         Case::new("bad line: a value past its 64 bits", with_field(0, 4, " 18446744073709551616")),
         Case::new("bad shape: the greatest value of 64 bits", with_field(0, 4, " 18446744073709551615")),
         Case::new("bad line: a sign that is no integer's", with_field(0, 4, "                   -2")),
@@ -392,9 +395,23 @@ fn bad_lines() -> Vec<Case> {
 /// Line and column of a record together.
 fn with_both(line: usize, text: &str) -> Vec<u8> {
     let mut file = lines(&example());
-    let start = line * LINE_BYTES + 12;
-    file[start..start + 12].copy_from_slice(text.as_bytes());
+    let start = line * LINE_BYTES + WIDTHS[0] + WIDTHS[1];
+    file[start..start + WIDTHS[2] + WIDTHS[3]].copy_from_slice(text.as_bytes());
     file
+}
+
+/// A line of the file with one digit more than its field.
+fn ten_digits() -> Vec<u8> {
+    let mut file = lines(&example());
+    let start = LINE_BYTES + WIDTHS[0] + WIDTHS[1];
+    file.splice(start..start + WIDTHS[2], *b"1000000000");
+    file
+}
+
+/// The file with line and column in 6 bytes each.
+fn old_width() -> Vec<u8> {
+    let narrow = |line: &[u8]| [&line[..12], &line[15..21], &line[24..]].concat();
+    lines(&example()).chunks(LINE_BYTES).flat_map(narrow).collect()
 }
 
 // Broken trees, and which refusal comes first.
@@ -512,5 +529,6 @@ pub fn cases() -> Vec<Case> {
     out.extend(bad_shapes());
     out.extend(orders());
     out.extend(limits());
+    out.extend(requests().into_iter().map(piece));
     out
 }

@@ -138,7 +138,7 @@ mod tests {
     use crate::random::Random;
     use crate::shape::check;
 
-    const STRICT: Rules = Rules { shared_floats: false, strict: true };
+    const STRICT: Rules = Rules { strict: true };
 
     /// Row and place that strict mode must answer with these lengths.
     fn expected(words: &[u64], lengths: &Lengths) -> (u64, u64) {

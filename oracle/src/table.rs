@@ -50,6 +50,14 @@ fn cells(column: &Column) -> Vec<(&'static str, String)> {
     out.push(("delivered", grouped(tally.rows[0])));
     out.push(("row 2, 3, 4, 5", several(&tally.rows[2..=5])));
     out.push(("row 6, 7, 8", several(&tally.rows[6..=8])));
+    let floats = &tally.floats;
+    out.push((
+        "pools with a float that the Rust adds again; entries merged",
+        several(&[floats.repeated, floats.merged]),
+    ));
+    let apart = [floats.zeros, floats.nans, floats.integers];
+    out.push(("pools with both zeros, with two NaNs, with a float and an integer of its bits", several(&apart)));
+    out.push(("with an include below another definition", grouped(tally.late)));
     if calls > 0 {
         out.push(("calls of the library", grouped(calls)));
         out.push(("of these delivered", grouped(tally.calls[0])));

@@ -90,7 +90,7 @@ fn listed<T>(what: &str, items: impl ExactSizeIterator<Item = T>) -> Result<Vec<
 }
 
 fn position(at: Position) -> u64 {
-    u64::from(at.line) << 16 | u64::from(at.column)
+    u64::from(at.line) << 32 | u64::from(at.column)
 }
 
 fn delivered(program: &Program, answered: &Answered) -> Result<Viewed, String> {

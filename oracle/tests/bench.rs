@@ -3,14 +3,14 @@
 use oracle::areas::{answer, Answer, Delivery, FunctionAnswer, UNLIMITED};
 use oracle::listing::{listing, listing_of_column};
 use oracle::model::{compile, instruction};
-use oracle::pieces::{bench, body, deep, doubled, example, more, with_text};
+use oracle::pieces::{bench, body, deep, doubled, example, more, requests, with_text};
 use oracle::real::{run, Outcome};
 use oracle::records::{flatten, records, Node, MAX_RECORDS, MAX_TEXT};
 use oracle::shape::check;
 use oracle::{columns, pieces};
 
 fn piece(name: &str) -> Vec<u64> {
-    let all = [bench(), more()].concat();
+    let all = [bench(), more(), requests()].concat();
     all.into_iter().find(|(known, _)| *known == name).unwrap_or_else(|| panic!("no piece {name}")).1
 }
 
@@ -83,11 +83,27 @@ fn e_rescue_in_an_if() {
 }
 
 #[test]
-fn f_integers_share_and_floats_do_not() {
+fn f_equal_integers_and_equal_floats_share() {
     let push = |index| instruction(PUSH, index);
     let (pop, back) = (instruction(POP, 0), instruction(RETURN, 0));
     assert_eq!(words(&only_function("f seven twice")), [push(3), pop, push(3), back]);
-    assert_eq!(words(&only_function("f half twice")), [push(3), pop, push(4), back]);
+    assert_eq!(words(&only_function("f half twice")), [push(3), pop, push(3), back]);
+}
+
+/// 2026-05: by all 64 bits, whoever adds them; an integer of the same bits is another constant.
+#[test]
+fn floats_share_by_their_bits() {
+    const FLOAT: u64 = 3;
+    const INTEGER: u64 = 2;
+    let delivery = delivered(&piece("2026-05 floats by their bits"));
+    let floats = [0.5f64.to_bits(), 0, 1 << 63, 0x7FF8_0000_0000_0000, 0x7FF8_0000_0000_0001];
+    let [half, zero, minus_zero, nan, other_nan] = floats.map(|bits| (FLOAT, bits));
+    let pool = [half, zero, minus_zero, (INTEGER, 0), (INTEGER, 1 << 63), nan, other_nan];
+    assert_eq!(delivery.constants[3..10], pool);
+    assert_eq!(delivery.constants.len(), 11);
+    assert_eq!(delivery.context[0].2, Some(3));
+    let pushed = words(&delivery.functions[0]);
+    assert_eq!(pushed[..12], [3, 4, 5, 6, 7, 8, 9, 9, 8, 5, 4, 3].map(|index| instruction(PUSH, index)));
 }
 
 #[test]
@@ -212,7 +228,7 @@ fn the_panic_is_caught_and_foretold() {
 
 #[test]
 fn every_small_piece_is_the_same_from_both() {
-    for (name, words) in [bench(), more()].concat() {
+    for (name, words) in [bench(), more(), requests()].concat() {
         let model = compile(&words, &UNLIMITED);
         if model.reply.row == 0 || model.reply.row >= 6 {
             match run(&records(&words)) {

@@ -39,7 +39,7 @@ impl Side for StandIn {
 }
 
 fn differences(mut side: StandIn, seed: u64, count: u64, sizes: Sizes) -> u64 {
-    let (tally, _) = compare(Plan { seed, count, sizes, stop: false }, Some(&mut side));
+    let (tally, _) = compare(Plan { seed, count, sizes, stop: false, head_includes: false }, Some(&mut side));
     assert!(tally.calls.iter().sum::<u64>() >= 3 * count || tally.differences > 0, "{tally:?}");
     if tally.differences == 0 && count >= 1000 {
         assert!(tally.calls_full.iter().all(|&met| met > 0), "{tally:?}");

@@ -11,7 +11,7 @@ use std::collections::BTreeSet;
 use std::path::Path;
 
 fn assert_alike(seed: u64, count: u64, sizes: Sizes) -> Tally {
-    let (tally, first) = compare(Plan { seed, count, sizes, stop: false }, None);
+    let (tally, first) = compare(Plan { seed, count, sizes, stop: false, head_includes: false }, None);
     if let Some(first) = first {
         panic!("case {}: {}\n{:?}", first.index, first.message, first.shrunk);
     }
@@ -51,8 +51,8 @@ fn a_seed_gives_the_same_bundles() {
     assert_eq!(fingerprint(1, 10, Sizes::Large), FINGERPRINT_LARGE);
 }
 
-const FINGERPRINT_MIXED: u64 = 16_090_190_880_234_877_698;
-const FINGERPRINT_LARGE: u64 = 11_613_912_711_025_851_840;
+const FINGERPRINT_MIXED: u64 = 3_532_779_746_091_333_220;
+const FINGERPRINT_LARGE: u64 = 3_159_292_198_826_457_427;
 
 #[test]
 fn the_sample_is_current() {

@@ -1,7 +1,7 @@
 //! The ranges of 01's tree rules, record by record, over every kind: the last value that is right and
 //! the first that is not.
 
-use oracle::pieces::{bench, more};
+use oracle::pieces::{bench, more, requests};
 use oracle::records::{kind, records, words, Record};
 use oracle::shape::check;
 use std::collections::BTreeSet;
@@ -32,7 +32,7 @@ fn at_fault(list: &[Record], at: usize, change: impl Fn(&mut Record)) -> bool {
 }
 
 fn good_pieces() -> Vec<Vec<Record>> {
-    let all = [bench(), more()].concat();
+    let all = [bench(), more(), requests()].concat();
     all.into_iter().filter(|(_, words)| check(words).is_ok()).map(|(_, words)| records(&words)).collect()
 }
 
@@ -64,10 +64,13 @@ fn every_kind_has_its_values() {
 fn every_kind_has_its_positions() {
     for list in good_pieces() {
         for (at, r) in list.iter().enumerate() {
-            let greatest = if WITHOUT_POSITION.contains(&r.kind) { 0 } else { 65_535 * 65_536 + 65_535 };
-            assert!(!at_fault(&list, at, |r| r.position = greatest), "kind {}", r.kind);
-            assert!(at_fault(&list, at, |r| r.position = greatest + 1), "kind {}", r.kind);
-            assert!(at_fault(&list, at, |r| r.position = u64::MAX), "kind {}", r.kind);
+            let place = if WITHOUT_POSITION.contains(&r.kind) { 0 } else { 99_999_999 };
+            for (line, column) in [(0, 0), (0, place), (place, 0), (place, place)] {
+                assert!(!at_fault(&list, at, |r| r.position = line << 32 | column), "kind {}", r.kind);
+            }
+            for (line, column) in [(0, place + 1), (place + 1, 0), (0, 0xFFFF_FFFF), (place, place + 1), (0xFFFF_FFFF, 0xFFFF_FFFF)] {
+                assert!(at_fault(&list, at, |r| r.position = line << 32 | column), "kind {}", r.kind);
+            }
         }
     }
 }

@@ -19,7 +19,7 @@ use crate::reply::{Answer, Checked, Converted, Reply, Version};
 use std::sync::Once;
 
 /// The layout that this crate was written for. The first call holds the library's to it.
-pub const LAYOUT: u64 = 1;
+pub const LAYOUT: u64 = 2;
 
 extern "C" {
     fn clover_version() -> Version;

@@ -7,7 +7,7 @@ use crate::records::RECORD_WORDS;
 use std::fmt;
 
 /// Bytes of each field: kind, span, line, column, value.
-const WIDTHS: [usize; 5] = [4, 8, 6, 6, 21];
+const WIDTHS: [usize; 5] = [4, 8, 9, 9, 21];
 const FIELDS: [&str; 5] = ["kind", "span", "line", "column", "value"];
 
 /// Bytes of a line, its newline among them.
@@ -76,7 +76,8 @@ fn record(line: &[u8]) -> Result<[u64; RECORD_WORDS], LineFault> {
         &line[at - width..at]
     });
     let read = |field: usize, number: Option<u64>| number.ok_or(LineFault::Field(FIELDS[field]));
-    let part = |bytes| unsigned(bytes).and_then(|part| u32::try_from(part).ok()).filter(|&part| part <= Position::MOST);
+    // Nine digits fit 32 bits; a line or column beyond the limit is a record at fault, and not a bad line.
+    let part = |bytes| unsigned(bytes).and_then(|part| u32::try_from(part).ok());
     let kind = read(0, unsigned(kind))?;
     let span = read(1, unsigned(span))?;
     let row = part(row).ok_or(LineFault::Field(FIELDS[2]))?;
@@ -117,11 +118,18 @@ mod tests {
     }
 
     #[test]
+    fn a_line_or_column_beyond_the_limit_is_read() {
+        for (row, column) in [(Position::MOST + 1, 0), (0, Position::MOST + 1), (999_999_999, 999_999_999)] {
+            let line = line(["33", "1", &row.to_string(), &column.to_string(), "0"]);
+            assert_eq!(record(line.as_bytes()), Ok([33, 1, Position::new(row, column).word(), 0]));
+        }
+    }
+
+    #[test]
     fn faults_are_named() {
         let fault = |line: &str| record(line.as_bytes()).expect_err("a fault");
         assert_eq!(fault(&line(SMALLEST)[1..]), LineFault::Length(LINE_BYTES - 2));
-        let far = (Position::MOST + 1).to_string();
-        let wrong = [(0, "33 "), (0, "x"), (1, "01"), (2, "02"), (2, &far), (3, "-6"), (4, "-0"), (4, "")];
+        let wrong = [(0, "33 "), (0, "x"), (1, "01"), (2, "02"), (3, "-6"), (3, "1 0"), (4, "-0"), (4, "")];
         for (at, field) in wrong {
             let mut fields = SMALLEST;
             fields[at] = field;

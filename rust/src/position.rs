@@ -3,7 +3,7 @@
 use std::fmt;
 
 /// The column stands in so many bits of the word, and the line above them.
-const COLUMN_BITS: u32 = 16;
+const COLUMN_BITS: u32 = 32;
 
 /// A place in a source; line 0 and column 0 where there is none.
 #[derive(Clone, Copy, Debug, Default, PartialEq, Eq, Hash, PartialOrd, Ord)]
@@ -18,9 +18,9 @@ impl Position {
     /// No place: line 0, column 0.
     pub const NONE: Position = Position { line: 0, column: 0 };
     /// The greatest line, and the greatest column.
-    pub const MOST: u32 = 65_535;
+    pub const MOST: u32 = 99_999_999;
 
-    /// A place. One beyond [`MOST`](Position::MOST) has no word of its own: see [`word`](Position::word).
+    /// A place.
     pub const fn new(line: u32, column: u32) -> Position {
         Position { line, column }
     }
@@ -30,20 +30,15 @@ impl Position {
         self.line <= Position::MOST && self.column <= Position::MOST
     }
 
-    /// The word of a record. A place beyond [`MOST`](Position::MOST) gives a word that the library
-    /// refuses (row 3), never another place's.
+    /// The word of a record, each place its own. The library refuses one beyond
+    /// [`MOST`](Position::MOST) (row 3).
     pub fn word(self) -> u64 {
-        if self.is_known() {
-            u64::from(self.line) << COLUMN_BITS | u64::from(self.column)
-        } else {
-            u64::MAX
-        }
+        u64::from(self.line) << COLUMN_BITS | u64::from(self.column)
     }
 
-    /// The place that a word holds. Parts that are wider than 32 bits are cut to the greatest.
+    /// The place that a word holds.
     pub fn from_word(word: u64) -> Position {
-        let cut = |part: u64| u32::try_from(part).unwrap_or(u32::MAX);
-        Position { line: cut(word >> COLUMN_BITS), column: cut(word & ((1 << COLUMN_BITS) - 1)) }
+        Position { line: (word >> COLUMN_BITS) as u32, column: word as u32 }
     }
 }
 
@@ -59,14 +54,15 @@ mod tests {
 
     #[test]
     fn positions_come_back() {
-        for position in [Position::NONE, Position::new(2, 6), Position::new(Position::MOST, Position::MOST)] {
+        let most = Position::new(Position::MOST, Position::MOST);
+        for position in [Position::NONE, Position::new(2, 6), most, Position::new(0, u32::MAX), Position::new(u32::MAX, 0)] {
             assert_eq!(Position::from_word(position.word()), position);
         }
         assert_eq!(Position::new(2, 6).word(), (2 << COLUMN_BITS) + 6);
     }
 
     #[test]
-    fn a_place_beyond_the_limit_is_no_other_place() {
+    fn a_place_beyond_the_limit_is_not_known() {
         for position in [Position::new(Position::MOST + 1, 1), Position::new(1, Position::MOST + 1)] {
             assert!(!position.is_known());
             assert!(!Position::from_word(position.word()).is_known());

@@ -15,9 +15,8 @@ use Rattle.building.specs.Emission.{Coded, coded, lastOpcodeC, emitC, emitNullC
 use Rattle.building.specs.Scopes.{Naming, naming, enterScopeC, exitScopeC}
 use Rattle.building.specs.Pool.{Pooling, pooling, addBy, addNoCheckC, addConstantC}
 use Rattle.words.specs.Areas.{codeArea}
-use Rattle.words.specs.Object.{constantOf, isShared, floatKind}
+use Rattle.words.specs.Object.{constantOf, isShared}
 use Rattle.words.specs.Opcode.{word, toInstruction, Pop, ReturnOp}
-use borrow.Author.Tests.{eq-eqb, ne-eqb}
 use Rattle.bodies.specs.Cells.{stateOf, wordsOf, flagWord}
 
 flag : (b : Bool) → not (eqb (flagWord b) 0) ≡ b
@@ -141,17 +140,3 @@ add-words kind value s k t kept q =
     let is = ap (λ (m : Pooling). m .state) q
     ∙ adds (isShared kind) (eqb (s .full) 0) (findConstantC (s .constants) (constantOf kind value) k) kind value s k in
     rw (kept ∙ ap (λ (t : FunctionState). withConstants (taken (t .full) (t .constants)) s) is ∙ sym is) q
-
--- a float is never shared
-float-added : (value : ℕ) (s : FunctionState) (k : List ℕ) → s .full ≡ 0 → addNoCheckC floatKind value s k ≡ addConstantC floatKind value s k
-unfolding addConstantC
-float-added value s k z = rw (eq-eqb (s .full) 0 z) refl
-
-pub float-full : (value : ℕ) (s : FunctionState) (k : List ℕ) → (s .full ≡ 0 → ⊥) → pooling 0 s k ≡ addConstantC floatKind value s k
-unfolding addConstantC
-float-full value s k ne = rw (ne-eqb (s .full) 0 ne) refl
-
-pub float-words : (value : ℕ) (s : FunctionState) (k : List ℕ) {i : ℕ} {a : FunctionState} {k′ : List ℕ} (t : FunctionState) → s .full ≡ 0
-    → a ≡ withConstants (taken (t .full) (t .constants)) s → pooling i t k′ ≡ addNoCheckC floatKind value s k
-    → pooling i a k′ ≡ addConstantC floatKind value s k
-float-words value s k t z kept q = add-words floatKind value s k t kept (q ∙ float-added value s k z)

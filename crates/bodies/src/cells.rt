@@ -8,11 +8,9 @@ ghost use Rattle.building.specs.Emission.{emitBreakC, enterBreakC, exitBreakC, 
 ghost use Rattle.building.specs.Found.{foundOf};
 ghost use Rattle.building.specs.Scopes.{naming, findLocalC, enterScopeC, exitScopeC, defineAnonymousC, Defines};
 ghost use Rattle.building.specs.Pool.{pooling, addConstantC, markGlobalC, erring, pushErrorC};
-ghost use Rattle.words.specs.Object.{floatKind};
 ghost use Rattle.building.specs.Taking.{taken};
 ghost use Rattle.building.specs.State.{withCode, withConstants, withScope, withDepth};
 ghost use Rattle.bodies.specs.Cells.{stateOf, wordsOf, defined, flagWord};
-use crate::FLOAT_KIND;
 use building::function_state;
 use building::function_state::FunctionState;
 use building::pool;
@@ -358,21 +356,6 @@ pub(crate) fn add_constant(
 {
     let s = load(cells);
     let a = pool::add_constant(constants, s, kind, value);
-    let t = a.state;
-    keep_constants(cells, t.full, t.constants);
-    a.index
-}
-
-// The same of a float, which is never shared: nothing is searched, and the routine stays short enough to be compiled into its caller.
-pub(crate) fn add_float(constants: &mut [u64], cells: &mut [u64; 15], value: u64) -> u64
-    ensures { λ r. ⌜ pooling r (stateOf (now (cells .exit))) (now (constants .exit))
-        ≡ addConstantC floatKind value (stateOf (now (cells .entry))) (now (constants .entry)) ⌝ }
-{
-    let s = load(cells);
-    if s.full != 0 {
-        return 0;
-    }
-    let a = pool::add_constant_no_check(constants, s, FLOAT_KIND, value);
     let t = a.state;
     keep_constants(cells, t.full, t.constants);
     a.index

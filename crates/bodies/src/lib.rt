@@ -4,7 +4,7 @@ ghost use Prim.Native.Nat.{_≤_, _<_};
 ghost use Rattle.words.specs.Record.{tokenAt, kindAt, positionAt, valueAt};
 ghost use Rattle.building.specs.Pool.{erring, pushErrorC};
 ghost use Rattle.words.specs.Codes.{numberOf};
-ghost use Rattle.words.specs.Object.{constantOf, floatKind};
+ghost use Rattle.words.specs.Object.{constantOf};
 ghost use Rattle.words.specs.Opcode.{PushConstant};
 ghost use Rattle.definition.specs.Compiler.{emitConstant, emitGlobal, emitName, compileAssignName, compilePrefixExpression, compileRescue};
 ghost use Rattle.definition.specs.Compiler.{skip};
@@ -23,17 +23,11 @@ use building::context;
 use building::function_state::FunctionState;
 use building::pool;
 use building::scopes::Found;
+use words::object;
 use words::opcode::OpCode;
 use words::record;
 use words::record::field;
 use words::reply;
-
-// Kinds of constants (01, 'Emission').
-pub const INTEGER_KIND: u64 = 2;
-
-pub const FLOAT_KIND: u64 = 3;
-
-const TEXT_KIND: u64 = 4;
 
 // An error at the token that a record is.
 pub fn fault(
@@ -80,16 +74,6 @@ fn constant(
     cells::emit(code, cells, instruction, position);
 }
 
-// An instruction over a new float.
-fn float(code: &mut [u64], constants: &mut [u64], cells: &mut [u64; 15], value: u64, position: u64)
-    ensures { λ _. ⌜ OnPool (stateOf (now (cells .entry))) (now (code .entry)) (now (constants .entry)) (stateOf (now (cells .exit)))
-        (now (code .exit)) (now (constants .exit)) (emitConstant PushConstant (constantOf floatKind value) position) ⌝ }
-{
-    let index = cells::add_float(constants, cells, value);
-    let instruction = OpCode::PushConstant.to_instruction(index);
-    cells::emit(code, cells, instruction, position);
-}
-
 // A global's name is a text constant with a mark.
 fn global(
     code: &mut [u64],
@@ -103,7 +87,7 @@ fn global(
         (stateOf (now (cells .exit))) (now (code .exit)) (now (constants .exit))
         (emitGlobal (numberOf opcode) name position) ⌝ }
 {
-    let index = cells::add_constant(constants, cells, TEXT_KIND, name);
+    let index = cells::add_constant(constants, cells, object::TEXT, name);
     cells::mark_global(constants, cells, index);
     let instruction = opcode.to_instruction(index);
     cells::emit(code, cells, instruction, position);
@@ -266,15 +250,15 @@ fn leaf(
         return;
     }
     if kind == record::INTEGER {
-        constant(code, constants, cells, INTEGER_KIND, value, position);
+        constant(code, constants, cells, object::INTEGER, value, position);
         return;
     }
     if kind == record::FLOAT {
-        float(code, constants, cells, value, position);
+        constant(code, constants, cells, object::FLOAT, value, position);
         return;
     }
     if kind == record::STRING {
-        constant(code, constants, cells, TEXT_KIND, value, position);
+        constant(code, constants, cells, object::TEXT, value, position);
         return;
     }
     let index = standing(kind, value);
@@ -408,7 +392,7 @@ fn loop_head(
     let set = OpCode::LocalSet.to_instruction(enumerable);
     cells::emit(code, cells, set, position);
     cells::emit_opcode_without_position(code, cells, OpCode::Pop);
-    constant(code, constants, cells, INTEGER_KIND, 0, position);
+    constant(code, constants, cells, object::INTEGER, 0, position);
     let iterator = std::num::wrapping_add_u64(enumerable, 1);
     let start = OpCode::LocalSet.to_instruction(iterator);
     cells::emit(code, cells, start, position);

@@ -205,9 +205,11 @@ module _ {tree set : List ℕ} {c k f m p t l u n b e o : List ℕ} {x r : Taken
           locals = zero-filled (zeros .locals);
           counted = refl;
           valued = none;
+          first-local = omega arith;
           named = record { up-to = refl; each = λ i h. absurd (omega arith) };
           publics = zero-filled (zeros .publics);
           first-public = refl;
+          prior = record { books = none; publics = none };
           file = refl;
           last-index = refl;
           indexed = λ i h. absurd (omega arith);

@@ -88,8 +88,9 @@ module _ (tree : List ℕ) (j end : ℕ) (set : List ℕ) where
   pub all-end : end ≤ j → AllIncluded tree j end set true
   all-end past = record { all = defs-end tree j end (λ ns. true ≡ allBits set ns) past refl }
 
-  pub all-other : {kind : ℕ} → kind ≡ kindAt tree j → (kind ≡ 11 → ⊥) → AllIncluded tree j end set true
-  all-other k ne = record { all = defs-other tree j end (λ ns. true ≡ allBits set ns) k ne refl }
+  pub all-other : {kind next : ℕ} {r : Bool} → j < end → kind ≡ kindAt tree j → (kind ≡ 11 → ⊥) → next ≡ skipC tree j end
+      → AllIncluded tree next end set r → AllIncluded tree j end set r
+  all-other {r = r} inside k ne q A = record { all = defs-other tree j end (λ ns. r ≡ allBits set ns) inside k ne q (A .all) }
 
   module _ {kind file next : ℕ} (inside : j < end) (k : kind ≡ kindAt tree j) (eleven : kind ≡ 11) (v : file ≡ valueAt tree j) where
     pub all-more : {r : Bool} → true ≡ bitOf set file → next ≡ skipC tree j end → AllIncluded tree next end set r → AllIncluded tree j end set r

@@ -11,7 +11,7 @@ use borrow.Author.Tests.{leb-true, eq-eqb, le-ltb}
 use Rattle.words.specs.Ast.{Token, Document, Definition, LocalDefinition, IncludeDefinition, ModelDefinition, PublicModelDefinition, PlainFunction}
 use Rattle.words.specs.Ast.{PublicFunction, ImplementDefinition, ApplyDefinition}
 use Rattle.words.specs.Record.{kindAt, positionAt, valueAt, mostRecords, mostText}
-use Rattle.tree.specs.Rules.{inRange, ruleOf}
+use Rattle.tree.specs.Rules.{mayBeAt, inRange, ruleOf}
 use Rattle.tree.specs.Check.{shapeOf, recordsOf}
 use Rattle.tree.specs.declared.Shape.the-variants.{Fine, Refused}
 use Rattle.tree.specs.At.{RunAt, runSize, DefinitionAt, sizeD, DocumentsAt, sizeDoc}
@@ -29,7 +29,7 @@ unfolding inRange
 at-most k p v h =
     leb-true v (ruleOf k .most)
     (and-right (leb (ruleOf k .least) v) (leb v (ruleOf k .most))
-    (and-right (leb p (ruleOf k .position)) (leb (ruleOf k .least) v && leb v (ruleOf k .most)) h))
+    (and-right (mayBeAt (ruleOf k .position) p) (leb (ruleOf k .least) v && leb v (ruleOf k .most)) h))
 
 module _ (w : List ℕ) (end : ℕ) (ranges : (j : ℕ) → j < end → inRange (kindAt w j) (positionAt w j) (valueAt w j) ≡ true) where
   text-range : (j k : ℕ) → j < end → kindAt w j ≡ k → ruleOf k .most ≡ mostText → valueAt w j < setSize
@@ -47,13 +47,13 @@ module _ (w : List ℕ) (end : ℕ) (ranges : (j : ℕ) → j < end → inRange 
         subst (λ (n : ℕ). n < setSize) (sym (ap (λ (x : Token). x .value) (a .0 .0 .token))) (text-range i 11 (omega arith) (a .0 .0 .head .kind-is) refl),
         includes-range ds (i + sizeD (IncludeDefinition t l)) (a .1) (omega arith),
       )
-  includes-range (LocalDefinition x ∷ ds) i a f = tt
-  includes-range (ModelDefinition x y ∷ ds) i a f = tt
-  includes-range (PublicModelDefinition x y ∷ ds) i a f = tt
-  includes-range (PlainFunction x ∷ ds) i a f = tt
-  includes-range (PublicFunction x ∷ ds) i a f = tt
-  includes-range (ImplementDefinition x y ∷ ds) i a f = tt
-  includes-range (ApplyDefinition x y ∷ ds) i a f = tt
+  includes-range (LocalDefinition x ∷ ds) i a f = includes-range ds (i + sizeD (LocalDefinition x)) (a .1) (omega arith)
+  includes-range (ModelDefinition x y ∷ ds) i a f = includes-range ds (i + sizeD (ModelDefinition x y)) (a .1) (omega arith)
+  includes-range (PublicModelDefinition x y ∷ ds) i a f = includes-range ds (i + sizeD (PublicModelDefinition x y)) (a .1) (omega arith)
+  includes-range (PlainFunction x ∷ ds) i a f = includes-range ds (i + sizeD (PlainFunction x)) (a .1) (omega arith)
+  includes-range (PublicFunction x ∷ ds) i a f = includes-range ds (i + sizeD (PublicFunction x)) (a .1) (omega arith)
+  includes-range (ImplementDefinition x y ∷ ds) i a f = includes-range ds (i + sizeD (ImplementDefinition x y)) (a .1) (omega arith)
+  includes-range (ApplyDefinition x y ∷ ds) i a f = includes-range ds (i + sizeD (ApplyDefinition x y)) (a .1) (omega arith)
 
   in-sets : (ds : List Document) (i : ℕ) → DocumentsAt ds w i → i + runSize sizeDoc ds ≡ end → InSets setSize ds
   unfolding RunAt runSize

@@ -164,28 +164,32 @@ twice-whole tree end before {r} {after} T = record {
       };
 }
 
--- what holds of the includes ahead of the first other definition, from a place up to the end: at the end, at another definition, and at an include
+-- what holds of the includes among the definitions from a place up to the end: at the end, at another definition, and at an include
 module _ (tree : List ℕ) (j end : ℕ) (P : List ℕ → Type 0) where
   pub defs-end : end ≤ j → P [] → (defs : List Definition) → RunAt DefinitionAt sizeD defs tree j → j + runSize sizeD defs ≡ end → P (dependencies defs)
   unfolding runSize
   defs-end past p [] a f = p
   defs-end past p (d ∷ ds) a f = absurd (omega (arith, sizeD-pos d))
 
-  pub defs-other : {kind : ℕ} → kind ≡ kindAt tree j → (kind ≡ 11 → ⊥) → P []
+  pub defs-other : {kind next : ℕ} → j < end → kind ≡ kindAt tree j → (kind ≡ 11 → ⊥) → next ≡ skipC tree j end
+      → ((ds : List Definition) → RunAt DefinitionAt sizeD ds tree next → next + runSize sizeD ds ≡ end → P (dependencies ds))
       → (defs : List Definition) → RunAt DefinitionAt sizeD defs tree j → j + runSize sizeD defs ≡ end → P (dependencies defs)
-  unfolding RunAt
-  defs-other k ne p [] a f = p
-  defs-other k ne p (d ∷ ds) a f = go d (λ q. ne (k ∙ headD d (a .0) .kind-is ∙ q))
+  unfolding RunAt runSize
+  defs-other inside k ne q p [] a f = absurd (omega arith)
+  defs-other {next = next} inside k ne q p (d ∷ ds) a f =
+      let e : j + (sizeD d + runSize sizeD ds) ≡ end = f in
+      let nx : next ≡ j + sizeD d = q ∙ skip-law tree j end (headD d (a .0)) (sizeD-pos d) (omega arith) in
+      go d (λ r. ne (k ∙ headD d (a .0) .kind-is ∙ r)) (p ds (rw nx (a .1)) (omega arith))
     where
-      go : (x : Definition) → (kindD x ≡ 11 → ⊥) → P (dependencies (x ∷ ds))
-      go (LocalDefinition x) h = p
-      go (IncludeDefinition x y) h = absurd (h refl)
-      go (ModelDefinition x y) h = p
-      go (PublicModelDefinition x y) h = p
-      go (PlainFunction x) h = p
-      go (PublicFunction x) h = p
-      go (ImplementDefinition x y) h = p
-      go (ApplyDefinition x y) h = p
+      go : (x : Definition) → (kindD x ≡ 11 → ⊥) → P (dependencies ds) → P (dependencies (x ∷ ds))
+      go (LocalDefinition x) h r = r
+      go (IncludeDefinition x y) h r = absurd (h refl)
+      go (ModelDefinition x y) h r = r
+      go (PublicModelDefinition x y) h r = r
+      go (PlainFunction x) h r = r
+      go (PublicFunction x) h r = r
+      go (ImplementDefinition x y) h r = r
+      go (ApplyDefinition x y) h r = r
 
   pub defs-more : {kind file next : ℕ} → j < end → kind ≡ kindAt tree j → kind ≡ 11 → file ≡ valueAt tree j → next ≡ skipC tree j end
       → ((ds : List Definition) → RunAt DefinitionAt sizeD ds tree next → next + runSize sizeD ds ≡ end → P (file ∷ dependencies ds))
@@ -211,8 +215,12 @@ module _ (tree : List ℕ) (j end : ℕ) (any : Bool) (set : List ℕ) where
   pub includes-end : end ≤ j → Includes tree j end any set set any
   includes-end past = record { adds = defs-end tree j end (λ ns. set ≡ addBits set ns) past refl; still = λ h. (h, refl) }
 
-  pub includes-other : {kind : ℕ} → kind ≡ kindAt tree j → (kind ≡ 11 → ⊥) → Includes tree j end any set set any
-  includes-other k ne = record { adds = defs-other tree j end (λ ns. set ≡ addBits set ns) k ne refl; still = λ h. (h, refl) }
+  pub includes-other : {kind next : ℕ} {after : List ℕ} {r : Bool} → j < end → kind ≡ kindAt tree j → (kind ≡ 11 → ⊥) → next ≡ skipC tree j end
+      → Includes tree next end any set after r → Includes tree j end any set after r
+  includes-other {after = after} inside k ne q I = record {
+    adds = defs-other tree j end (λ ns. after ≡ addBits set ns) inside k ne q (I .adds);
+    still = I .still;
+  }
 
   pub includes-more : {kind file next : ℕ} {mid after : List ℕ} {fresh grew r : Bool} → j < end → kind ≡ kindAt tree j → kind ≡ 11
       → file ≡ valueAt tree j → Added set file mid fresh → next ≡ skipC tree j end → grew ≡ cond any true fresh
@@ -267,8 +275,9 @@ module _ (tree : List ℕ) (j end : ℕ) where
   pub narrow-defs-end : end ≤ j → NarrowIncludes tree j end true
   narrow-defs-end past = record { below = λ h. defs-end tree j end (λ ns. Below narrowSize ns) past tt }
 
-  pub narrow-defs-other : {kind : ℕ} → kind ≡ kindAt tree j → (kind ≡ 11 → ⊥) → NarrowIncludes tree j end true
-  narrow-defs-other k ne = record { below = λ h. defs-other tree j end (λ ns. Below narrowSize ns) k ne tt }
+  pub narrow-defs-other : {kind next : ℕ} {r : Bool} → j < end → kind ≡ kindAt tree j → (kind ≡ 11 → ⊥) → next ≡ skipC tree j end
+      → NarrowIncludes tree next end r → NarrowIncludes tree j end r
+  narrow-defs-other inside k ne q N = record { below = λ h. defs-other tree j end (λ ns. Below narrowSize ns) inside k ne q (N .below h) }
 
   pub narrow-defs-more : {kind file next : ℕ} {r : Bool} → j < end → kind ≡ kindAt tree j → kind ≡ 11 → file ≡ valueAt tree j → file < narrowSize
       → next ≡ skipC tree j end → NarrowIncludes tree next end r → NarrowIncludes tree j end r

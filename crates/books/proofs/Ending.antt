@@ -14,26 +14,27 @@ use Rattle.words.specs.Ast.{Document}
 use Rattle.words.specs.Areas.{clearedFrom, entryField}
 use Rattle.words.specs.Object.{Constant, constantOf}
 use Rattle.words.specs.declared.reply.Reply as struct
-use Rattle.words.specs.Reply.{areaTotals, delivery, refusal}
+use Rattle.words.specs.Reply.{delivery, refusal}
 use Rattle.definition.specs.Uses.{Use, Limits, firstOver}
 use Rattle.definition.specs.Compiler.{Error}
-use Rattle.definition.specs.Book.{hasText, Assembly, Context, newContext}
-use Rattle.definition.specs.DependencySolver.{Ending, Delivered, Faulty, Ring, Worked, filesOf, needed, compileNeeded}
-use Rattle.definition.specs.Program.{bit, constantEntry, flat, filled, errorTables, entriesFrom, errorEntry, bookEntry, globalDependencies}
+use Rattle.definition.specs.Prior.{Entries, fileNumbers}
+use Rattle.definition.specs.Book.{hasText, Assembly, Context, newContext, bookCount}
+use Rattle.definition.specs.DependencySolver.{Ending, Delivered, Faulty, Ring, Worked, filesOf, loadedOf, needed, compileNeeded}
+use Rattle.definition.specs.Program.{bit, constantEntry, flat, filled, errorTables, entriesFrom, errorEntry, bookEntry, bookTable, globalDependencies}
 use Rattle.definition.specs.Answer.{Answer, Delivery, Refusal, ringErrors, answerEnding, answerBy, answerWorked, limitsOf, answer, replyOf, areasOf}
-use Rattle.definition.specs.Within.{Areas, KeepsWithin}
+use Rattle.definition.specs.Within.{All, none as nil, _&_, Areas, KeepsWithin}
 use Rattle.definition.proofs.Cells.{single-length, single-at}
-use Rattle.building.proofs.Filling.{filled-field}
+use Rattle.building.proofs.Filling.{flat-append, filled-field}
 use Rattle.building.specs.Held.{Filled, Marks, unmarked, marked}
 use Rattle.documents.specs.declared.book.Book as book
 use Rattle.documents.specs.Shelf.{shelf}
 use Rattle.documents.specs.Documents.{Resting}
 use Rattle.books.specs.Driving.{Zero, Cleared, Lent, Came, came-delivered, came-faulty}
 use Rattle.books.specs.Driving.{came-ring, Outcome, Accepted, Fronts, Works, MarkedFrom, markOf, Emptied}
-use Rattle.books.specs.Promise.{areas, lengthsOf, saying, answering, logsIn, Compiles}
+use Rattle.definition.specs.Promise.{areas, lengthsOf, saying, answering, logsIn, programOf, Compiles}
 use Rattle.books.specs.Finishing.{totals, Finishes, Runs}
 use Rattle.books.proofs.Whole.{filled-is, delivered-words, delivered-reply}
-use Rattle.books.proofs.Delivering.{compiles}
+use Rattle.definition.proofs.Promise.{compiles}
 use Rattle.books.proofs.Beginning.{zero-filled}
 
 -- an area cleared is zeros
@@ -93,11 +94,23 @@ flat-files : (i : ℕ) (as′ : List Assembly) → flat (entriesFrom bookEntry i
 flat-files i [] = refl
 flat-files i (a ∷ as′) = ap (λ (l : List ℕ). a .filename ∷ l) (flat-files (i + 1) as′)
 
-shelved-is : (as′ : List Assembly) (rest : List ℕ) {o : List ℕ} → Zero rest → o ≡ filesOf as′ ++ rest → o ≡ filled (length o) (entriesFrom bookEntry 0 as′)
-shelved-is as′ rest {o} z q =
-    let long : length o ≡ length (filesOf as′) + length rest = ap (λ (l : List ℕ). length l) q ∙ length-append (filesOf as′) rest in
-    let left : length o - length (filesOf as′) ≡ length rest = omega arith in
-    q ∙ rw (flat-files 0 as′, left) (ap (λ (l : List ℕ). filesOf as′ ++ l) z)
+flat-stood : {es : Entries} → All (λ (e : List ℕ). length e ≡ 1) es → flat es ≡ fileNumbers es
+flat-stood nil = refl
+flat-stood (_&_ {x = e} {xs = es} h hs) = ap (λ (l : List ℕ). e ++ l) (flat-stood hs) ∙ one e h
+  where
+    one : (e : List ℕ) → length e ≡ 1 → e ++ fileNumbers es ≡ getD e 0 0 ∷ fileNumbers es
+    one [] q = absurd (omega arith)
+    one (x ∷ []) q = refl
+    one (x ∷ (y ∷ ys)) q = absurd (omega arith)
+
+shelved-is : (c : Context) → All (λ (e : List ℕ). length e ≡ 1) (c .prior .books) → (rest : List ℕ) {o : List ℕ} → Zero rest → o ≡ loadedOf c ++ rest
+    → o ≡ filled (length o) (bookTable c)
+shelved-is c wide rest {o} z q =
+    let words : flat (bookTable c) ≡ loadedOf c =
+    flat-append (c .prior .books) (entriesFrom bookEntry 0 (c .assemblies)) ∙ rw (flat-stood wide, flat-files 0 (c .assemblies)) in
+    let long : length o ≡ length (loadedOf c) + length rest = ap (λ (l : List ℕ). length l) q ∙ length-append (loadedOf c) rest in
+    let left : length o - length (loadedOf c) ≡ length rest = omega arith in
+    q ∙ rw (words, left) (ap (λ (l : List ℕ). loadedOf c ++ l) z)
 
 -- the marks of a delivery
 abbrev constantWords : List ℕ → ℕ → Constant → List ℕ
@@ -232,14 +245,14 @@ module _ (tree : List ℕ) (before : Areas) where
         whole : Context → Type 0
         whole context = answering tree before ≡ Delivery context
 
-        by : (context : Context) (uses : List Use) (rest : List ℕ) → Zero rest → place ≡ length (context .assemblies)
-            → Resting (limitsOf (lengthsOf before)) s′ c′ k′ f′ m′ p′ t′ l′ u′ n′ b′ e′ context uses → o′ ≡ filesOf (context .assemblies) ++ rest
+        by : (context : Context) (uses : List Use) (rest : List ℕ) → Zero rest → place ≡ bookCount context
+            → Resting (limitsOf (lengthsOf before)) s′ c′ k′ f′ m′ p′ t′ l′ u′ n′ b′ e′ context uses → o′ ≡ loadedOf context ++ rest
             → answering tree before ≡ Delivery context
             → Compiles tree before (areas c′ k′ f′ m′ p′ t′ l′ u′ n′ b′ e′ o′) (delivery (totals s′ place globals))
         by context uses rest zr i R w q =
-            let as′ = context .assemblies in
-            let many : place ≡ length (entriesFrom bookEntry 0 as′) = i ∙ sym (single-length _ 0 as′) in
-            let shelved = shelved-is as′ rest zr w in
+            let many : place ≡ length (bookTable context) = i ∙ sym (length-append (context .prior .books) (entriesFrom bookEntry 0 (context .assemblies))
+            ∙ ap (λ (n : ℕ). length (context .prior .books) + n) (single-length _ 0 (context .assemblies))) in
+            let shelved = shelved-is context (R .ready .rest y .prior .books) rest zr w in
             let counted : globals ≡ globalDependencies (context .pool .globals) 0 (context .pool .constants) =
             all-marked (context .pool .globals) (context .pool .constants) (R .ready .rest y .constants) M in
             answered (Delivery context) thirteen q (delivered-reply R y shelved many counted)
@@ -403,7 +416,7 @@ carried {tree} {after = after} {r} q C = record {
   reply = C .reply ∙ ap (λ (ls : List ℕ). replyOf (answer tree ls)) (sym q);
   words = C .words ∙ ap (λ (ls : List ℕ). areasOf ls (answer tree ls)) (sym q);
   within = λ z. subst
-      (λ (ls : List ℕ). KeepsWithin after (areaTotals (r .totals)) (r .totals .«entry_point») (r .totals .«global_dependencies») (logsIn (answer tree ls)))
+      (λ (ls : List ℕ). KeepsWithin (programOf after r) 0 (logsIn (answer tree ls)))
       (sym q) (C .within z);
 }
 

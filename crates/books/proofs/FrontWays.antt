@@ -24,7 +24,7 @@ use Rattle.books.specs.Driving.{Fresh, Accepted, Fronts}
 use Rattle.definition.proofs.Answer.{ShapeRow, fine, refused, shape-row}
 use Rattle.books.proofs.BundleRange.{fine-bundle, fine-root}
 use Rattle.books.proofs.StandsLaws.{set-empty, needed-ascends, needed-below}
-use Rattle.books.proofs.Delivering.{no-row}
+use Rattle.definition.proofs.Promise.{no-row}
 
 found-none : (o : Option ℕ) → Nothing ≡ foundOf o → o ≡ none
 found-none none h = refl

@@ -7,14 +7,15 @@ use mathlib.Core.Bool.{Bool, true, false, cond}
 use mathlib.Core.Option.{Option, none, some}
 use mathlib.Core.List.{List, [], _∷_, _++_, append-assoc}
 use lib.ListN.{length, getD, length-append}
-use lib.Seq.{getD-at}
+use lib.Seq.{getD-at, getD-append-add}
 use lib.Dec.{eqb}
 use borrow.Author.Tests.{eqb-true, eqb-false, eq-eqb}
 use Rattle.words.specs.Ast.{Document}
 use Rattle.words.specs.Areas.{entryWord}
 use Rattle.tree.specs.At.{sizeDoc, runSize}
-use Rattle.definition.specs.Book.{Assembly}
-use Rattle.definition.specs.DependencySolver.{findDocument, missing, missingBy, allIn, dependencies, readyBy, ready, filesOf}
+use Rattle.definition.specs.Prior.{Entries, fileNumbers}
+use Rattle.definition.specs.Book.{Assembly, Context, bookCount}
+use Rattle.definition.specs.DependencySolver.{findDocument, missing, missingBy, allIn, dependencies, readyBy, ready, filesOf, loadedOf}
 use Rattle.definition.specs.Within.{All, none, _&_}
 use Rattle.books.specs.Solving.{placeOf, bookUnit, bookWord, waiting, Stands}
 use Rattle.books.specs.Driving.{Leaves}
@@ -48,16 +49,35 @@ module _ {P : Document → Type 0} where
   all-ready ds done (n ∷ left) ps h =
       all-by (findDocument n ds) done (ready ds done left) (λ x q. all-found n ds ps q) (λ q. all-ready ds done left ps q) h
 
--- the books put away stand first in area 12
-pub files-length : (as′ : List Assembly) → length (filesOf as′) ≡ length as′
+-- the books that stood before are first in area 12, then those put away
+files-length : (as′ : List Assembly) → length (filesOf as′) ≡ length as′
 files-length [] = refl
 files-length (a ∷ as′) = ap suc (files-length as′)
 
-pub files-at : (as′ : List Assembly) (rest : List ℕ) (i : ℕ) → i < length as′
+numbers-length : (es : Entries) → length (fileNumbers es) ≡ length es
+numbers-length [] = refl
+numbers-length (e ∷ es) = ap suc (numbers-length es)
+
+pub loaded-length : (c : Context) → length (loadedOf c) ≡ bookCount c
+loaded-length c =
+    omega (arith, length-append (fileNumbers (c .prior .books)) (filesOf (c .assemblies)), numbers-length (c .prior .books), files-length (c .assemblies))
+
+pub stood-at : (es : Entries) (rest : List ℕ) (i : ℕ) → i < length es → getD (fileNumbers es ++ rest) i 0 ≡ getD (getD es i []) 0 0
+stood-at [] rest i h = absurd (omega arith)
+stood-at (e ∷ es) rest zero h = refl
+stood-at (e ∷ es) rest (suc i) h = stood-at es rest i (omega arith)
+
+files-at : (as′ : List Assembly) (rest : List ℕ) (i : ℕ) → i < length as′
     → getD (filesOf as′ ++ rest) i 0 ≡ getD as′ i (record { filename = 0; index = 0; publics = [] }) .filename
 files-at [] rest i h = absurd (omega arith)
 files-at (a ∷ as′) rest zero h = refl
 files-at (a ∷ as′) rest (suc i) h = files-at as′ rest i (omega arith)
+
+pub added-at : (es : Entries) (as′ : List Assembly) (rest : List ℕ) (i : ℕ) → i < length as′
+    → getD (fileNumbers es ++ (filesOf as′ ++ rest)) (length es + i) 0 ≡ getD as′ i (record { filename = 0; index = 0; publics = [] }) .filename
+added-at es as′ rest i h =
+    let place : length es + i ≡ length (fileNumbers es) + i = omega (arith, numbers-length es) in
+    rw (place, getD-append-add (fileNumbers es) (filesOf as′ ++ rest) i 0) (files-at as′ rest i h)
 
 -- a book that is there: its entry begins with its number
 place-in : (n i : ℕ) (ds : List Document) {d : Document} → findDocument n ds ≡ some d → placeOf n i ds < i + runSize sizeDoc ds

@@ -1,4 +1,3 @@
-pub mod Delivering
 pub mod Whole
 pub mod DriveWays
 pub mod SetBits

@@ -10,12 +10,13 @@ use lib.ListN.{length, getD, length-append}
 use Rattle.words.specs.Ast.{Definition, Document}
 use Rattle.words.specs.Areas.{entriesIn, entryWord, entryField, errorsArea}
 use Rattle.tree.specs.At.{DocumentAt, sizeDoc}
+use Rattle.definition.specs.Prior.{Entries, fileNumbers}
 use Rattle.definition.specs.Uses.{Use, using′, Limits, limitOf, firstOver}
 use Rattle.definition.specs.Compiler.{Error}
 use Rattle.definition.specs.Program.{entriesFrom, errorEntry}
 use Rattle.definition.specs.Within.{All, none, _&_}
-use Rattle.definition.specs.Book.{Assembly, Context, Book, opened, compileDefinition, compileDefinitions, compileDocument}
-use Rattle.definition.specs.DependencySolver.{Ending, Delivered, Faulty, Ring, Worked, afterBook, driveBy, drive, ready, without, filesOf}
+use Rattle.definition.specs.Book.{Context, Book, opened, compileDefinition, compileDefinitions, compileDocument}
+use Rattle.definition.specs.DependencySolver.{Ending, Delivered, Faulty, Ring, Worked, afterBook, driveBy, drive, ready, without, filesOf, loadedOf}
 use Rattle.definition.specs.Answer.{ringErrors}
 use Rattle.definition.proofs.Cells.{single-length}
 use Rattle.building.specs.declared.taking.Taken.{Taken}
@@ -26,14 +27,14 @@ use Rattle.building.proofs.Notes.{over-longer}
 use Rattle.documents.specs.declared.book.Book as struct
 use Rattle.bodies.specs.Meets.{skipC}
 use Rattle.books.specs.Sets.{addBit, SetIs, Ascends}
-use Rattle.books.specs.Solving.{InSets, bookUnit, booksOf, Stands, Ready, FindsReady, Brings}
+use Rattle.books.specs.Solving.{InSets, bookUnit, waiting, booksOf, Stands, Ready, FindsReady, Brings}
 use Rattle.documents.specs.Shelf.{shelf, Keeping, Shelved}
 use Rattle.documents.specs.Documents.{Resting, MeetsDocument}
 use Rattle.books.specs.Driving.{Leaves, Rung, Rings, Came, came-delivered, came-faulty, came-ring, Outcome, Driving, Drives}
 use Rattle.documents.proofs.Calm.{Calms}
-use Rattle.books.proofs.Steadfast.{calm-definitions, drive-longer, after-longer, files-more}
+use Rattle.books.proofs.Steadfast.{calm-definitions, drive-longer, after-longer, loaded-more}
 use Rattle.documents.proofs.PuttingAway.{putAway, put-away}
-use Rattle.books.proofs.Lefts.{all-ready, files-length, files-at, leaves-are}
+use Rattle.books.proofs.Lefts.{all-ready, loaded-length, stood-at, added-at, leaves-are}
 use Rattle.books.proofs.StandsLaws.{without-length, without-ascends, without-missing}
 use Rattle.books.proofs.FileLists.{addBit-length, set-add}
 use Rattle.bodies.proofs.Tokens.{skip-law}
@@ -63,8 +64,9 @@ module _ (calm : (d : Definition) → Calms (compileDefinition d)) {tree : List 
     };
   }
 
-same-files : {as′ bs : List Assembly} {x y : ℕ} → as′ ≡ bs → x ≡ y → filesOf as′ ++ (x ∷ []) ≡ filesOf bs ++ (y ∷ [])
-same-files p q = rw (p, q)
+same-files : (c c′ : Context) {x y : ℕ} → c′ .prior ≡ c .prior → c′ .assemblies ≡ c .assemblies → x ≡ y
+    → loadedOf c′ ++ (x ∷ []) ≡ loadedOf c ++ (y ∷ [])
+same-files c c′ p q r = rw (p, q, r)
 
 in-sets : (size : ℕ) (ds : List Document) → InSets size ds → All (λ (d : Document). d .filename < size) ds
 in-sets size [] h = none
@@ -77,7 +79,7 @@ record Round (ds : List Document) (tree : List ℕ) (file : ℕ) (left rest comp
   is : ready ds compiled left ≡ some book
   same : file ≡ book .filename
   one-less : length left ≡ suc (length (without file left))
-  words : books₁ ≡ booksOf ds (filesOf (context .assemblies) ++ (file ∷ [])) (without file left) rest
+  words : books₁ ≡ booksOf ds (loadedOf context ++ (file ∷ [])) (without file left) rest
   small : file < length set * 64
   kept : Keeping κ [] (shelf s₁ c₁ k₁ f₁ m₁ p₁ t₁ l₁ u₁ n₁ b₁ e₁) (compileDefinitions (book .definitions) (opened book context uses))
 
@@ -90,8 +92,8 @@ module _ {tree : List ℕ} {end done count : ℕ} {set books : List ℕ} {s : st
       → Driving ds tree end done count left rest compiled set books κ s c k f m p t l u n b e context uses
       → Round ds tree file left rest compiled set books₁ κ s₁ c₁ k₁ f₁ m₁ p₁ t₁ l₁ u₁ n₁ b₁ e₁ context uses
   round ds left rest compiled κ context uses D =
-      let files = filesOf (context .assemblies) in
-      let many : done ≡ length files = D .so-many ∙ sym (files-length (context .assemblies)) in
+      let files = loadedOf context in
+      let many : done ≡ length files = D .so-many ∙ sym (loaded-length context) in
       let Q = N .found ds files left rest compiled (D .stands) many (D .in-all) inside in
       let d = Q .book in
       let same : file ≡ d .filename = file-is ∙ ap (λ (x : ℕ). x / bookUnit) entry-is ∙ Q .file in
@@ -101,7 +103,7 @@ module _ {tree : List ℕ} {end done count : ℕ} {set books : List ℕ} {s : st
       B .brings ds files left rest (Q .before) (Q .later) (D .stands .words) many (D .ascends) split (Q .index) in
       let D′ : DocumentAt d tree at = rw place (Q .document) in
       let ends : last ≡ at + sizeDoc d = last-is ∙ skip-law tree at end (D′ .head) (omega arith) (rw place (Q .inside)) in
-      let shelved : Shelved books₁ (context .assemblies) = record { each = λ i h. shown i h words } in
+      let shelved : Shelved books₁ context = record { stood = λ i h. stood-shown i h words; each = λ i h. shown i h words } in
       record {
         book = d;
         is = Q .is;
@@ -112,11 +114,28 @@ module _ {tree : List ℕ} {end done count : ℕ} {set books : List ℕ} {s : st
         kept = M .meets d D′ (sym ends) (all-ready ds compiled left (D .limited) (Q .is)) κ context uses (D .so-many) shelved (D .resting);
       }
     where
-      shown : (i : ℕ) → i < length (context .assemblies) → books₁ ≡ booksOf ds (filesOf (context .assemblies) ++ (file ∷ [])) (without file left) rest
-          → entryWord 1 i 0 books₁ ≡ getD (context .assemblies) i (record { filename = 0; index = 0; publics = [] }) .filename
-      shown i h words =
+      stood : Entries
+      stood = context .prior .books
+
+      -- what stands behind the books that stood before and those put away
+      behind : List ℕ
+      behind = file ∷ (waiting ds (without file left) ++ rest)
+
+      in-order : books₁ ≡ booksOf ds (loadedOf context ++ (file ∷ [])) (without file left) rest
+          → books₁ ≡ fileNumbers stood ++ (filesOf (context .assemblies) ++ behind)
+      in-order words = words ∙ simp append-assoc
+
+      stood-shown : (i : ℕ) → i < length stood → books₁ ≡ booksOf ds (loadedOf context ++ (file ∷ [])) (without file left) rest
+          → entryWord 1 i 0 books₁ ≡ getD (getD stood i []) 0 0
+      stood-shown i h words =
           let first : i * 1 + 0 ≡ i = omega arith in
-          rw (first, words, append-assoc (filesOf (context .assemblies)) (file ∷ []) _) (files-at (context .assemblies) _ i h)
+          rw (first, in-order words) (stood-at stood (filesOf (context .assemblies) ++ behind) i h)
+
+      shown : (i : ℕ) → i < length (context .assemblies) → books₁ ≡ booksOf ds (loadedOf context ++ (file ∷ [])) (without file left) rest
+          → entryWord 1 (length stood + i) 0 books₁ ≡ getD (context .assemblies) i (record { filename = 0; index = 0; publics = [] }) .filename
+      shown i h words =
+          let first : (length stood + i) * 1 + 0 ≡ length stood + i = omega arith in
+          rw (first, in-order words) (added-at stood (context .assemblies) behind i h)
 
   module _ (calm : (d : Definition) → Calms (compileDefinition d)) where
     -- what comes after the book: by its errors
@@ -166,8 +185,8 @@ module _ {tree : List ℕ} {end done count : ℕ} {set books : List ℕ} {s : st
             let x = compileDefinitions (R .book .definitions) (opened (R .book) context uses) in
             let C = calm-definitions calm (R .book .definitions) (opened (R .book) context uses) in
             let clean : x .compiler .errors ≡ [] = no-errors (x .compiler .errors) (R .kept .rest z₁ .errors) in
-            let files : filesOf (putAway x .assemblies) ≡ filesOf (context .assemblies) ++ (file ∷ []) =
-            files-more (x .context .assemblies) (x .assembly) ∙ same-files (C .assemblies) (C .filename ∙ sym (R .same)) in
+            let files : loadedOf (putAway x) ≡ loadedOf context ++ (file ∷ []) =
+            loaded-more x ∙ same-files context (x .context) (C .prior) (C .assemblies) (C .filename ∙ sym (R .same)) in
             let next : Driving ds tree end (done + 1) count (without file left) rest (file ∷ compiled) set₁ books₁ κ s₁ c₁ k₁ f₁ m₁ p₁ t₁ l₁ u₁ n₁ b₁ e₁
             (putAway x) (x .uses) = record {
               distinct = D .distinct;
@@ -181,7 +200,7 @@ module _ {tree : List ℕ} {end done count : ℕ} {set books : List ℕ} {s : st
                 held = rw set-is (set-add set compiled file (D .stands .held) (R .small));
                 room = rw (set-is, addBit-length set file) (D .stands .room);
               };
-              so-many = rw (length-append (x .context .assemblies) (x .assembly ∷ []), C .assemblies) (omega (arith, D .so-many));
+              so-many = rw (length-append (x .context .assemblies) (x .assembly ∷ []), C .assemblies, C .prior) (omega (arith, D .so-many));
               in-all = omega (arith, D .in-all, R .one-less);
               resting = put-away clean (R .kept);
             } in
@@ -203,8 +222,8 @@ module _ {tree : List ℕ} {end done count : ℕ} {set books : List ℕ} {s : st
   unfolding drive
   drive-ring = record {
     drives = λ ds left rest compiled κ context uses D.
-        let many : done ≡ length (filesOf (context .assemblies)) = D .so-many ∙ sym (files-length (context .assemblies)) in
-        go ds left rest compiled κ context uses D (N .nothing ds (filesOf (context .assemblies)) left rest compiled (D .stands) many (D .in-all) past)
+        let many : done ≡ length (loadedOf context) = D .so-many ∙ sym (loaded-length context) in
+        go ds left rest compiled κ context uses D (N .nothing ds (loadedOf context) left rest compiled (D .stands) many (D .in-all) past)
         (rw (← many) at (leaves-are (D .stands)));
   }
     where

@@ -2,14 +2,16 @@
 use Prim.Native.Nat.{ℕ, zero, suc}
 use mathlib.Core.Path.{_≡_, refl, sym, ap, _∙_}
 use mathlib.Core.Option.{Option, none, some}
-use mathlib.Core.List.{List, [], _∷_, _++_}
+use mathlib.Core.List.{List, [], _∷_, _++_, append-assoc}
 use Rattle.words.specs.Ast.{Definition, Document}
+use Rattle.definition.specs.Prior.{fileNumbers}
 use Rattle.definition.specs.Uses.{Use}
 use Rattle.definition.specs.Compiler.{Error}
 use Rattle.definition.specs.Book.{Assembly, Context, Book, opened, compileDefinition, compileDefinitions, compileDocument}
-use Rattle.definition.specs.DependencySolver.{Worked, afterBook, driveBy, drive, ready, without, filesOf}
+use Rattle.definition.specs.DependencySolver.{Worked, afterBook, driveBy, drive, ready, without, filesOf, loadedOf}
 use Rattle.definition.proofs.Steady.{Longer, same, more, longer-trans}
 use Rattle.documents.proofs.Calm.{Calm, Calms, calm-refl, calm-trans}
+use Rattle.documents.proofs.PuttingAway.{putAway}
 
 module _ (calm : (d : Definition) → Calms (compileDefinition d)) where
   pub calm-definitions : (ds : List Definition) → Calms (compileDefinitions ds)
@@ -40,7 +42,13 @@ module _ (calm : (d : Definition) → Calms (compileDefinition d)) where
       by-longer (ready ds done left) left c uses (λ d c′ uses′. drive k ds (d .filename ∷ done) (without (d .filename) left) c′ uses′)
       (λ d c′ uses′. drive-longer k ds (d .filename ∷ done) (without (d .filename) left) c′ uses′)
 
--- the file numbers of the books put away
-pub files-more : (as′ : List Assembly) (a : Assembly) → filesOf (as′ ++ (a ∷ [])) ≡ filesOf as′ ++ (a .filename ∷ [])
+-- the file numbers of the books that stood before and of those put away
+files-more : (as′ : List Assembly) (a : Assembly) → filesOf (as′ ++ (a ∷ [])) ≡ filesOf as′ ++ (a .filename ∷ [])
 files-more [] a = refl
 files-more (x ∷ as′) a = ap (λ (l : List ℕ). x .filename ∷ l) (files-more as′ a)
+
+pub loaded-more : (x : Book) → loadedOf (putAway x) ≡ loadedOf (x .context) ++ (x .assembly .filename ∷ [])
+loaded-more x =
+    let stood = fileNumbers (x .context .prior .books) in
+    ap (λ (l : List ℕ). stood ++ l) (files-more (x .context .assemblies) (x .assembly))
+    ∙ sym (append-assoc stood (filesOf (x .context .assemblies)) (x .assembly .filename ∷ []))

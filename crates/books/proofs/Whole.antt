@@ -10,14 +10,14 @@ use Rattle.words.specs.Reply.{areaTotals, delivery, refusal}
 use Rattle.definition.specs.Uses.{Limits, Use}
 use Rattle.definition.specs.Compiler.{Error}
 use Rattle.definition.specs.Book.{Context, Assembly}
-use Rattle.definition.specs.Program.{Entries, flat, filled, filledAll, tablesOf, errorTables, entriesFrom, errorEntry, bookEntry, globalDependencies}
-use Rattle.definition.specs.Program.{modelProperties, assemblyPublics}
+use Rattle.definition.specs.Program.{Entries, flat, filled, filledAll, tablesOf, errorTables, entriesFrom, errorEntry, globalDependencies}
+use Rattle.definition.specs.Program.{propertyTable, publicTable, bookTable}
 use Rattle.definition.specs.Answer.{Delivery, Refusal, replyOf, areasOf}
 use Rattle.building.specs.Held.{Filled}
 use Rattle.documents.specs.declared.book.Book as struct
 use Rattle.documents.specs.Shelf.{shelf, Stock, Keeping}
 use Rattle.documents.specs.Documents.{openedBook, nobody, Resting}
-use Rattle.books.specs.Promise.{areas, lengthsOf, saying}
+use Rattle.definition.specs.Promise.{areas, lengthsOf, saying}
 use Rattle.books.specs.Finishing.{totals}
 
 -- the zeros are as many as are left
@@ -29,14 +29,14 @@ filled-is {l = l} {es = es} f =
     f .is ∙ rw left
 
 module _ {κ : Limits} {s : struct.Book} {c k f m p t l u n b e o : List ℕ} {context : Context} {uses : List Use} {books globals : ℕ}
-    (R : Resting κ s c k f m p t l u n b e context uses) (z : s .full ≡ 0) (shelved : o ≡ filled (length o) (entriesFrom bookEntry 0 (context .assemblies)))
-    (many : books ≡ length (entriesFrom bookEntry 0 (context .assemblies)))
+    (R : Resting κ s c k f m p t l u n b e context uses) (z : s .full ≡ 0) (shelved : o ≡ filled (length o) (bookTable context))
+    (many : books ≡ length (bookTable context))
     (marked : globals ≡ globalDependencies (context .pool .globals) 0 (context .pool .constants)) where
-  properties-are : Filled 2 p (entriesFrom modelProperties 0 (context .models)) (s .properties)
-  properties-are = rw (append-nil (entriesFrom modelProperties 0 (context .models))) at (R .ready .rest z .properties)
+  properties-are : Filled 2 p (propertyTable context) (s .properties)
+  properties-are = rw (append-nil (propertyTable context)) at (R .ready .rest z .properties)
 
-  publics-are : Filled 3 u (entriesFrom assemblyPublics 0 (context .assemblies)) (s .publics)
-  publics-are = rw (append-nil (entriesFrom assemblyPublics 0 (context .assemblies))) at (R .ready .rest z .publics)
+  publics-are : Filled 3 u (publicTable context) (s .publics)
+  publics-are = rw (append-nil (publicTable context)) at (R .ready .rest z .publics)
 
   pub delivered-words : areas c k f m p t l u n b e o ≡ areasOf (lengthsOf (areas c k f m p t l u n b e o)) (Delivery context)
   unfolding areasOf tablesOf

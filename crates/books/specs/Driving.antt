@@ -12,12 +12,12 @@ use Rattle.words.specs.Object.{Constant, defaultConstants}
 use Rattle.definition.specs.Uses.{Use, Limits, firstOver}
 use Rattle.definition.specs.Compiler.{Error}
 use Rattle.definition.specs.Program.{bit, entriesFrom, constantEntry, errorEntry, globalDependencies}
-use Rattle.definition.specs.DependencySolver.{needed, missing, compileNeeded, filesOf, drive, Ending, Delivered, Faulty, Ring, Worked}
+use Rattle.definition.specs.DependencySolver.{needed, missing, compileNeeded, loadedOf, drive, Ending, Delivered, Faulty, Ring, Worked}
 use Rattle.definition.specs.Answer.{Refusal, ringErrors, answerWorked, limitsOf, answer}
 use Rattle.tree.specs.Check.{shapeOf}
 use Rattle.tree.specs.Reading.{documentsOf}
 use Rattle.tree.specs.declared.Shape.the-variants.{Fine}
-use Rattle.definition.specs.Book.{hasText, newContext, Context, Book}
+use Rattle.definition.specs.Book.{hasText, newContext, Context, Book, bookCount}
 use Rattle.definition.specs.Within.{All}
 use Rattle.definition.proofs.Limits.{LimitedDocument}
 use Rattle.building.specs.declared.taking.Taken.{Taken}
@@ -74,8 +74,8 @@ pub record Fronts (tree : List ℕ) (row place : ℕ) (set : List ℕ) : Type 0 
 
 -- how the books end, where nothing is full: `rest` is what stands in area 12 behind the books; of a delivery `place` is the number of books
 pub data Came (κ : Limits) (s : struct.Book) (c k f m p t l u n b e books rest : List ℕ) (row place : ℕ) (uses : List Use) : Ending → Type 0 where
-  came-delivered : {context : Context} → row ≡ 0 → place ≡ length (context .assemblies) → Resting κ s c k f m p t l u n b e context uses
-      → books ≡ filesOf (context .assemblies) ++ rest
+  came-delivered : {context : Context} → row ≡ 0 → place ≡ bookCount context → Resting κ s c k f m p t l u n b e context uses
+      → books ≡ loadedOf context ++ rest
       → Came κ s c k f m p t l u n b e books rest row place uses (Delivered context)
   came-faulty : {file : ℕ} {es : List Error} → row ≡ 7 → place ≡ file → Filled 4 e (entriesFrom errorEntry 0 es) (s .errors)
       → Came κ s c k f m p t l u n b e books rest row place uses (Faulty file es)
@@ -93,8 +93,8 @@ pub record Driving (ds : List Document) (tree : List ℕ) (end done count : ℕ)
   pub distinct : Distinct ds
   pub limited : All LimitedDocument ds
   pub ascends : Ascends 0 left
-  pub stands : Stands ds tree end (filesOf (context .assemblies)) left rest books set compiled
-  pub so-many : done ≡ length (context .assemblies)
+  pub stands : Stands ds tree end (loadedOf context) left rest books set compiled
+  pub so-many : done ≡ bookCount context
   pub in-all : count ≡ done + length left
   pub resting : Resting κ s c k f m p t l u n b e context uses
 

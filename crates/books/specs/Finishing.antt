@@ -7,7 +7,7 @@ use Rattle.words.specs.declared.reply.Reply as struct
 use Rattle.words.specs.Reply.{delivery, refusal}
 use Rattle.documents.specs.declared.book.Book as book
 use Rattle.books.specs.Driving.{Zero, Cleared, Emptied, MarkedFrom}
-use Rattle.books.specs.Promise.{areas, Compiles}
+use Rattle.definition.specs.Promise.{areas, Compiles}
 
 -- the totals of a delivery
 abbrev pub totals : book.Book → ℕ → ℕ → Totals

@@ -1,4 +1,3 @@
-pub mod Promise
 pub mod Driving
 pub mod Sets
 pub mod Solving

@@ -54,7 +54,7 @@ pub record Twice (tree : List ℕ) (end : ℕ) (ds : List Document) (r : Found) 
 pub record FindsTwice (tree : List ℕ) (end : ℕ) (before : List ℕ) (r : Found) (after : List ℕ) : Type 0 where
   pub finds : (ds : List Document) → Bundle ds tree 0 end → Room before ds → SetIs before [] → Twice tree end ds r after
 
--- `add_includes`: the includes ahead of the first other definition, from a place up to the end, into a set. Where the answer is no, none was new
+-- `add_includes`: the includes among the definitions from a place up to the end, into a set. Where the answer is no, none was new
 pub record Includes (tree : List ℕ) (at end : ℕ) (any : Bool) (set after : List ℕ) (r : Bool) : Type 0 where
   pub adds : (defs : List Definition) → RunAt DefinitionAt sizeD defs tree at → at + runSize sizeD defs ≡ end → after ≡ addBits set (dependencies defs)
   pub still : r ≡ false → (any ≡ false) × (after ≡ set)
@@ -131,7 +131,7 @@ pub record TakesBooks (tree : List ℕ) (end : ℕ) (set : List ℕ) (full : ℕ
   pub over : (ds : List Document) (numbers : List ℕ) → Bundle ds tree 0 end → Ascends 0 numbers → Below setSize numbers → SetIs set numbers → full ≡ 0
       → entriesIn 1 (length books) < length numbers → r .full ≡ booksArea
 
--- `narrow_includes`: the includes ahead of the first other definition, from a place up to the end, are below narrowSize
+-- `narrow_includes`: the includes among the definitions from a place up to the end are below narrowSize
 pub record NarrowIncludes (tree : List ℕ) (at end : ℕ) (r : Bool) : Type 0 where
   pub below : r ≡ true → (defs : List Definition) → RunAt DefinitionAt sizeD defs tree at → at + runSize sizeD defs ≡ end
       → Below narrowSize (dependencies defs)
@@ -140,7 +140,7 @@ pub record NarrowIncludes (tree : List ℕ) (at end : ℕ) (r : Bool) : Type 0 w
 pub record Narrows (tree : List ℕ) (at end : ℕ) (r : Bool) : Type 0 where
   pub below : r ≡ true → (ds : List Document) → Bundle ds tree at end → InSets narrowSize ds
 
--- `all_in`: whether the includes ahead of the first other definition, from a place up to the end, are all in a set
+-- `all_in`: whether the includes among the definitions from a place up to the end are all in a set
 pub record AllIncluded (tree : List ℕ) (at end : ℕ) (set : List ℕ) (r : Bool) : Type 0 where
   pub all : (defs : List Definition) → RunAt DefinitionAt sizeD defs tree at → at + runSize sizeD defs ≡ end → r ≡ allBits set (dependencies defs)
 

@@ -1,5 +1,5 @@
 // The compile call: `backend/dependency_solver.rs` and the rows of 01 over lent areas.
-ghost use Rattle.books.specs.Promise.{areas, Compiles};
+ghost use Rattle.definition.specs.Promise.{areas, Compiles};
 
 pub mod driver;
 mod solver;

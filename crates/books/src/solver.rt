@@ -97,21 +97,21 @@ fn zeros_end(set: &[u64], at: usize) -> usize
     i
 }
 
-// Whether the includes ahead of the first other definition are all below NARROW.
+// Whether the includes are all below NARROW.
 fn narrow_includes(tree: &[u64], at: usize, end: usize) -> bool
     ensures { λ r. ⌜ NarrowIncludes (now (tree .entry)) at end r ⌝ }
 {
     let mut j = at;
     while j < end {
+        let next = skip(tree, j, end);
         let kind = field(tree, j, record::KIND);
-        if kind != record::INCLUDE_DEFINITION {
-            return true;
+        if kind == record::INCLUDE_DEFINITION {
+            let file = field(tree, j, record::VALUE);
+            if NARROW <= file {
+                return false;
+            }
         }
-        let file = field(tree, j, record::VALUE);
-        if NARROW <= file {
-            return false;
-        }
-        j = skip(tree, j, end);
+        j = next;
     }
     true
 }
@@ -159,21 +159,21 @@ fn either(a: bool, b: bool) -> bool
     b
 }
 
-// The includes ahead of the first other definition, into the set. Whether there was a new one, or `any`.
+// The includes, wherever they are written, into the set. Whether there was a new one, or `any`.
 fn add_includes(tree: &[u64], at: usize, end: usize, any: bool, set: &mut [u64]) -> bool
     ensures { λ r. ⌜ Includes (now (tree .entry)) at end any (now (set .entry)) (now (set .exit)) r ⌝ }
 {
     let mut grew = any;
     let mut j = at;
     while j < end {
+        let next = skip(tree, j, end);
         let kind = field(tree, j, record::KIND);
-        if kind != record::INCLUDE_DEFINITION {
-            return grew;
+        if kind == record::INCLUDE_DEFINITION {
+            let file = field(tree, j, record::VALUE);
+            let fresh = add(set, file);
+            grew = either(grew, fresh);
         }
-        let file = field(tree, j, record::VALUE);
-        let fresh = add(set, file);
-        grew = either(grew, fresh);
-        j = skip(tree, j, end);
+        j = next;
     }
     grew
 }
@@ -331,21 +331,21 @@ pub(crate) fn take_books(
     t
 }
 
-// Whether the includes ahead of the first other definition are all in the set.
+// Whether the includes are all in the set.
 fn all_in(tree: &[u64], at: usize, end: usize, set: &[u64]) -> bool
     ensures { λ r. ⌜ AllIncluded (now (tree .entry)) at end (now (set .entry)) r ⌝ }
 {
     let mut j = at;
     while j < end {
+        let next = skip(tree, j, end);
         let kind = field(tree, j, record::KIND);
-        if kind != record::INCLUDE_DEFINITION {
-            return true;
+        if kind == record::INCLUDE_DEFINITION {
+            let file = field(tree, j, record::VALUE);
+            if !has(set, file) {
+                return false;
+            }
         }
-        let file = field(tree, j, record::VALUE);
-        if !has(set, file) {
-            return false;
-        }
-        j = skip(tree, j, end);
+        j = next;
     }
     true
 }

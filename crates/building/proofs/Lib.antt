@@ -11,6 +11,7 @@ pub mod EmissionLaws
 pub mod StateLaws
 pub mod BreakLaws
 pub mod NewestFirst
+pub mod NarrowAgrees
 pub mod Naming
 pub mod ScopeNames
 pub mod ScopeLaws

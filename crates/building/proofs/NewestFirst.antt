@@ -3,19 +3,26 @@ use Prim.Native.Nat.{ℕ, suc, _+_, _-_, _<_, _≤_}
 use native.Mathlib.Omega.{arith}
 use mathlib.Core.Path.{_≡_, sym, _∙_}
 use mathlib.Core.List.{List}
-use mathlib.Core.Option.{Option, some}
+use mathlib.Core.Option.{Option, none, some}
 use mathlib.Core.Bool.{cond}
 use lib.Dec.{eqb}
-use borrow.Author.Tests.{eq-eqb, ne-eqb}
+use borrow.Author.Tests.{eq-eqb, ne-eqb, le-leb, lt-leb}
 use Rattle.words.specs.Areas.{entryField}
-use Rattle.building.specs.Found.{foundOf, findNewest}
+use Rattle.building.specs.Found.{foundOf, narrowOf, findNewest}
+use Rattle.building.specs.declared.scopes.Narrow.the-variants as narrow
 use Rattle.building.specs.declared.scopes.Found.the-variants.{At, Nothing}
 
 -- `all` is what was asked, and the entries from `from` up to i are left to search
 module _ (all : Option ℕ) (from i name : ℕ) (w : List ℕ) (so-far : all ≡ findNewest (i - from) from name w) where
-  pub newest-none : i ≤ from → Nothing ≡ foundOf all
+  ends : i ≤ from → all ≡ none
   unfolding findNewest
-  newest-none h = let e : i - from ≡ 0 = omega arith in rw (so-far, e)
+  ends h = let e : i - from ≡ 0 = omega arith in rw (so-far, e)
+
+  pub newest-none : i ≤ from → Nothing ≡ foundOf all
+  newest-none h = rw (ends h)
+
+  pub narrow-none : i ≤ from → narrow.Nothing ≡ narrowOf all
+  narrow-none h = rw (ends h)
 
   step : from < i → all ≡ cond (eqb (entryField 2 (i - 1) 0 w) name) (some (entryField 2 (i - 1) 1 w)) (findNewest (i - 1 - from) from name w)
   unfolding findNewest
@@ -24,9 +31,21 @@ module _ (all : Option ℕ) (from i name : ℕ) (w : List ℕ) (so-far : all ≡
       let a : from + (i - 1 - from) ≡ i - 1 = omega arith in
       so-far ∙ rw (e, a)
 
+  hits : (other local : ℕ) → from < i → other ≡ entryField 2 (i - 1) 0 w → other ≡ name → local ≡ entryField 2 (i - 1) 1 w → all ≡ some local
+  hits other local h o e l = rw (step h, eq-eqb (entryField 2 (i - 1) 0 w) name (sym o ∙ e), l)
+
   pub newest-here : (other local : ℕ) → from < i → other ≡ entryField 2 (i - 1) 0 w → other ≡ name → local ≡ entryField 2 (i - 1) 1 w
       → At local ≡ foundOf all
-  newest-here other local h o e l = rw (step h, eq-eqb (entryField 2 (i - 1) 0 w) name (sym o ∙ e), l)
+  newest-here other local h o e l = rw (hits other local h o e l)
+
+  -- of 32 bits, and past them
+  pub narrow-here : (other local : ℕ) → from < i → other ≡ entryField 2 (i - 1) 0 w → other ≡ name → local ≡ entryField 2 (i - 1) 1 w
+      → local ≤ 4294967295 → narrow.At local ≡ narrowOf all
+  narrow-here other local h o e l q = rw (hits other local h o e l, le-leb local 4294967295 q)
+
+  pub narrow-wide : (other local : ℕ) → from < i → other ≡ entryField 2 (i - 1) 0 w → other ≡ name → local ≡ entryField 2 (i - 1) 1 w
+      → 4294967295 < local → narrow.Wide ≡ narrowOf all
+  narrow-wide other local h o e l q = rw (hits other local h o e l, lt-leb local 4294967295 q)
 
   pub newest-next : (other : ℕ) → from < i → other ≡ entryField 2 (i - 1) 0 w → (other ≡ name → ⊥) → all ≡ findNewest (i - 1 - from) from name w
   newest-next other h o e = step h ∙ rw (ne-eqb (entryField 2 (i - 1) 0 w) name (λ q. e (o ∙ q)))

@@ -4,15 +4,28 @@ use mathlib.Core.Path.{_≡_}
 use mathlib.Core.Bool.{Bool, cond}
 use mathlib.Core.Option.{Option, none, some}
 use mathlib.Core.List.{List}
-use lib.Dec.{eqb}
+use lib.Dec.{eqb, leb}
 use Rattle.words.specs.Areas.{entryWord, entryField}
 use Rattle.words.specs.Object.{Constant, constantOf, sameConstant}
 use Rattle.building.specs.declared.scopes.Found.{Found}
 use Rattle.building.specs.declared.scopes.Found.the-variants.{At, Nothing}
+use Rattle.building.specs.declared.scopes.Narrow.{Narrow}
+use Rattle.building.specs.declared.scopes.Narrow.the-variants as narrow
 
 abbrev pub foundOf : Option ℕ → Found
 foundOf none = Nothing
 foundOf (some i) = At i
+
+-- what a search among names and locals of 32 bits answers where the search of 64 bits answers an option (2026-03): a local that does not fit is said to be wide
+abbrev pub narrowOf : Option ℕ → Narrow
+narrowOf none = narrow.Nothing
+narrowOf (some i) = cond (leb i 4294967295) (narrow.At i) narrow.Wide
+
+-- what a caller makes of it: a wide one is asked of the search of 64 bits
+abbrev pub widened : Narrow → Found → Found
+widened (narrow.At i) found = At i
+widened narrow.Nothing found = Nothing
+widened narrow.Wide found = found
 
 -- a local's number as it stands in 64 bits
 abbrev pub wrapped : Option ℕ → Option ℕ

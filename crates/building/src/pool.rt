@@ -10,11 +10,7 @@ use crate::scopes::Found;
 use crate::search;
 use crate::taking;
 use words::areas;
-
-// Kinds of constants (01, 'Emission').
-const INTEGER: u64 = 2;
-
-const TEXT: u64 = 4;
+use words::object;
 
 // The words of a constant's entry.
 const KIND: usize = 0;
@@ -29,17 +25,20 @@ pub struct Added {
     pub state: FunctionState,
 }
 
-// Which kinds `add_constant` looks for before it adds (change point of 2026-05).
+// Which kinds `add_constant` looks for before it adds.
 fn is_shared(kind: u64) -> bool
     ensures { λ r. ⌜ r ≡ isShared kind ⌝ }
 {
-    if kind == INTEGER {
+    if kind == object::INTEGER {
         return true;
     }
-    kind == TEXT
+    if kind == object::FLOAT {
+        return true;
+    }
+    kind == object::TEXT
 }
 
-// Whether constant i is the one that is looked for (change point of 2026-05 and 2026-12).
+// Whether constant i is the one that is looked for: by its two words, so that floats are the same where all 64 bits are (change point of 2026-12).
 fn same_constant(constants: &[u64], i: usize, kind: u64, value: u64) -> bool
     ensures { λ r. ⌜ r ≡ isConstant (constantOf kind value) (now (constants .entry)) i ⌝ }
 {

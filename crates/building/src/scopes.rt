@@ -2,7 +2,7 @@
 ghost use mathlib.Core.Path.{_≡_};
 ghost use Prim.Native.Nat.{_-_, _*_, _≤_};
 ghost use lib.ListN.{length};
-ghost use Rattle.building.specs.Found.{foundOf, findNewest};
+ghost use Rattle.building.specs.Found.{foundOf, narrowOf, findNewest};
 ghost use Rattle.building.specs.Scopes.{naming, findLocalC, enterScopeC, exitScopeC, endFunctionC, defineAnonymousC, insertC, Defines};
 use crate::function_state::FunctionState;
 use crate::taking;
@@ -18,6 +18,16 @@ pub enum Found {
     At(u64),
     Nothing,
 }
+
+// What a search among names and locals of 32 bits finds: a local of 32 bits, nothing, or a local past 32 bits.
+enum Narrow {
+    At(u32),
+    Nothing,
+    Wide,
+}
+
+// The greatest number of 32 bits.
+const MOST_NARROW: u64 = 4294967295;
 
 // What `define_local` gives: the local's number, or nothing where the innermost scope has the name.
 pub struct Defined {
@@ -40,12 +50,47 @@ fn find_within(names: &[u64], from: usize, end: usize, name: u64) -> Found
     Found::Nothing
 }
 
-// The local of a name among the entries from `from` up to the count, the newest first. A count beyond the area goes the slow way, where a word
-// outside reads as 0.
-fn find_newest(names: &[u64], from: usize, count: usize, name: u64) -> Found
+// The same for a name of 32 bits. Words are compared whole, and a local past 32 bits is said to be one.
+fn find_narrow(names: &[u64], from: usize, end: usize, name: u32) -> Narrow
+    requires { ⌜ end * 2 ≤ length (now names) ⌝ }
+    ensures { λ r. ⌜ r ≡ narrowOf (findNewest (end - from) from name (now (names .entry))) ⌝ }
+{
+    let wanted = name as u64;
+    let mut i = end;
+    while from < i {
+        i -= 1;
+        if names[i * areas::SCOPE_NAME_WORDS + NAME] == wanted {
+            let local = names[i * areas::SCOPE_NAME_WORDS + LOCAL];
+            if local <= MOST_NARROW {
+                return Narrow::At(local as u32);
+            }
+            return Narrow::Wide;
+        }
+    }
+    Narrow::Nothing
+}
+
+// The local of a name among the entries from `from` up to the count, the newest first, in a function of so many locals. Names and locals of 32 bits are
+// searched as such; where the name, a local of the function or the local found is past 32 bits, the search of 64 bits answers. A count beyond the area
+// goes the slow way, where a word outside reads as 0.
+fn find_newest(names: &[u64], from: usize, count: usize, locals: u64, name: u64) -> Found
     ensures { λ r. ⌜ r ≡ foundOf (findNewest (count - from) from name (now (names .entry))) ⌝ }
 {
     if count <= names.len() / areas::SCOPE_NAME_WORDS {
+        if name <= MOST_NARROW {
+            if locals <= MOST_NARROW + 1 {
+                let narrow = find_narrow(names, from, count, name as u32);
+                match narrow {
+                    Narrow::At(local) => {
+                        return Found::At(local as u64);
+                    }
+                    Narrow::Nothing => {
+                        return Found::Nothing;
+                    }
+                    Narrow::Wide => {}
+                }
+            }
+        }
         return find_within(names, from, count, name);
     }
     let mut i = count;
@@ -64,7 +109,7 @@ fn find_newest(names: &[u64], from: usize, count: usize, name: u64) -> Found
 pub fn find_local(names: &[u64], state: FunctionState, name: u64) -> Found
     ensures { λ r. ⌜ r ≡ foundOf (findLocalC name (naming state (now (names .entry)))) ⌝ }
 {
-    find_newest(names, 0, state.names, name)
+    find_newest(names, 0, state.names, state.local_count, name)
 }
 
 // `enter_scope`
@@ -149,7 +194,13 @@ pub fn define_local(names: &mut [u64], state: FunctionState, name: u64) -> Defin
             state,
         };
     }
-    let known = find_newest(names, state.scope_base, state.names, name);
+    let known = find_newest(
+        names,
+        state.scope_base,
+        state.names,
+        state.local_count,
+        name,
+    );
     match known {
         Found::At(_) => Defined {
             found: Found::Nothing,

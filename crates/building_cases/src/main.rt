@@ -1,8 +1,9 @@
-// Runs the routines of the pool, of the errors, of context locals and of functions' records on stored cases: areas without room, with room for one,
-// one entry short, and with room for all. A line is what was answered, then the mark, the count and the area's words; `stdout` has what they must be.
+// Runs the routines of the pool, of the errors, of context locals, of functions' records and of live names on stored cases: areas without room, with room for one,
+// one entry short, and with room for all; names and locals about 2^32, and counts beyond the area. A line is what was answered, then the mark, the count and the area's words; `stdout` has what they must be.
 use building::context;
 use building::function_state;
 use building::pool;
+use building::scopes;
 use building::scopes::Found;
 
 const OUTPUT: i32 = 1;
@@ -36,7 +37,7 @@ fn show_area(full: u64, count: usize, words: &[u64]) {
     io::write_all(OUTPUT, b"\n");
 }
 
-// An integer, a float, the same integer, the same float; then two marks.
+// An integer, a float of the same bits, the same integer, the same float; then two marks.
 fn pool_case(constants: &mut [u64], full: u64) {
     let begun = function_state::new(full, 0, 0, 0);
     let a = pool::add_constant(constants, begun, 2, 7);
@@ -91,6 +92,36 @@ fn function_case(functions: &mut [u64], full: u64) {
     show_area(b.full, b.count, functions);
 }
 
+// A name among live ones: 1 and its local, or 0; then whether it is new to `define_local`, and the area after it.
+fn name_case(names: &mut [u64], count: usize, locals: u64, name: u64) {
+    let mut state = function_state::new(0, 0, 0, 0);
+    state.names = count;
+    state.local_count = locals;
+    let found = scopes::find_local(names, state, name);
+    match found {
+        Found::At(local) => {
+            show(1);
+            show(local);
+        }
+        Found::Nothing => {
+            show(0);
+        }
+    }
+    let defined = scopes::define_local(names, state, name);
+    let new = defined.found;
+    match new {
+        Found::At(local) => {
+            show(1);
+            show(local);
+        }
+        Found::Nothing => {
+            show(0);
+        }
+    }
+    let after = defined.state;
+    show_area(after.full, after.names, names);
+}
+
 fn main() {
     let mut none = [0u64; 2];
     pool_case(&mut none, 0);
@@ -118,4 +149,28 @@ fn main() {
     function_case(&mut one_function, 0);
     let mut functions = [0u64; 16];
     function_case(&mut functions, 0);
+    let mut wide_local = [7u64, 4294967301, 0, 0];
+    name_case(&mut wide_local, 1, 1, 7);
+    let mut first_wide_local = [7u64, 4294967296, 0, 0];
+    name_case(&mut first_wide_local, 1, 1, 7);
+    let mut last_narrow_local = [7u64, 4294967295, 0, 0];
+    name_case(&mut last_narrow_local, 1, 4294967296, 7);
+    let mut wide_name = [4294967303u64, 0, 0, 0];
+    name_case(&mut wide_name, 1, 1, 7);
+    let mut wide_name_asked = [4294967303u64, 3, 0, 0];
+    name_case(&mut wide_name_asked, 1, 4, 4294967303);
+    let mut last_narrow_name = [4294967295u64, 2, 0, 0];
+    name_case(&mut last_narrow_name, 1, 3, 4294967295);
+    let mut first_wide_name = [4294967295u64, 2, 0, 0];
+    name_case(&mut first_wide_name, 1, 3, 4294967296);
+    let mut many_locals = [7u64, 4, 7, 4294967297];
+    name_case(&mut many_locals, 2, 4294967298, 7);
+    let mut many_locals_new = [7u64, 4, 0, 0];
+    name_case(&mut many_locals_new, 1, 4294967301, 8);
+    let mut newest = [7u64, 1, 7, 2];
+    name_case(&mut newest, 2, 3, 7);
+    let mut beyond = [7u64, 4, 0];
+    name_case(&mut beyond, 3, 5, 7);
+    let mut beyond_zero = [7u64, 4];
+    name_case(&mut beyond_zero, 3, 5, 0);
 }

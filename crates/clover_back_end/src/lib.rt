@@ -7,7 +7,7 @@ use column_files::records_to_columns;
 use tree::Shape;
 use tree::check;
 use words::reply::Reply;
-ghost use Rattle.books.specs.Promise.{areas, Compiles};
+ghost use Rattle.definition.specs.Promise.{areas, Compiles};
 ghost use mathlib.Core.Path.{_≡_};
 ghost use lib.ListN.{length};
 ghost use Rattle.tree.specs.Check.{shapeOf};
@@ -16,9 +16,9 @@ ghost use Rattle.clover_back_end.specs.Refusals.{refusalOf};
 ghost use Rattle.clover_back_end.specs.Versions.{thisVersion};
 
 // Counts releases of the library: one more whenever an answer may be another than before.
-const VERSION: u64 = 1;
+const VERSION: u64 = 2;
 // Counts forms of what goes in and out (docs/FORMAT.md, 'Version and layout').
-const LAYOUT: u64 = 1;
+const LAYOUT: u64 = 2;
 
 // What the shape check answers: the number of a refusal's row and its place, or 0 and 0.
 #[repr(C)]

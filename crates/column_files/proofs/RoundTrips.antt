@@ -10,8 +10,9 @@ use lib.ListN.{length, take, drop, getD, replicate, length-drop, take-append-dro
 use lib.Seq.{take-at, drop-at, drop-drop, getD-drop, drop-cons}
 use lib.Dec.{eqb, leb, ltb}
 use borrow.Author.Tests.{eq-eqb, ne-eqb, eqb-true, eqb-false, le-leb, leb-true, lt-ltb}
-use Rattle.words.specs.Record.{fieldOf, kindAt, spanAt, positionAt, valueAt, mostRecords, positionLimit}
-use Rattle.tree.specs.Rules.{Rule, rules, ruleOf, unused, anywhere, mayStand, slotAfter, firstSlot, inRange}
+use Rattle.words.specs.Record.{fieldOf, kindAt, spanAt, positionAt, valueAt, mostRecords, inPlace}
+use Rattle.words.proofs.Positions.{in-place}
+use Rattle.tree.specs.Rules.{Rule, rules, ruleOf, unused, anything, mayBeAt, mayStand, slotAfter, firstSlot, inRange}
 use Rattle.tree.specs.Check.{walkOf, headAt, shapeOf, recordsOf}
 use Rattle.tree.specs.declared.Shape.the-variants.{Fine}
 use Rattle.tree.specs.declared.Outcome.the-variants.{Went}
@@ -34,12 +35,12 @@ use Rattle.column_files.proofs.Files.{words-length, lines-length}
 pub record Good (w : List ℕ) (j : ℕ) : Type 0 where
   pub kind : kindAt w j < 50
   pub span : spanAt w j ≤ mostRecords
-  pub position : positionAt w j < positionLimit
+  pub position : inPlace (positionAt w j) ≡ true
   pub value : valueAt w j < 18446744073709551616
 
 -- every kind's limits, by one test of the table
 limits : Rule → Bool
-limits r = leb (r .position) anywhere && leb (r .most) 18446744073709551615
+limits r = leb (r .most) anything
 
 all : (Rule → Bool) → List Rule → Bool
 all f [] = true
@@ -63,15 +64,17 @@ limited : (k : ℕ) → limits (ruleOf k) ≡ true
 unfolding limits all
 limited k = all-get limits rules unused k refl refl
 
-good-range : (k p v : ℕ) → inRange k p v ≡ true → (p < positionLimit) × (v < 18446744073709551616)
+placed-in : (placed : Bool) (p : ℕ) → mayBeAt placed p ≡ true → inPlace p ≡ true
+unfolding mayBeAt inPlace
+placed-in true p e = e
+placed-in false p e = let z : p ≡ 0 = eqb-true p 0 e in subst (λ (n : ℕ). inPlace n ≡ true) (sym z) refl
+
+good-range : (k p v : ℕ) → inRange k p v ≡ true → (inPlace p ≡ true) × (v < 18446744073709551616)
 unfolding inRange limits
 good-range k p v e =
-    let l = limited k in
-    let a = leb-true (ruleOf k .position) anywhere (and-left (leb (ruleOf k .position) anywhere) _ l) in
-    let b = leb-true (ruleOf k .most) 18446744073709551615 (and-right (leb (ruleOf k .position) anywhere) _ l) in
-    let x = leb-true p (ruleOf k .position) (and-left (leb p (ruleOf k .position)) _ e) in
-    let y = leb-true v (ruleOf k .most) (and-right (leb (ruleOf k .least) v) _ (and-right (leb p (ruleOf k .position)) _ e)) in
-    (omega (arith, a, x), omega (arith, b, y))
+    let b = leb-true (ruleOf k .most) anything (limited k) in
+    let y = leb-true v (ruleOf k .most) (and-right (leb (ruleOf k .least) v) _ (and-right (mayBeAt (ruleOf k .position) p) _ e)) in
+    (placed-in (ruleOf k .position) p (and-left (mayBeAt (ruleOf k .position) p) _ e), omega (arith, b, y))
 
 good-kind : (s k : ℕ) → mayStand s k ≡ true → k < 50
 good-kind s k e = go (decLt k 50)
@@ -120,7 +123,8 @@ unfolding fieldOf
 good-first w g =
     let k = g .kind in
     let s = g .span in
-    line-read (getD w 0 0) (getD w 1 0) (getD w 2 0) (getD w 3 0) (omega (arith, k)) (omega (arith, s)) (g .position) (g .value)
+    let p = in-place (getD w (0 * 4 + 2) 0) (g .position) in
+    line-read (getD w 0 0) (getD w 1 0) (getD w 2 0) (getD w 3 0) (omega (arith, k)) (omega (arith, s)) (omega (arith, p .0)) (omega (arith, p .1)) (g .value)
 
 good-rest : (w : List ℕ) (j : ℕ) → Good w (suc j) → Good (drop 4 w) j
 unfolding fieldOf
@@ -147,9 +151,9 @@ unfolding wordsBy linesBy badBy
 back zero line w e g = record { words = nothing-left w (omega arith); good = refl }
 back (suc n) line w e g =
     let r = recordLine (getD w 0 0) (getD w 1 0) (getD w 2 0) (getD w 3 0) in
-    let z : length r ≡ 46 = line-size (getD w 0 0) (getD w 1 0) (getD w 2 0) (getD w 3 0) in
-    let t : take 46 (r ++ linesBy n (drop 4 w)) ≡ r = take-at r (linesBy n (drop 4 w)) 46 z in
-    let d : drop 46 (r ++ linesBy n (drop 4 w)) ≡ linesBy n (drop 4 w) = drop-at r (linesBy n (drop 4 w)) 46 z in
+    let z : length r ≡ lineLength = line-size (getD w 0 0) (getD w 1 0) (getD w 2 0) (getD w 3 0) in
+    let t : take lineLength (r ++ linesBy n (drop 4 w)) ≡ r = take-at r (linesBy n (drop 4 w)) lineLength z in
+    let d : drop lineLength (r ++ linesBy n (drop 4 w)) ≡ linesBy n (drop 4 w) = drop-at r (linesBy n (drop 4 w)) lineLength z in
     let f = good-first w (g 0 (omega arith)) in
     let b = back n (line + 1) (drop 4 w) (length-drop 4 w ∙ omega arith) (λ j h. good-rest w j (g (suc j) (omega arith))) in
     record {

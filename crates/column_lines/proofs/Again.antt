@@ -10,7 +10,7 @@ use lib.ListN.{length, take, drop, getD, length-append, length-drop, take-append
 use lib.Seq.{take-at, drop-drop, drop-append-add, drop-cons, length-take-le, getD-append-add}
 use lib.Dec.{eqb, leb, ltb}
 use borrow.Author.Tests.{eq-eqb, ne-eqb, eqb-true, eqb-false, lt-ltb, ltb-true, le-leb, lt-leb, leb-true, leb-false}
-use Rattle.words.specs.Record.{positionBase, positionLimit, packPosition, lineOf, columnOf}
+use Rattle.words.specs.Record.{positionBase, packPosition, lineOf, columnOf}
 use Rattle.column_lines.specs.Form.{kindWidth, spanWidth, lineWidth, columnWidth, valueWidth, spanPlace, linePlace, columnPlace, valuePlace}
 use Rattle.column_lines.specs.Form.{newlinePlace, lineLength, newline, signedKind}
 use Rattle.column_lines.specs.Numeral.{wordEnd, leastSize, negativeOf, magnitudeOf, restFits, spellFits, numeral, numeralFits, readNumeral}
@@ -19,7 +19,7 @@ use Rattle.column_lines.specs.declared.number.Number.{Number}
 use Rattle.column_lines.specs.declared.number.Number.the-variants.{Word, Off}
 use Rattle.column_lines.specs.declared.line.Line.{Line}
 use Rattle.column_lines.specs.declared.line.Line.the-variants.{Record, Bad}
-use Rattle.column_lines.proofs.Numerals.{read-written, written-read, read-small}
+use Rattle.column_lines.proofs.Numerals.{read-written, written-read, read-below}
 use Rattle.column_lines.proofs.Lines.{numeral-length, position-yes, record-all, line-whole, line-size}
 
 -- a number below a power of ten fits
@@ -70,20 +70,21 @@ record-parts (Word k) (Word s) Off d e = absurd (let z : _≡_ {A = ℕ} 0 1 = c
 record-parts (Word k) Off c d e = absurd (let z : _≡_ {A = ℕ} 0 1 = cc in omega arith)
 record-parts Off b c d e = absurd (let z : _≡_ {A = ℕ} 0 1 = cc in omega arith)
 
-if-word : (t : Bool) {n : Number} {x : ℕ} → cond t n Off ≡ Word x → (t ≡ true) × (n ≡ Word x)
-if-word true e = (refl, e)
-if-word false e = absurd (let z : _≡_ {A = ℕ} 0 1 = cc in omega arith)
-
-position-parts : (a b : Number) {p : ℕ} → positionIn a b ≡ Word p → (a ≡ Word (lineOf p)) × (b ≡ Word (columnOf p))
+position-parts : (a b : Number) {p : ℕ} → ((c : ℕ) → b ≡ Word c → c < positionBase) → positionIn a b ≡ Word p
+    → (a ≡ Word (lineOf p)) × (b ≡ Word (columnOf p))
 unfolding positionIn
-position-parts (Word l) (Word c) {p} e =
-    let x = if-word (ltb l positionBase) e in
-    let y = if-word (ltb c positionBase) (x .1) in
-    let q : packPosition l c ≡ p = cc (y .1) in
-    let k = ltb-true c positionBase (y .0) in
+position-parts (Word l) (Word c) {p} below e =
+    let q : packPosition l c ≡ p = cc e in
+    let k : c < positionBase = below c refl in
     (ap Word (let z : l ≡ p / positionBase = omega (arith, q, k) in z), ap Word (let z : c ≡ p % positionBase = omega (arith, q, k) in z))
-position-parts (Word l) Off e = absurd (let z : _≡_ {A = ℕ} 0 1 = cc in omega arith)
-position-parts Off b e = absurd (let z : _≡_ {A = ℕ} 0 1 = cc in omega arith)
+position-parts (Word l) Off below e = absurd (let z : _≡_ {A = ℕ} 0 1 = cc in omega arith)
+position-parts Off b below e = absurd (let z : _≡_ {A = ℕ} 0 1 = cc in omega arith)
+
+-- a number in a field of a line is below the power of ten of the field's width
+pub field-below : (l : List ℕ) (at w : ℕ) {word : ℕ} → at + w ≤ length l → readNumeral false (fieldIn at w l) ≡ Word word → word < 10 ^ w
+field-below l at w {word} h e =
+    let n : length (fieldIn at w l) ≡ w = length-take-le w (drop at l) (omega (arith, length-drop at l)) in
+    subst (λ (k : ℕ). word < 10 ^ k) n (read-below (fieldIn at w l) word e)
 
 if-line : (t : Bool) {n : Line} {k s p v : ℕ} → cond t n Bad ≡ Record k s p v → (t ≡ true) × (n ≡ Record k s p v)
 if-line true e = (refl, e)
@@ -108,10 +109,11 @@ spells l {k} {s} {p} {v} e =
     let x = if-line (wholeLine l) e in
     let y = and-parts (eqb (length l) lineLength) _ (x .0) in
     let r = record-parts (kindIn l) (spanIn l) (placeIn l) (valueIn l) (x .1) in
-    let q = position-parts _ _ (r .2) in
+    let n = eqb-true (length l) lineLength (y .0) in
+    let q = position-parts _ _ (λ c h. let z = field-below l columnPlace columnWidth (omega (arith, n)) h in omega (arith, z)) (r .2) in
     let g : signedIs (kindIn l) ≡ eqb k signedKind = ap signedIs (r .0) in
     record {
-      long = eqb-true (length l) lineLength (y .0);
+      long = n;
       ends = eqb-true (getD l newlinePlace 0) newline (y .1);
       kind = r .0;
       span = r .1;
@@ -199,7 +201,7 @@ module _ (a b c d e : List ℕ) (la : length a ≡ kindWidth) (lb : length b ≡
       ∙ next-byte b _ spanWidth (lineWidth + (columnWidth + valueWidth)) lb ∙ next-byte c _ lineWidth (columnWidth + valueWidth) lc
       ∙ next-byte d _ columnWidth valueWidth ld ∙ next-byte e _ valueWidth 0 le
 
-module _ (k s p v : ℕ) (hk : k < 10 ^ kindWidth) (hs : s < 10 ^ spanWidth) (hp : p < positionLimit) (hv : v < wordEnd) where
+module _ (k s p v : ℕ) (hk : k < 10 ^ kindWidth) (hs : s < 10 ^ spanWidth) (hl : lineOf p < 10 ^ lineWidth) (hc : columnOf p < 10 ^ columnWidth) (hv : v < wordEnd) where
   abbrev n0 : List ℕ
   n0 = numeral kindWidth false k
 
@@ -243,11 +245,11 @@ module _ (k s p v : ℕ) (hk : k < 10 ^ kindWidth) (hs : s < 10 ^ spanWidth) (hp
   place-read =
       let x : readNumeral false (fieldIn linePlace lineWidth (recordLine k s p v)) ≡ Word (lineOf p) =
       ap (readNumeral false) (f2 n0 n1 n2 n3 n4 l0 l1 l2 l3 l4)
-      ∙ read-written lineWidth false (lineOf p) (omega arith) (natural-fits lineWidth (lineOf p) (omega arith) (omega arith)) in
+      ∙ read-written lineWidth false (lineOf p) (omega arith) (natural-fits lineWidth (lineOf p) (omega arith) hl) in
       let y : readNumeral false (fieldIn columnPlace columnWidth (recordLine k s p v)) ≡ Word (columnOf p) =
       ap (readNumeral false) (f3 n0 n1 n2 n3 n4 l0 l1 l2 l3 l4)
-      ∙ read-written columnWidth false (columnOf p) (omega arith) (natural-fits columnWidth (columnOf p) (omega arith) (omega arith)) in
-      sym (position-yes _ _ x y (omega arith) (omega arith)) ∙ ap Word (let z : packPosition (lineOf p) (columnOf p) ≡ p = omega arith in z)
+      ∙ read-written columnWidth false (columnOf p) (omega arith) (natural-fits columnWidth (columnOf p) (omega arith) hc) in
+      sym (position-yes _ _ x y) ∙ ap Word (let z : packPosition (lineOf p) (columnOf p) ≡ p = omega arith in z)
 
   value-read : valueIn (recordLine k s p v) ≡ Word v
   unfolding recordLine

@@ -7,9 +7,9 @@ use mathlib.Core.Bool.{Bool, true, false, cond, _&&_}
 use mathlib.Core.List.{List, [], _∷_, _++_, append-assoc}
 use lib.ListN.{length, take, drop, getD, set, replicate, length-append, length-replicate, length-drop, length-set, drop-of-length-le}
 use lib.Seq.{take-at, drop-at, drop-drop, drop-append-add, set-at, drop-cons}
-use lib.Dec.{eqb, ltb}
-use borrow.Author.Tests.{eq-eqb, ne-eqb, lt-ltb, le-ltb}
-use Rattle.words.specs.Record.{positionBase, packPosition, lineOf, columnOf}
+use lib.Dec.{eqb}
+use borrow.Author.Tests.{eq-eqb, ne-eqb}
+use Rattle.words.specs.Record.{packPosition, lineOf, columnOf}
 use Rattle.column_lines.specs.Form.{kindWidth, spanWidth, lineWidth, columnWidth, valueWidth, spanPlace, linePlace, columnPlace, valuePlace}
 use Rattle.column_lines.specs.Form.{newlinePlace, lineLength, newline, signedKind}
 use Rattle.column_lines.specs.Numeral.{blank, digitOf, leadOf, restOf, spelled, numeral, Wrote}
@@ -23,17 +23,17 @@ use Rattle.column_lines.specs.declared.line.Line.the-variants.{Record, B
 -- positions
 
 module _ (a b : Number) {l c : ℕ} (A : a ≡ Word l) (B : b ≡ Word c) where
-  pub position-yes : l < positionBase → c < positionBase → Word (packPosition l c) ≡ positionIn a b
+  pub position-yes : Word (packPosition l c) ≡ positionIn a b
   unfolding positionIn
-  position-yes h k = rw (A, B) (simp (lt-ltb l positionBase h, lt-ltb c positionBase k))
+  position-yes = rw (A, B)
 
-  pub position-column : l < positionBase → positionBase ≤ c → Off ≡ positionIn a b
-  unfolding positionIn
-  position-column h k = rw (A, B) (simp (lt-ltb l positionBase h, le-ltb c positionBase k))
+pub position-column : (a b : Number) {l : ℕ} → a ≡ Word l → b ≡ Off → Off ≡ positionIn a b
+unfolding positionIn
+position-column a b A B = rw (A, B)
 
-  pub position-line : positionBase ≤ l → Off ≡ positionIn a b
-  unfolding positionIn
-  position-line h = rw (A, B) (simp (le-ltb l positionBase h))
+pub position-line : (a b : Number) → a ≡ Off → Off ≡ positionIn a b
+unfolding positionIn
+position-line a b A = rw A
 
 pub signed-word : (a : Number) {k : ℕ} → a ≡ Word k → eqb k signedKind ≡ signedIs a
 signed-word a e = rw e

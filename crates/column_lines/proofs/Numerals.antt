@@ -1,6 +1,7 @@
 -- The law of right-justified numbers, over width and sign: reading a written number gives the number (`read-written`), and writing a number that was
--- read gives the bytes (`written-read`). Assumes nothing.
-use Prim.Native.Nat.{ℕ, zero, suc, _+_, _-_, _*_, _/_, _%_, _≤_, _<_}
+-- read gives the bytes (`written-read`); a number of n digits is below 10^n (`read-below`). Assumes nothing.
+use Prim.Native.Nat.{ℕ, zero, suc, _+_, _-_, _*_, _/_, _%_, _^_, _≤_, _<_}
+use native.Mathlib.Nat.{mul-assoc, pow-suc, pow-succ'}
 use native.Mathlib.Omega.{arith}
 use mathlib.Core.Path.{_≡_, refl, sym, ap, subst, _∙_}
 use mathlib.Core.Bool.{Bool, true, false, not, cond, _&&_}
@@ -323,3 +324,44 @@ written-read signed bs word w = from-field signed 0 bs word w .0
 
 pub read-small : (signed : Bool) (bs : List ℕ) (word : ℕ) → readNumeral signed bs ≡ Word word → word < wordEnd
 read-small signed bs word w = from-field signed 0 bs word w .1
+
+-- a number of n digits without a sign is below 10^n
+
+digits-below : (m u : ℕ) (bs : List ℕ) (word : ℕ) → m < u → digitsFrom false false m bs ≡ Word word → word < u * 10 ^ length bs
+unfolding digitsFrom wordOf
+digits-below m u [] word h w =
+    let e : m ≡ word = same-word (if-word (leb m (mostOf false)) w .1) in
+    omega (arith, e, h)
+digits-below m u (b ∷ bs) word h w =
+    let g = if-word (isDigit b) w in
+    let d = digit-range b (g .0) in
+    let r = digits-below (m * 10 + (b - 48)) (u * 10) bs word (omega (arith, d .0, d .1, h)) (g .1) in
+    let e : u * 10 * 10 ^ length bs ≡ u * 10 ^ suc (length bs) = mul-assoc u 10 (10 ^ length bs) ∙ ap (λ (x : ℕ). u * x) (sym (pow-succ' 10 (length bs))) in
+    subst (λ (x : ℕ). word < x) e r
+
+power-one : (n : ℕ) → 0 < 10 ^ n
+power-one zero = omega arith
+power-one (suc n) = let p = pow-suc 10 n in let q = power-one n in omega (arith, p, q)
+
+number-below : (bs : List ℕ) (word : ℕ) → numberFrom false false bs ≡ Word word → word < 10 ^ length bs
+unfolding numberFrom zeroFrom
+number-below [] word w = absurd (not-word w)
+number-below (b ∷ bs) word w = go (eqb b 48) w
+  where
+    small : (bs : List ℕ) → zeroFrom false bs ≡ Word word → word < 10 ^ suc (length bs)
+    small [] e = let z : 0 ≡ word = same-word e in omega (arith, z)
+    small (c ∷ cs) e = absurd (not-word e)
+
+    go : (t : Bool) → cond t (zeroFrom false bs) (digitsFrom false false 0 (b ∷ bs)) ≡ Word word → word < 10 ^ suc (length bs)
+    go true e = small bs e
+    go false e = let r = digits-below 0 1 (b ∷ bs) word (omega arith) e in omega (arith, r)
+
+pub read-below : (bs : List ℕ) (word : ℕ) → readNumeral false bs ≡ Word word → word < 10 ^ length bs
+unfolding readNumeral signFrom signAt
+read-below [] word w = absurd (not-word w)
+read-below (b ∷ bs) word w = go (eqb b blank) w (λ x. read-below bs word x)
+  where
+    go : (t : Bool) → cond t (readNumeral false bs) (signFrom false (b ∷ bs)) ≡ Word word → (readNumeral false bs ≡ Word word → word < 10 ^ length bs)
+        → word < 10 ^ suc (length bs)
+    go true e more = let p = pow-suc 10 (length bs) in let q = more e in omega (arith, p, q)
+    go false e more = number-below (b ∷ bs) word e

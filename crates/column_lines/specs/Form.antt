@@ -1,5 +1,5 @@
--- The form of a line of a column file (01, 'Column file'), in one place: the order and the widths of its fields, and so their places. A change of
--- the limits of a line and a column (2026-06) changes the two widths here, and positionBase of `words`
+-- The form of a line of a column file (01, 'Column file'; 2026-06: 'In the column file both fields widen from 6 to 9'), in one place: the order and the
+-- widths of its fields, and so their places
 use Prim.Native.Nat.{ℕ, _+_}
 
 abbrev pub kindWidth : ℕ
@@ -9,10 +9,10 @@ abbrev pub spanWidth : ℕ
 spanWidth = 8
 
 abbrev pub lineWidth : ℕ
-lineWidth = 6
+lineWidth = 9
 
 abbrev pub columnWidth : ℕ
-columnWidth = 6
+columnWidth = 9
 
 abbrev pub valueWidth : ℕ
 valueWidth = 21

@@ -4,8 +4,8 @@ use mathlib.Core.Path.{_≡_}
 use mathlib.Core.Bool.{Bool, false, cond, _&&_}
 use mathlib.Core.List.{List, [], _∷_, _++_}
 use lib.ListN.{length, take, drop, getD}
-use lib.Dec.{eqb, ltb}
-use Rattle.words.specs.Record.{positionBase, packPosition, lineOf, columnOf}
+use lib.Dec.{eqb}
+use Rattle.words.specs.Record.{packPosition, lineOf, columnOf}
 use Rattle.column_lines.specs.Form.{kindWidth, spanWidth, lineWidth, columnWidth, valueWidth, spanPlace, linePlace, columnPlace, valuePlace}
 use Rattle.column_lines.specs.Form.{newlinePlace, lineLength, newline, signedKind}
 use Rattle.column_lines.specs.Numeral.{numeral, readNumeral}
@@ -23,9 +23,10 @@ abbrev pub signedIs : Number → Bool
 signedIs (Word kind) = eqb kind signedKind
 signedIs Off = false
 
--- 'A line or column over 65,535 .. [is] off the form'
+-- a position, whatever its line and column are: one above the limit is row 3, not row 1 (2026-06: 'row 3 for a position above the new limit, in a column
+-- file too'). Nothing is lost, for a number of nine digits is below 2^32
 unfoldable pub positionIn : Number → Number → Number
-positionIn (Word line) (Word column) = cond (ltb line positionBase) (cond (ltb column positionBase) (Word (packPosition line column)) Off) Off
+positionIn (Word line) (Word column) = Word (packPosition line column)
 positionIn (Word line) Off = Off
 positionIn Off column = Off
 

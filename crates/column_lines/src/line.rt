@@ -1,5 +1,5 @@
 // A line of a column file and the record that it spells (01, 'Column file'). The form is here in one place: the order and the widths of the fields,
-// and so their places. A change of the limits of a line and a column (2026-06) changes the two widths, and POSITION_BASE of `words`.
+// and so their places.
 use crate::number::Number;
 use crate::number::read_number;
 use crate::number::write_number;
@@ -12,15 +12,16 @@ ghost use mathlib.Core.List.{_++_};
 ghost use Prim.Native.Nat.{_-_, _≤_};
 ghost use lib.ListN.{length, take, drop};
 ghost use Rattle.column_lines.specs.Numeral.{numeral, readNumeral};
-ghost use Rattle.column_lines.specs.Line.{signedIs, positionIn, recordIn, readLine, LineWrote};
+ghost use Rattle.column_lines.specs.Form.{lineLength};
+ghost use Rattle.column_lines.specs.Line.{signedIs, placeIn, recordIn, readLine, LineWrote};
 
 const KIND_WIDTH: usize = 4;
 
 const SPAN_WIDTH: usize = 8;
 
-const LINE_WIDTH: usize = 6;
+const LINE_WIDTH: usize = 9;
 
-const COLUMN_WIDTH: usize = 6;
+const COLUMN_WIDTH: usize = 9;
 
 const VALUE_WIDTH: usize = 21;
 
@@ -53,24 +54,6 @@ fn is_signed(kind: Number) -> bool
     }
 }
 
-// A position, from its line and column.
-fn position_in(line: Number, column: Number) -> Number
-    ensures { λ r. ⌜ r ≡ positionIn line column ⌝ }
-{
-    let Number::Word(l) = line else {
-        return Number::Off;
-    };
-    let Number::Word(c) = column else {
-        return Number::Off;
-    };
-    if l < POSITION_BASE {
-        if c < POSITION_BASE {
-            return Number::Word(l * POSITION_BASE + c);
-        }
-    }
-    Number::Off
-}
-
 fn record_in(kind: Number, span: Number, position: Number, value: Number) -> Line
     ensures { λ r. ⌜ r ≡ recordIn kind span position value ⌝ }
 {
@@ -98,6 +81,22 @@ fn read_field(line: &[u8], at: usize, end: usize, signed: bool) -> Number
     read_number(&line[at..end], signed)
 }
 
+// The position of a line. One above the limit is a number too, and no fault of the line.
+fn read_position(line: &[u8]) -> Number
+    requires { ⌜ length (now line) ≡ lineLength ⌝ }
+    ensures { λ r. ⌜ r ≡ placeIn (now (line .entry)) ⌝ }
+{
+    let row = read_field(line, SPAN_END, LINE_END, false);
+    let column = read_field(line, LINE_END, COLUMN_END, false);
+    let Number::Word(l) = row else {
+        return Number::Off;
+    };
+    let Number::Word(c) = column else {
+        return Number::Off;
+    };
+    Number::Word(l * POSITION_BASE + c)
+}
+
 // Writes a number to a field of a line.
 fn write_field(out: &mut [u8], at: usize, end: usize, word: u64, signed: bool)
     requires { ⌜ at ≤ end ⌝ }
@@ -119,9 +118,7 @@ pub fn read_line(line: &[u8]) -> Line
     }
     let kind = read_field(line, 0, KIND_END, false);
     let span = read_field(line, KIND_END, SPAN_END, false);
-    let row = read_field(line, SPAN_END, LINE_END, false);
-    let column = read_field(line, LINE_END, COLUMN_END, false);
-    let position = position_in(row, column);
+    let position = read_position(line);
     let signed = is_signed(kind);
     let value = read_field(line, COLUMN_END, VALUE_END, signed);
     record_in(kind, span, position, value)

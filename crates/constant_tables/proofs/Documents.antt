@@ -9,8 +9,8 @@ use mathlib.Core.List.{List, [], _∷_, _++_}
 use lib.ListN.{length, getD}
 use lib.Dec.{eqb, leb, ltb}
 use borrow.Author.Tests.{eq-eqb, ne-eqb, eqb-true, le-leb, leb-true, lt-ltb, ltb-true, not-true, not-false}
-use Rattle.words.specs.Record.{fieldOf, kindAt, spanAt, positionAt, valueAt, mostRecords, mostLevels, mostText}
-use Rattle.tree.specs.Rules.{mayStand, slotAfter, isDue, firstSlot, inRange, goesOn}
+use Rattle.words.specs.Record.{fieldOf, kindAt, spanAt, positionAt, valueAt, mostRecords, mostLevels, mostText, inPlace}
+use Rattle.tree.specs.Rules.{anywhere, mayStand, slotAfter, isDue, firstSlot, mayBeAt, inRange, goesOn}
 use Rattle.tree.specs.Check.{withinOf, lacksOf, sameThis, thisAfter, soundAt, headAt, walkOf, shapeOf, shapeBy, recordsOf}
 use Rattle.tree.specs.declared.Shape.{Shape}
 use Rattle.tree.specs.declared.Shape.the-variants.{Fine, Refused}
@@ -127,41 +127,41 @@ not-41 k integer-value = refl
 not-41 k float-value = refl
 
 range-document : (v : ℕ) → Text v → inRange documentKind 0 v ≡ true
-unfolding inRange
+unfolding inRange mayBeAt
 range-document v t = simp (le-leb 1 v (t .some), le-leb v mostText (t .limit))
 
 range-definition : inRange localDefinitionKind 0 0 ≡ true
-unfolding inRange
+unfolding inRange mayBeAt
 range-definition = refl
 
 range-name : (v : ℕ) → Text v → inRange nameKind 0 v ≡ true
-unfolding inRange
-range-name v t = simp (le-leb 0 mostText (omega arith), le-leb 1 v (t .some), le-leb v mostText (t .limit))
+unfolding inRange mayBeAt inPlace
+range-name v t = simp (le-leb 1 v (t .some), le-leb v mostText (t .limit))
 
 range-value : (k v : ℕ) → ValueKind k → v < wordEnd → inRange k 0 v ≡ true
-unfolding inRange
+unfolding inRange mayBeAt inPlace
 range-value k v integer-value h = simp (le-leb 0 v (omega arith), le-leb v 18446744073709551615 (omega arith))
 range-value k v float-value h = simp (le-leb 0 v (omega arith), le-leb v 18446744073709551615 (omega arith))
 
 in-document : (p v : ℕ) → inRange documentKind p v ≡ true → (p ≡ 0) × Text v
-unfolding inRange
+unfolding inRange mayBeAt
 in-document p v e =
-    let a = leb-true p 0 (and-left (leb p 0) _ e) in
-    let r = and-right (leb p 0) _ e in
-    (omega (arith, a), record { some = leb-true 1 v (and-left (leb 1 v) _ r); limit = leb-true v mostText (and-right (leb 1 v) _ r) })
+    let a = eqb-true p 0 (and-left (eqb p 0) _ e) in
+    let r = and-right (eqb p 0) _ e in
+    (a, record { some = leb-true 1 v (and-left (leb 1 v) _ r); limit = leb-true v mostText (and-right (leb 1 v) _ r) })
 
 in-name : (p v : ℕ) → inRange nameKind p v ≡ true → Text v
 unfolding inRange
 in-name p v e =
-    let r = and-right (leb p _) _ e in
+    let r = and-right (mayBeAt anywhere p) _ e in
     record { some = leb-true 1 v (and-left (leb 1 v) _ r); limit = leb-true v mostText (and-right (leb 1 v) _ r) }
 
 in-value : (k p v : ℕ) → ValueKind k → inRange k p v ≡ true → v < wordEnd
 unfolding inRange
 in-value k p v integer-value e =
-    let r = leb-true v 18446744073709551615 (and-right (leb 0 v) _ (and-right (leb p _) _ e)) in omega (arith, r)
+    let r = leb-true v 18446744073709551615 (and-right (leb 0 v) _ (and-right (mayBeAt anywhere p) _ e)) in omega (arith, r)
 in-value k p v float-value e =
-    let r = leb-true v 18446744073709551615 (and-right (leb 0 v) _ (and-right (leb p _) _ e)) in omega (arith, r)
+    let r = leb-true v 18446744073709551615 (and-right (leb 0 v) _ (and-right (mayBeAt anywhere p) _ e)) in omega (arith, r)
 
 -- definitions are never lacking
 never-lacks : (w : List ℕ) (n j e : ℕ) → e - j ≤ n → lacksOf w 2 j e ≡ false

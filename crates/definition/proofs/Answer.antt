@@ -24,7 +24,7 @@ use Rattle.tree.specs.declared.Outcome.the-variants.{Went, Fault}
 use Rattle.definition.specs.Uses.{Limits, firstOver}
 use Rattle.definition.specs.Compiler.{Error}
 use Rattle.definition.specs.Book.{Context, newContext}
-use Rattle.definition.specs.DependencySolver.{Ending, Delivered, Faulty, Ring, compileNeeded, missing, needed, filesOf}
+use Rattle.definition.specs.DependencySolver.{Ending, Delivered, Faulty, Ring, compileNeeded, missing, needed, loadedOf}
 use Rattle.definition.specs.Program.{entriesFrom, errorEntry, errorTables}
 use Rattle.definition.specs.Answer.{Answer, Delivery, Refusal, answerEnding, answerBy, answerNeeded, answerBundle, answerDocuments, answerTwice}
 use Rattle.definition.specs.Answer.{answerShape, answerFrom, answer, twice, documentPlaces, limitsOf, ringErrors, areasOf}
@@ -112,7 +112,7 @@ reached c w lengths = shape (shape-row w) refl
     documents : shapeOf w ≡ Fine → (ds : List Document) → documentsOf w ≡ ds → Reached c w lengths (answerDocuments ds l c)
     documents f [] q = Before 0 row-3
     documents f (root ∷ others) q =
-        let numbers = needed (filesOf (c .assemblies)) root others in
+        let numbers = needed (loadedOf c) root others in
         let o = missing (root ∷ others) numbers in
         subst (λ ds. Reached c w lengths (answerNeeded o numbers ds l c)) q (needing f numbers o)
 

@@ -103,8 +103,8 @@ module _ {A : Type 0} where
   entries-all f n i each h none = none
   entries-all f n i each h (_&_ {x = x} p ps) = all-append (each i x (omega arith) p) (entries-all f n (i + 1) each (omega arith) ps)
 
-  pub entries-wide : (f : ℕ → A → Entries) (width : ℕ) → ((j : ℕ) (x : A) → Wide width (f j x)) → (xs : List A) → Wide width (entriesFrom f 0 xs)
-  entries-wide f width each xs = entries-all f (length xs) 0 (λ j x h u. each j x) (omega arith) (all-any xs)
+  pub entries-wide : (f : ℕ → A → Entries) (width i : ℕ) → ((j : ℕ) (x : A) → Wide width (f j x)) → (xs : List A) → Wide width (entriesFrom f i xs)
+  entries-wide f width i each xs = entries-all f (i + length xs) i (λ j x h u. each j x) (omega arith) (all-any xs)
 
   -- how many: the sum of what each gives
   pub entries-length : (f : ℕ → A → Entries) (g : A → ℕ) {P : A → Type 0} {xs : List A} (i : ℕ)

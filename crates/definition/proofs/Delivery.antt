@@ -4,25 +4,27 @@
 use Prim.Native.Nat.{ℕ, zero, suc, _^_, _≤_, _<_}
 use native.Mathlib.Nat.{le-refl}
 use native.Mathlib.Omega.{arith}
-use mathlib.Core.Path.{_≡_, ap}
+use mathlib.Core.Path.{_≡_, ap, subst}
 use mathlib.Core.Logic.{inl, inr}
 use mathlib.Core.Option.{none}
-use mathlib.Core.List.{List, [], _∷_}
+use mathlib.Core.List.{List, [], _∷_, _++_, map}
 use lib.ListN.{length, getD, List·getD-map}
 use Rattle.words.specs.Areas.{widths, codeArea, constantsArea, contextLocalsArea}
 use Rattle.words.specs.Opcode.{nothing}
 use Rattle.words.specs.Record.{mostRecords}
 use Rattle.tree.specs.Reading.{documentsOf}
 use Rattle.definition.specs.Uses.{Use, limitOf, firstOver}
-use Rattle.definition.specs.Book.{Function, Context, newContext, codeOf}
+use Rattle.definition.specs.Prior.{Prior, nothingStands}
+use Rattle.definition.specs.Book.{Function, Context, newContext, codeOf, codeCount}
 use Rattle.definition.specs.Program.{Entries, tablesOf}
 use Rattle.definition.specs.Answer.{Delivery, limitsBy, limitsOf, answerFrom, answer}
-use Rattle.definition.specs.Within.{All, none, _&_, Class, Position, Slot, Read, Pool, Global, Other, classOf, Counts, Within}
-use Rattle.definition.proofs.Safe.{at, Each, counts, FunctionSafe, ProgramSafe}
+use Rattle.definition.specs.Within.{All, none, _&_, Class, Position, Slot, Read, Pool, ContextSlot, Other, classOf}
+use Rattle.definition.specs.Within.{logsOf, OnePositionEach, KeepsWithin}
+use Rattle.definition.proofs.Safe.{at, Each, counts, Counts, Within, FunctionSafe, ProgramSafe}
 use Rattle.definition.proofs.Lists.{all-map}
 use Rattle.definition.proofs.Cells.{all-at}
 use Rattle.definition.proofs.FunctionCode.{OperandsFit}
-use Rattle.definition.proofs.Keeps.{WordsKeep}
+use Rattle.definition.proofs.Keeps.{delivered, WordsKeep}
 use Rattle.definition.proofs.Answer.{delivering, delivery-safe, delivery-keeps, standing-keeps}
 use Rattle.definition.proofs.Limits.{fine-limited}
 use Rattle.definition.proofs.Tables.{totals-counted}
@@ -46,7 +48,7 @@ operand-fits Slot c i n t l p g w s = omega arith
 operand-fits Read c i n t l p g (inl w) s = omega arith
 operand-fits Read c i n t l p g (inr w) s = omega (arith, w .0)
 operand-fits Pool c i n t l p g w s = omega arith
-operand-fits Global c i n t l p g w s = omega arith
+operand-fits ContextSlot c i n t l p g w s = omega arith
 operand-fits Other c i n t l p g w s = omega arith
 
 functions-fit : (K C n : ℕ) (fs : List Function) → K < 2 ^ 56 → C < 2 ^ 56 → n < 2 ^ 56 → codeOf fs ≤ n → All (λ (f : Function). FunctionSafe K C (f .state)) fs
@@ -66,9 +68,9 @@ pub record Stands (lengths : List ℕ) (c : Context) : Type 0 where
   pub functions : KeptFunctions (c .functions)
   pub fits : (area : ℕ) → standingIn c area ≤ limitOf (limitsOf lengths) area
 
-stands : {S : ℕ → ℕ} {us : List Use} (lengths : List ℕ) (r : Context) → ((area : ℕ) → S area ≤ limitOf (limitsOf lengths) area)
-    → firstOver (limitsOf lengths) us ≡ none → ContextKept S 0 r us → ProgramSafe r → Stands lengths r
-stands {S} {us} lengths r h e k s = record {
+stands : {S : ℕ → ℕ} {P : Prior} {us : List Use} (lengths : List ℕ) (r : Context) → ((area : ℕ) → S area ≤ limitOf (limitsOf lengths) area)
+    → firstOver (limitsOf lengths) us ≡ none → ContextKept S P 0 r us → ProgramSafe r → Stands lengths r
+stands {S} {P} {us} lengths r h e k s = record {
   safe = s;
   functions = k .functions;
   fits = λ area. let x = k .counted .each area .known in omega (arith, h area, greatest-fits (limitsOf lengths) us e area);
@@ -77,8 +79,8 @@ stands {S} {us} lengths r h e k s = record {
 pub stands-fits : (lengths : List ℕ) (c : Context) → Stands lengths c → OperandsFit c
 stands-fits lengths c s =
     let low : (area : ℕ) → standingIn c area < 2 ^ 56 = λ area. let x = s .fits area in omega (arith, limits-capped widths lengths area) in
-    functions-fit (length (c .pool .constants)) (c .pool .localCount) (codeOf (c .functions)) (c .functions) (low constantsArea) (low contextLocalsArea)
-    (low codeArea) (le-refl _) (all-map (λ f p. p .0) (s .safe .parts .functions)) (s .functions)
+    functions-fit (length (c .pool .constants)) (c .pool .localCount) (codeCount c) (c .functions) (low constantsArea) (low contextLocalsArea)
+    (low codeArea) (omega arith) (all-map (λ f p. p .0) (s .safe .parts .functions)) (s .functions)
 
 -- on a fresh context
 pub answer-stands : (w lengths : List ℕ) (c : Context) → answer w lengths ≡ Delivery c → Stands lengths c
@@ -95,6 +97,18 @@ standing-stands w lengths c r s e =
     stands lengths r (s .fits) (d .within) (standing-noted (d .numbers) (documentsOf w) r (fine-limited w (d .fine)) c (s .functions) (d .ends))
     (delivery-safe c w lengths r e (s .safe))
 
+-- a delivery has standing before it what stood before; on a fresh context nothing
+pub standing-prior : (w lengths : List ℕ) (c r : Context) → Stands lengths c → answerFrom c w lengths ≡ Delivery r → r .prior ≡ c .prior
+standing-prior w lengths c r s e =
+    let d = delivering c w lengths r e in
+    standing-noted (d .numbers) (documentsOf w) r (fine-limited w (d .fine)) c (s .functions) (d .ends) .prior
+
+pub answer-prior : (w lengths : List ℕ) (c : Context) → answer w lengths ≡ Delivery c → c .prior ≡ nothingStands
+unfolding answer
+answer-prior w lengths c e =
+    let d = delivering newContext w lengths c e in
+    fresh-noted (d .numbers) (documentsOf w) c (fine-limited w (d .fine)) (d .ends) .prior
+
 -- every operand that is delivered is below 2 ^ 56
 pub answer-fits : (w lengths : List ℕ) (c : Context) → answer w lengths ≡ Delivery c → OperandsFit c
 answer-fits w lengths c e = stands-fits lengths c (answer-stands w lengths c e)
@@ -103,12 +117,18 @@ pub standing-fits : (w lengths : List ℕ) (c r : Context) → Stands lengths c 
 standing-fits w lengths c r s e = stands-fits lengths r (standing-stands w lengths c r s e)
 
 -- demand 3 of the words, with no premise on operands
-pub answer-keeps : (w lengths : List ℕ) (c : Context) → length lengths ≡ 13 → answer w lengths ≡ Delivery c → WordsKeep lengths c
-answer-keeps w lengths c n e = delivery-keeps w lengths c n e (answer-fits w lengths c e)
+pub answer-keeps : (w lengths : List ℕ) (c : Context) → length lengths ≡ 13 → answer w lengths ≡ Delivery c → KeepsWithin (delivered lengths c) 0 (logsOf (c .functions))
+answer-keeps w lengths c n e =
+    subst (λ (p : Prior). KeepsWithin (delivered lengths c) (length (p .functions)) (logsOf (c .functions))) (answer-prior w lengths c e)
+    (delivery-keeps w lengths c n e (answer-fits w lengths c e))
 
 pub standing-answer-keeps : (w lengths : List ℕ) (c r : Context) → length lengths ≡ 13 → Stands lengths c → answerFrom c w lengths ≡ Delivery r
     → WordsKeep lengths r
 standing-answer-keeps w lengths c r n s e = standing-keeps c w lengths r n e (s .safe) (standing-fits w lengths c r s e)
+
+-- every function of a delivery has exactly one position for each instruction
+pub one-position-each : (w lengths : List ℕ) (c : Context) → answer w lengths ≡ Delivery c → OnePositionEach (c .functions)
+one-position-each w lengths c e = all-map (λ f s. s .0 .sized) (answer-stands w lengths c e .safe .parts .functions)
 
 -- the entries of each area are within what was lent
 stands-area : (lengths : List ℕ) (c : Context) → Stands lengths c → (area : ℕ) → length (getD (tablesOf c) area []) ≤ limitOf (limitsOf lengths) area

@@ -1,17 +1,19 @@
 -- The code of functions in areas 1 and 3: function j's entry names the first entry of its code, and from there its code stands. By induction over the
 -- functions, each with one position for each instruction. Assumes nothing.
 use Prim.Native.Nat.{ℕ, zero, suc, _+_, _*_, _/_, _%_, _^_, _≤_, _<_}
+use native.Mathlib.Nat.{zero-add, suc-add}
 use native.Mathlib.Omega.{arith}
-use mathlib.Core.Path.{_≡_, refl, ap, _∙_}
-use mathlib.Core.List.{List, [], _∷_}
+use mathlib.Core.Path.{_≡_, refl, sym, ap, _∙_, subst}
+use mathlib.Core.List.{List, [], _∷_, _++_, map}
 use lib.ListN.{length, getD, take}
-use Rattle.words.specs.Opcode.{Instruction, word}
+use Rattle.words.specs.Opcode.{Instruction, word, unword}
+use Rattle.words.proofs.Codes.{unword-word}
 use Rattle.definition.specs.FunctionState.{newFunctionState}
 use Rattle.definition.specs.Book.{Function, Context, codeOf}
-use Rattle.definition.specs.Program.{entriesFrom, codeEntries, functionCode, functionEntry, functionEntries}
-use Rattle.definition.specs.Within.{All, none, _&_, noLog, logOf, logsOf}
-use Rattle.definition.proofs.Safe.{at, Each}
-use Rattle.definition.proofs.Cells.{Wide, all-at, entries-wide, entries-length, entries-at, sum-inside}
+use Rattle.definition.specs.Program.{Entries, entriesFrom, codeEntries, functionCode, functionEntry, functionEntries}
+use Rattle.definition.specs.Within.{All, none, _&_, noLog, logOf, logsOf, Class, Position, Slot, Read, Pool, ContextSlot, Other, classOf}
+use Rattle.definition.proofs.Safe.{at, Each, Counts, counts, Within, LooseBy, Loose, FunctionSafe}
+use Rattle.definition.proofs.Cells.{Wide, all-at, entries-all, entries-wide, entries-length, entries-at, sum-inside}
 
 -- every operand has its 56 bits
 abbrev pub OperandsFit : Context → Type 0
@@ -38,6 +40,10 @@ code-wide [] ps = none
 code-wide (x ∷ xs) [] = none
 code-wide (x ∷ xs) (p ∷ ps) = refl & code-wide xs ps
 
+all-both : {A : Type 0} {P Q : A → Type 0} {l : List A} → All P l → All Q l → All (λ (x : A). P x × Q x) l
+all-both none none = none
+all-both (p & ps) (q & qs) = (p, q) & all-both ps qs
+
 -- where there is none
 abbrev pub noFunction : Function
 noFunction = record { state = newFunctionState; name = 0; file = 0 }
@@ -58,7 +64,7 @@ functionsCode-at {fs} ss j i h k =
     ∙ code-entry (functionAt fs j .state .instructions) (functionAt fs j .state .positions) i (all-at ss j noFunction h) k
 
 pub functionsCode-wide : (fs : List Function) → Wide 2 (entriesFrom functionCode 0 fs)
-functionsCode-wide fs = entries-wide functionCode 2 (λ j f. code-wide (f .state .instructions) (f .state .positions)) fs
+functionsCode-wide fs = entries-wide functionCode 2 0 (λ j f. code-wide (f .state .instructions) (f .state .positions)) fs
 
 -- area 3
 pub functions-length : (start : ℕ) (fs : List Function) → length (functionEntries start fs) ≡ length fs
@@ -87,3 +93,37 @@ pub logs-at : (fs : List Function) (j : ℕ) → j < length fs → getD (logsOf 
 logs-at [] j h = absurd (omega arith)
 logs-at (f ∷ fs) zero h = refl
 logs-at (f ∷ fs) (suc j) h = logs-at fs j (omega arith)
+
+pub logs-length : (fs : List Function) → length (logsOf fs) ≡ length fs
+logs-length [] = refl
+logs-length (f ∷ fs) = ap suc (logs-length fs)
+
+-- every entry of area 1 that functions give keeps the bounds by totals
+loose-of : (k : Class) (c : Counts) (i n : ℕ) → Within k c i n → LooseBy k (c .constants) (c .context) n
+loose-of Pool c i n h = h
+loose-of ContextSlot c i n h = h
+loose-of Position c i n h = tt
+loose-of Slot c i n h = tt
+loose-of Read c i n h = tt
+loose-of Other c i n h = tt
+
+abbrev EntryLoose : ℕ → ℕ → List ℕ → Type 0
+EntryLoose K C e = Loose K C (unword (getD e 0 0))
+
+entries-loose : (K C : ℕ) (xs : List Instruction) (ps : List ℕ) → ((i : ℕ) → i < length xs → Loose K C (at xs i) × (at xs i .operand < 2 ^ 56))
+    → All (EntryLoose K C) (codeEntries xs ps)
+entries-loose K C [] ps h = none
+entries-loose K C (x ∷ xs) [] h = none
+entries-loose K C (x ∷ xs) (p ∷ ps) h =
+    let (q, small) = h 0 (omega arith) in
+    subst (Loose K C) (sym (unword-word x small)) q & entries-loose K C xs ps (λ i k. h (suc i) (omega arith))
+
+pub code-loose : {K C : ℕ} {fs : List Function} → All (λ (f : Function). FunctionSafe K C (f .state)) fs
+    → All (λ (f : Function). Each (λ i x. x .operand < 2 ^ 56) (f .state .instructions)) fs → All (EntryLoose K C) (entriesFrom functionCode 0 fs)
+code-loose {K} {C} {fs} ss fit = entries-all functionCode (length fs) 0
+    (λ j (f : Function) h q. entries-loose K C (f .state .instructions) (f .state .positions)
+    (λ i k. (
+      loose-of (classOf (at (f .state .instructions) i .opcode)) (counts (length (f .state .instructions)) K C (f .state)) i
+          (at (f .state .instructions) i .operand) (q .0 .fits i k),
+      q .1 i k,
+    ))) (omega arith) (all-both ss fit)

@@ -34,13 +34,13 @@ use Rattle.definition.specs.Compiler.{compilePrefixExpression, compileIn
 use Rattle.definition.specs.Compiler.{compilePair, compileAssignName}
 use Rattle.definition.specs.Compiler.{compileThisExpression, compileIdentifierExpression, emitName, compileNullExpression, compileBooleanExpression}
 use Rattle.definition.specs.Compiler.{compileStringExpression, compileFloatExpression, compileIntegerExpression, emitGlobal, emitConstant}
-use Rattle.definition.specs.Within.{All, none, _&_, loopsOf, breaksOf, readTrace, Among, here, there, InLoop, Counts, Within, Fits, classOf}
-use Rattle.definition.proofs.Safe.{at, Each, Landed, Safe, countsOf}
+use Rattle.definition.specs.Within.{All, none, _&_, loopsOf, breaksOf, exitsOf, readTrace, Among, here, there, InLoop, classOf}
+use Rattle.definition.proofs.Safe.{at, Each, Landed, Safe, countsOf, Counts, Within, Fits}
 use Rattle.definition.proofs.Lists.{all-map, all-append, Kept, Fresh, kept-refl, kept-trans, fresh-ge, fresh-trans, kept-append, kept-set}
 use Rattle.definition.proofs.Lists.{kept-patch, kept-init, cond-case}
 use Rattle.definition.specs.Compiler.{compileFunctionDefinitionBase}
 use Rattle.definition.proofs.Moves
-use Rattle.definition.proofs.Moves.{code, errs, Moves, Moving, moves-refl, moves-trans, moves-function, emit-moves, set-moves, define-moves}
+use Rattle.definition.proofs.Moves.{code, errs, MovesBut, Moves, NoNext, Moving, moves-refl, moves-trans, moves-function, emit-moves, set-moves, define-moves}
 use Rattle.definition.proofs.Moves.{constant-moves, emit-constant-moves, operation-moves, if-moves, for-moves}
 use Rattle.definition.proofs.Sound.{InSome, own, farther, Sound, Solid, SoundSolid, Pending, Wider, fits-mono, sound-more, sound-emit, solid-emit}
 use Rattle.definition.proofs.Sound.{sound-null, sound-close, sound-return, sound-set, pending-apart, all-push, all-tail, sound-break, sound-exit}
@@ -170,9 +170,9 @@ module _ {a b : Step} (A : Compiles a) (B : Compiles b) where
       → GoodSolid (emit (toInstruction o n) p (b (a w)))
   both-then o n p f d w g e = good-emit (b (a w)) o n p (B .goes _ (A .goes w g (B .moves _ .errors e)) e) (f _ _) d
 
-  pub pair-yields : (o : ℕ) (t : Token) → ((d : Counts) (i : ℕ) → Within (classOf o) d i 0) → o ≢ 1 → Yields (compilePair o t a b)
+  pub pair-yields : (o : ℕ) (t : Token) → ((d : Counts) (i : ℕ) → Within (classOf o) d i 0) → o ≢ 1 → NoNext o → Yields (compilePair o t a b)
   unfolding compilePair
-  pair-yields o t f d = record { moves = Moves.pair-moves (A .moves) (B .moves) o t; gives = λ w g e. both-then o 0 _ f d w g e }
+  pair-yields o t f d s = record { moves = Moves.pair-moves (A .moves) (B .moves) o t s; gives = λ w g e. both-then o 0 _ f d w g e }
 
   pub operation-yields : (n : ℕ) (t : Token) → Yields (compileOperation n t a b)
   unfolding compileOperation
@@ -409,9 +409,9 @@ good-entered w g = good-function g (record {
     deep (inr q) = inr q
 
 -- an opcode over a local that was there at w
-slot-emit : {w v : Work} (o n p : ℕ) → ((d : Counts) (i n : ℕ) → n < d .locals → Within (classOf o) d i n) → o ≢ 1 → Moves w v → n < w .function .localCount
-    → Good v → GoodSolid (emit (toInstruction o n) p v)
-slot-emit {w} {v} o n p f d m h g = good-emit v o n p g (f _ _ _ (le-trans h (m .locals))) d
+slot-emit : {waiting : List ℕ} {w v : Work} (o n p : ℕ) → ((d : Counts) (i n : ℕ) → n < d .locals → Within (classOf o) d i n) → o ≢ 1
+    → MovesBut waiting w v → n < w .function .localCount → Good v → GoodSolid (emit (toInstruction o n) p v)
+slot-emit {w = w} {v = v} o n p f d m h g = good-emit v o n p g (f _ _ _ (le-trans h (m .locals))) d
 
 -- the enumerable a, the statements b
 pub for-compiles : {a b : Step} → Yields a → Compiles b → (t i : Token) → Compiles (compileForStatement t i a b)
@@ -441,19 +441,19 @@ for-compiles {a} {b} A B t i = record {
       let v₃ = emit (toInstruction Jump (next w₆)) (getLastPosition (v₂ .function)) v₂ in
       let v₄ = Compiler.replaceInstruction exit (toInstruction JumpIf (next v₃)) v₃ in
       let m₂ : Moves w₁ w₂ = A .moves w₁ in
-      let m₃ : Moves w₁ w₃ = moves-trans m₂ (moves-trans (emit-moves _ _ w₂) (emit-moves _ _ u₃)) in
-      let m₄ : Moves w₁ w₄ = moves-trans m₃ (emit-constant-moves PushConstant (constantOf 2 0) p (omega arith) w₃) in
-      let m₅ : Moves w₁ w₅ = moves-trans m₄ (moves-trans (emit-moves _ _ w₄) (emit-moves _ _ u₅)) in
+      let m₃ : Moves w₁ w₃ = moves-trans m₂ (moves-trans (emit-moves _ _ tt w₂) (emit-moves _ _ tt u₃)) in
+      let m₄ : Moves w₁ w₄ = moves-trans m₃ (emit-constant-moves PushConstant (constantOf 2 0) p (omega arith) tt w₃) in
+      let m₅ : Moves w₁ w₅ = moves-trans m₄ (moves-trans (emit-moves _ _ tt w₄) (emit-moves _ _ tt u₅)) in
       let m₆ : Moves w₁ w₆ = moves-trans m₅ (define-moves (i .value) w₅) in
-      let n₉ : Moves w₈ w₉ = moves-trans (emit-moves _ _ w₈) (emit-moves _ _ u₉) in
+      let n₉ : Moves w₈ w₉ = moves-trans (emit-moves _ _ tt w₈) (emit-moves _ _ tt u₉) in
       let n₁ : Moves w₈ v₁ = moves-trans n₉ (B .moves w₉) in
-      let n₂ : Moves w₇ v₂ = moves-trans (emit-moves _ _ w₇) (moves-trans n₁ (emit-moves _ _ v₁)) in
-      let n₃ : Moves w₈ v₃ = moves-trans n₁ (moves-trans (emit-moves _ _ v₁) (emit-moves _ _ v₂)) in
-      let o₁ : Moves w₁ v₁ = moves-trans m₆ (moves-trans (emit-moves _ _ w₆) (moves-trans (emit-moves _ _ w₇) n₁)) in
-      let o₃ : Moves w₁ v₃ = moves-trans o₁ (moves-trans (emit-moves _ _ v₁) (emit-moves _ _ v₂)) in
+      let n₂ : Moves w₇ v₂ = moves-trans (emit-moves _ _ tt w₇) (moves-trans n₁ (emit-moves _ _ tt v₁)) in
+      let n₃ : Moves w₈ v₃ = moves-trans n₁ (moves-trans (emit-moves _ _ tt v₁) (emit-moves _ _ tt v₂)) in
+      let o₁ : MovesBut (next w₆ ∷ []) w₁ v₁ = moves-trans m₆ (moves-trans (Moves.emit-next-moves _ _ w₆) (moves-trans (emit-moves _ _ tt w₇) n₁)) in
+      let o₃ : MovesBut (next w₆ ∷ []) w₁ v₃ = moves-trans o₁ (moves-trans (emit-moves _ _ tt v₁) (emit-moves _ _ tt v₂)) in
       let e₉ : errs w₉ ≡ [] = B .moves w₉ .errors e in
-      let e₂ : errs w₂ ≡ [] = moves-trans (emit-moves _ _ w₂) (moves-trans (emit-moves _ _ u₃)
-      (emit-constant-moves PushConstant (constantOf 2 0) p (omega arith) w₃)) .errors e₉ in
+      let e₂ : errs w₂ ≡ [] = moves-trans (emit-moves _ _ tt w₂) (moves-trans (emit-moves _ _ tt u₃)
+      (emit-constant-moves PushConstant (constantOf 2 0) p (omega arith) tt w₃)) .errors e₉ in
       let fit : (d : Counts) (i n : ℕ) → n < d .locals → n < d .locals = λ d i n q. q in
       let g₂ : GoodSolid w₂ = A .gives w₁ (good-entered w h) e₂ in
       let g₃ : Good w₃ = good-pop u₃ (slot-emit LocalSet x p fit (omega arith) m₂ (omega arith) (g₂ .good)) in
@@ -497,7 +497,7 @@ for-compiles {a} {b} A B t i = record {
 pub this-yields : (t : Token) → Yields (compileThisExpression t)
 unfolding compileThisExpression
 this-yields t = record {
-  moves = λ w. moves-function w _ (kept-append _ _) refl (le-refl _);
+  moves = Moves.this-moves t;
   gives = λ w g e.
       let f = w .function in
       let reads : List ℕ = f .thisReads ++ (length (f .instructions) ∷ []) in
@@ -543,26 +543,26 @@ this-yields t = record {
 
 constant-yields : (c : Constant) (p : ℕ) → c .kind < 5 → Yields (emitConstant PushConstant c p)
 constant-yields c p k = record {
-  moves = emit-constant-moves PushConstant c p k;
+  moves = emit-constant-moves PushConstant c p k tt;
   gives = λ w g e. emit-constant-good w PushConstant c p g (λ d i n q. q) (omega arith);
 }
 
 boolean-yields : (t : Token) → Yields (compileBooleanExpression t)
 unfolding compileBooleanExpression
 boolean-yields t = record {
-  moves = emit-moves _ _;
+  moves = emit-moves _ _ tt;
   gives = λ w g e. good-emit w PushConstant _ _ g
       (cond-case (λ n. n < length (w .context .constants)) (eqb (t .value) 1) (λ _. omega (arith, g .pool)) (λ _. omega (arith, g .pool))) (omega arith);
 }
 
 null-yields : (t : Token) → Yields (compileNullExpression t)
 unfolding compileNullExpression
-null-yields t = record { moves = emit-moves _ _; gives = λ w g e. good-emit w PushConstant 0 _ g (omega (arith, g .pool)) (omega arith) }
+null-yields t = record { moves = emit-moves _ _ tt; gives = λ w g e. good-emit w PushConstant 0 _ g (omega (arith, g .pool)) (omega arith) }
 
 read-yields : (t : Token) → Yields (compileIdentifierExpression t)
 unfolding compileIdentifierExpression
 read-yields t = record {
-  moves = Moves.name-moves _ _ _ _ _;
+  moves = Moves.name-moves _ _ _ _ _ tt tt tt;
   gives = λ w g e. name-good LocalGet ContextGet GlobalGet (t .value) (t .position) (λ d i n q. inl q) (λ d i n q. q) (λ d i n q. q) (omega arith)
       (omega arith) (omega arith) w g;
 }
@@ -570,7 +570,7 @@ read-yields t = record {
 write-yields : (t a : Token) → Yields (compileAssignName t a)
 unfolding compileAssignName
 write-yields t a = record {
-  moves = Moves.name-moves _ _ _ _ _;
+  moves = Moves.name-moves _ _ _ _ _ tt tt tt;
   gives = λ w g e. name-good LocalSet ContextSet GlobalSet (t .value) (a .position) (λ d i n q. q) (λ d i n q. q) (λ d i n q. q) (omega arith)
       (omega arith) (omega arith) w g;
 }
@@ -599,9 +599,9 @@ mutual
       (part-yields (statements-compile falsePart))
   expression-yields (Call t function parameters) = call-yields (yields→compiles (expression-yields function)) (expressions-compile parameters) _ _
   expression-yields (InstanceGet t instance index) = pair-yields (yields→compiles (expression-yields instance))
-      (yields→compiles (expression-yields index)) InstanceGetOp t (λ d i. tt) (omega arith)
+      (yields→compiles (expression-yields index)) InstanceGetOp t (λ d i. tt) (omega arith) tt
   expression-yields (IndexGet t instance index) = pair-yields (yields→compiles (expression-yields instance))
-      (yields→compiles (expression-yields index)) IndexGetOp t (λ d i. tt) (omega arith)
+      (yields→compiles (expression-yields index)) IndexGetOp t (λ d i. tt) (omega arith) tt
 
   pub target-yields : (e : Expression) (a : Token) → Yields (compileAssignExpressionLeftPart e a)
   target-yields (Identifier t) a = write-yields t a
@@ -618,9 +618,9 @@ mutual
   target-yields (IfElse condition truePart falsePart) a = error-yields _ _
   target-yields (Call t function parameters) a = error-yields _ _
   target-yields (InstanceGet t instance index) a = pair-yields (yields→compiles (expression-yields instance))
-      (yields→compiles (expression-yields index)) InstanceSet t (λ d i. tt) (omega arith)
+      (yields→compiles (expression-yields index)) InstanceSet t (λ d i. tt) (omega arith) tt
   target-yields (IndexGet t instance index) a = pair-yields (yields→compiles (expression-yields instance))
-      (yields→compiles (expression-yields index)) IndexSet t (λ d i. tt) (omega arith)
+      (yields→compiles (expression-yields index)) IndexSet t (λ d i. tt) (omega arith) tt
 
   pub expressions-compile : (es : Expressions) → Compiles (compileExpressions es)
   expressions-compile ∅ₑ = skip-compiles
@@ -651,7 +651,7 @@ good-parameters {w} b n g = good-fields (w .function .depth) b n g
 parameter-compiles : (t : Token) → Compiles (compileParameter t)
 unfolding compileParameter
 parameter-compiles t = record {
-  moves = λ w. moves-trans (moves-function w _ (kept-refl _) refl (le-refl _)) (Moves.bare-moves 7 t _);
+  moves = λ w. moves-trans (moves-function w _ (kept-refl _) refl (le-refl _) refl (λ i q. inl q)) (Moves.bare-moves 7 t _);
   goes = λ w g e. bare-compiles 7 t .goes _ (good-parameters _ _ g) e;
 }
 
@@ -689,14 +689,17 @@ good-new w r = record {
 nowhere : {b : ℕ} → InSome b [] → ⊥
 nowhere q = elim q [ ]
 
-pub safe-of-good : (w : Work) → Good w → w .function .breakScopes ≡ [] → Safe w
-safe-of-good w g c = record {
+pub safe-of-good : (w : Work) → Good w → w .function .breakScopes ≡ []
+    → ((i : ℕ) → Moves.Next (code w) i → Among (i + 1) (exitsOf (loopsOf (w .function .trace)))) → Safe w
+safe-of-good w g c n = record {
   sized = g .sound .sized;
   fits = fits-mono (code w)
       (record { tops = g .sound .low; slots = le-refl _; pools = le-refl _; globals = le-refl _; reads = λ i a. a }) (g .sound .fits);
   rescue = le-trans (g .sound .rescue) (g .sound .low);
   loops = g .sound .loops;
   breaks = all-map (λ b q. closed q) (g .sound .belongs);
+  closed = g .sound .traced ∙ c;
+  nexts = λ i h e. n i (h, e);
 }
   where
     closed : {b : ℕ} → InSome b (w .function .breakScopes) ⊎ InLoop b (loopsOf (w .function .trace)) → InLoop b (loopsOf (w .function .trace))
@@ -716,9 +719,19 @@ pub function-moves : (parameters : List Token) (body : Statements) (w : Work)
     → Moves (withFunction Emission.newFunctionState w) (compileFunctionDefinitionBase parameters body w)
 unfolding compileFunctionDefinitionBase
 function-moves ps body w = moves-trans (parameters-compile ps .moves _)
-    (moves-trans (moves-function _ _ (kept-refl _) refl (le-refl _)) (moves-trans (statements-compile body .moves _) (Moves.return-moves _ _)))
+    (moves-trans (moves-function _ _ (kept-refl _) refl (le-refl _) refl (λ i q. inl q)) (moves-trans (statements-compile body .moves _) (Moves.return-moves _ _)))
 
 -- demand 3 of one function
 pub function-safe : (parameters : List Token) (body : Statements) (w : Work) → Ready w → errs (compileFunctionDefinitionBase parameters body w) ≡ []
     → Safe (compileFunctionDefinitionBase parameters body w)
 function-safe ps body w r e = safe-of-good _ (function-good ps body w r e) (function-moves ps body w .breaks)
+    (λ i q. known i (function-moves ps body w .nexts i q))
+  where
+    v : Work
+    v = compileFunctionDefinitionBase ps body w
+
+    known : (i : ℕ) → (Moves.Next [] i ⊎ Among i []) ⊎ Among (i + 1) (exitsOf (loopsOf (v .function .trace)))
+        → Among (i + 1) (exitsOf (loopsOf (v .function .trace)))
+    known i (inl (inl q)) = absurd (let h : i < 0 = q .0 in omega arith)
+    known i (inl (inr q)) = absurd (elim q [ ])
+    known i (inr q) = q

@@ -1,4 +1,5 @@
 pub mod AllRows
+pub mod AllStandingRows
 pub mod Safe
 pub mod Lists
 pub mod Needed
@@ -8,8 +9,10 @@ pub mod Good
 pub mod Program
 pub mod Cells
 pub mod FunctionCode
+pub mod Tests
 pub mod Keeps
 pub mod Answer
+pub mod HeadIncludes
 pub mod Uses
 pub mod Limits
 pub mod Room
@@ -17,5 +20,9 @@ pub mod Operands
 pub mod Counts
 pub mod Tables
 pub mod Delivery
+pub mod Promise
 pub mod Scopes
 pub mod Steady
+pub mod WithinBench
+pub mod PromiseBench
+pub mod SharedOnce

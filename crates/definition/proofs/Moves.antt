@@ -3,7 +3,7 @@ use Prim.Native.Nat.{ℕ, zero, suc, _+_, _-_, _≤_, _<_}
 use native.Mathlib.Nat.{le-refl, le-trans}
 use native.Mathlib.Omega.{arith}
 use mathlib.Core.Path.{_≡_, refl, sym, ap, _∙_, subst}
-use mathlib.Core.Logic.{_≢_}
+use mathlib.Core.Logic.{_≢_, _⊎_, inl, inr}
 use mathlib.Core.Bool.{Bool, true, false, cond, not, _||_}
 use mathlib.Core.Option.{Option, none, some}
 use mathlib.Core.List.{List, [], _∷_, _++_, append-assoc, append-nil}
@@ -31,10 +31,11 @@ use Rattle.definition.specs.Compiler.{compilePrefixExpression, compileIn
 use Rattle.definition.specs.Compiler.{compilePair, compileAssignName}
 use Rattle.definition.specs.Compiler.{compileThisExpression, compileIdentifierExpression, emitName, compileNullExpression, compileBooleanExpression}
 use Rattle.definition.specs.Compiler.{compileStringExpression, compileFloatExpression, compileIntegerExpression, emitGlobal, emitConstant}
-use Rattle.definition.specs.Within.{All, none, _&_}
+use Rattle.definition.specs.Within.{All, none, _&_, Among, here, there, Loop, loopsOf, exitsOf, readTrace}
 use Rattle.definition.proofs.Safe.{at}
 use Rattle.definition.proofs.Lists.{all-map, all-append, Kept, Fresh, kept-refl, kept-trans, fresh-ge, fresh-trans, kept-append, kept-set}
-use Rattle.definition.proofs.Lists.{kept-patch, kept-init, cond-case}
+use Rattle.definition.proofs.Lists.{kept-patch, kept-init, cond-case, ne-of-test, each-snoc, each-set, each-patch, each-init}
+use Rattle.definition.proofs.Sound.{leave-closed}
 
 abbrev pub code : Work → List Instruction
 code w = w .function .instructions
@@ -42,7 +43,16 @@ code w = w .function .instructions
 abbrev pub errs : Work → List Error
 errs w = w .compiler .errors
 
-pub record Moves (w w′ : Work) : Type 0 where
+-- the exits of the loops that were left
+abbrev pub exits : Work → List ℕ
+exits w = exitsOf (loopsOf (w .function .trace))
+
+-- a ForNext
+abbrev pub Next : List Instruction → ℕ → Type 0
+Next l i = (i < length l) × (at l i .opcode ≡ ForNext)
+
+-- `waiting`: the ForNexts whose loops are not left yet
+pub record MovesBut (waiting : List ℕ) (w w′ : Work) : Type 0 where
   pub kept : Kept (code w) (code w′)
   pub pushed : List ℕ
   pub breaks : w′ .function .breakScopes ≡ pushBreaks pushed (w .function .breakScopes)
@@ -53,6 +63,12 @@ pub record Moves (w w′ : Work) : Type 0 where
   pub pool : w′ .context .constants ≡ w .context .constants ++ added
   pub plain : All (λ (c : Constant). c .kind < 5) added
   pub context : w′ .context .localCount ≡ w .context .localCount
+  pub left : (j : ℕ) → Among j (exits w) → Among j (exits w′)
+  -- a ForNext was there before, waits, or is that of a loop that was left
+  pub nexts : (i : ℕ) → Next (code w′) i → (Next (code w) i ⊎ Among i waiting) ⊎ Among (i + 1) (exits w′)
+
+abbrev pub Moves : Work → Work → Type 0
+Moves w w′ = MovesBut [] w w′
 
 push-nil : (bs : List (List ℕ)) → bs ≡ pushBreaks [] bs
 push-nil [] = refl
@@ -62,10 +78,11 @@ push-push : (p q : List ℕ) (bs : List (List ℕ)) → pushBreaks q (pushBreaks
 push-push p q [] = refl
 push-push p q (s ∷ ss) = ap {B = List (List ℕ)} (λ x. x ∷ ss) (append-assoc s p q)
 
-pub simply : {w w′ : Work} → Kept (code w) (code w′) → w′ .function .breakScopes ≡ w .function .breakScopes → (errs w′ ≡ [] → errs w ≡ [])
-    → w .function .localCount ≤ w′ .function .localCount → w′ .context .constants ≡ w .context .constants → w′ .context .localCount ≡ w .context .localCount
-    → Moves w w′
-simply {w} k b e l c x = record {
+pub simply : {waiting : List ℕ} {w w′ : Work} → Kept (code w) (code w′) → w′ .function .breakScopes ≡ w .function .breakScopes
+    → (errs w′ ≡ [] → errs w ≡ []) → w .function .localCount ≤ w′ .function .localCount → w′ .context .constants ≡ w .context .constants
+    → w′ .context .localCount ≡ w .context .localCount → w′ .function .trace ≡ w .function .trace
+    → ((i : ℕ) → Next (code w′) i → Next (code w) i ⊎ Among i waiting) → MovesBut waiting w w′
+simply {w = w} k b e l c x t n = record {
   kept = k;
   pushed = [];
   breaks = b ∙ push-nil (w .function .breakScopes);
@@ -76,13 +93,23 @@ simply {w} k b e l c x = record {
   pool = c ∙ sym (append-nil _);
   plain = none;
   context = x;
+  left = λ j q. subst (λ es. Among j (exitsOf (loopsOf es))) (sym t) q;
+  nexts = λ i q. inl (n i q);
 }
 
 pub moves-refl : (w : Work) → Moves w w
-moves-refl w = simply (kept-refl (code w)) refl (λ e. e) (le-refl _) refl refl
+moves-refl w = simply (kept-refl (code w)) refl (λ e. e) (le-refl _) refl refl refl (λ i q. inl q)
 
-pub moves-trans : {a b c : Work} → Moves a b → Moves b c → Moves a c
-moves-trans {a} {b} {c} m n = record {
+among-first : {i : ℕ} {p : List ℕ} (q : List ℕ) → Among i p → Among i (p ++ q)
+among-first q here = here
+among-first q (there a) = there (among-first q a)
+
+among-second : {i : ℕ} (p : List ℕ) {q : List ℕ} → Among i q → Among i (p ++ q)
+among-second [] a = a
+among-second (x ∷ p) a = there (among-second p a)
+
+pub moves-trans : {p q : List ℕ} {a b c : Work} → MovesBut p a b → MovesBut q b c → MovesBut (p ++ q) a c
+moves-trans {p} {q} {a} {b} {c} m n = record {
   kept = kept-trans (m .kept) (n .kept);
   pushed = m .pushed ++ n .pushed;
   breaks = n .breaks ∙ ap (pushBreaks (n .pushed)) (m .breaks) ∙ push-push (m .pushed) (n .pushed) (a .function .breakScopes);
@@ -93,21 +120,52 @@ moves-trans {a} {b} {c} m n = record {
   pool = n .pool ∙ ap (λ l. l ++ n .added) (m .pool) ∙ append-assoc (a .context .constants) (m .added) (n .added);
   plain = all-append (m .plain) (n .plain);
   context = n .context ∙ m .context;
+  left = λ j h. n .left j (m .left j h);
+  nexts = λ i h. second i (n .nexts i h);
 }
+  where
+    first′ : (i : ℕ) → (Next (code a) i ⊎ Among i p) ⊎ Among (i + 1) (exits b) → (Next (code a) i ⊎ Among i (p ++ q)) ⊎ Among (i + 1) (exits c)
+    first′ i (inl (inl h)) = inl (inl h)
+    first′ i (inl (inr h)) = inl (inr (among-first q h))
+    first′ i (inr h) = inr (n .left (i + 1) h)
+
+    second : (i : ℕ) → (Next (code b) i ⊎ Among i q) ⊎ Among (i + 1) (exits c) → (Next (code a) i ⊎ Among i (p ++ q)) ⊎ Among (i + 1) (exits c)
+    second i (inl (inl h)) = first′ i (m .nexts i h)
+    second i (inl (inr h)) = inl (inr (among-second p h))
+    second i (inr h) = inr h
 
 abbrev pub Moving : Step → Type 0
 Moving s = (w : Work) → Moves w (s w)
 
 -- a change of the function state alone
 pub moves-function : (w : Work) (f : FunctionState) → Kept (code w) (f .instructions) → f .breakScopes ≡ w .function .breakScopes
-    → w .function .localCount ≤ f .localCount → Moves w (withFunction f w)
-moves-function w f k b l = simply k b (λ e. e) l refl refl
+    → w .function .localCount ≤ f .localCount → f .trace ≡ w .function .trace → ((i : ℕ) → Next (f .instructions) i → Next (code w) i ⊎ Among i [])
+    → Moves w (withFunction f w)
+moves-function w f k b l t n = simply k b (λ e. e) l refl refl t n
 
-pub emit-moves : (i : Instruction) (p : ℕ) → Moving (emit i p)
-emit-moves i p w = moves-function w _ (kept-append (code w) (i ∷ [])) refl (le-refl _)
+-- an opcode that is no ForNext
+abbrev pub NoNext : ℕ → Type 0
+NoNext o = T (not (eqb o ForNext))
 
-pub set-moves : {w v : Work} {j : ℕ} (i : Instruction) → Moves w v → Fresh (code w) j → Moves w (Compiler.replaceInstruction j i v)
-set-moves i m f = record {
+no-next : {A : Type 0} {o : ℕ} → NoNext o → o ≡ ForNext → A
+no-next t e = absurd (ne-of-test t e)
+
+-- an instruction more
+emit-next : (l : List Instruction) (x : Instruction) → NoNext (x .opcode) → (i : ℕ) → Next (l ++ (x ∷ [])) i → Next l i ⊎ Among i []
+emit-next l x t i (h, e) = each-snoc (λ j (y : Instruction). y .opcode ≡ ForNext → Next l j ⊎ Among j []) l x (λ j q r. inl (q, r)) (λ r. no-next t r) i h e
+
+pub emit-moves : (i : Instruction) (p : ℕ) → NoNext (i .opcode) → Moving (emit i p)
+emit-moves i p t w = moves-function w _ (kept-append (code w) (i ∷ [])) refl (le-refl _) refl (emit-next (code w) i t)
+
+-- a ForNext, whose loop is still to be left
+pub emit-next-moves : (i : Instruction) (p : ℕ) (w : Work) → MovesBut (next w ∷ []) w (emit i p w)
+emit-next-moves i p w = simply (kept-append (code w) (i ∷ [])) refl (λ e. e) (le-refl _) refl refl refl
+    (λ j q. each-snoc (λ k (y : Instruction). y .opcode ≡ ForNext → Next (code w) k ⊎ Among k (next w ∷ [])) (code w) i (λ k r s. inl (r, s)) (λ r. inr here) j
+    (q .0) (q .1))
+
+pub set-moves : {p : List ℕ} {w v : Work} {j : ℕ} (i : Instruction) → NoNext (i .opcode) → MovesBut p w v → Fresh (code w) j
+    → MovesBut p w (Compiler.replaceInstruction j i v)
+set-moves {p} {w} {v} {j} i t m f = record {
   kept = kept-set i (m .kept) f;
   pushed = m .pushed;
   breaks = m .breaks;
@@ -118,6 +176,9 @@ set-moves i m f = record {
   pool = m .pool;
   plain = m .plain;
   context = m .context;
+  left = m .left;
+  nexts = λ k q. each-set (λ n (y : Instruction). y .opcode ≡ ForNext → (Next (code w) n ⊎ Among n p) ⊎ Among (n + 1) (exits v)) (code v) j i
+      (λ n r s. m .nexts n (r, s)) (λ r. no-next t r) k (q .0) (q .1);
 }
 
 append-not-nil : {A : Type 0} (l : List A) (a : A) → l ++ (a ∷ []) ≡ [] → l ≡ []
@@ -125,7 +186,7 @@ append-not-nil [] a e = refl
 append-not-nil (x ∷ l) a e = cc
 
 pub error-moves : (n : ℕ) (t : Token) → Moving (pushError n t)
-error-moves n t w = simply (kept-refl (code w)) refl (λ e. append-not-nil (errs w) _ e) (le-refl _) refl refl
+error-moves n t w = simply (kept-refl (code w)) refl (λ e. append-not-nil (errs w) _ e) (le-refl _) refl refl refl (λ i q. inl q)
 
 -- function_state.rs
 
@@ -169,18 +230,37 @@ return-same p f = cond-case (λ (g : FunctionState). SameButCode f g) (eqb (last
       this = close-same f .this;
     })
 
+close-next : (f : FunctionState) (i : ℕ) → Next (removePopOrPushNull f .instructions) i → Next (f .instructions) i ⊎ Among i []
+unfolding removePopOrPushNull
+close-next f = cond-case (λ (g : FunctionState). (i : ℕ) → Next (g .instructions) i → Next (f .instructions) i ⊎ Among i []) (eqb (lastOpcode f) Pop)
+    (λ t i q. each-init (λ j (y : Instruction). y .opcode ≡ ForNext → Next (f .instructions) j ⊎ Among j []) (f .instructions) (λ j r s. inl (r, s)) i (q .0) (q .1))
+    (λ t. cond-case (λ (g : FunctionState). (i : ℕ) → Next (g .instructions) i → Next (f .instructions) i ⊎ Among i []) (eqb (lastOpcode f) ReturnOp)
+    (λ s. (λ i q. inl q)) (λ s. emit-next (f .instructions) _ tt))
+
+return-next : (p : ℕ) (f : FunctionState) (i : ℕ) → Next (emitReturn p f .instructions) i → Next (f .instructions) i ⊎ Among i []
+unfolding emitReturn
+return-next p f = cond-case (λ (g : FunctionState). (i : ℕ) → Next (g .instructions) i → Next (f .instructions) i ⊎ Among i [])
+    (eqb (lastOpcode (removePopOrPushNull f)) ReturnOp) (λ t. close-next f)
+    (λ t i q. go i (emit-next (removePopOrPushNull f .instructions) (toInstruction ReturnOp 0) tt i q))
+  where
+    go : (i : ℕ) → Next (removePopOrPushNull f .instructions) i ⊎ Among i [] → Next (f .instructions) i ⊎ Among i []
+    go i (inl q) = close-next f i q
+    go i (inr q) = inr q
+
 pub close-moves : Moving (doing removePopOrPushNull)
 close-moves w = moves-function w _ (close-kept (w .function)) (close-same (w .function) .breaks) (omega (arith, close-same (w .function) .locals))
+    (close-same (w .function) .trace) (close-next (w .function))
 
 pub return-moves : (p : ℕ) → Moving (doing (emitReturn p))
 return-moves p w = moves-function w _ (return-kept p (w .function)) (return-same p (w .function) .breaks) (omega (arith, return-same p (w .function) .locals))
+    (return-same p (w .function) .trace) (return-next p (w .function))
 
 pub break-moves : (p : ℕ) → Moving (doing (emitBreak p))
 unfolding emitBreak
 break-moves p w = go (w .function .breakScopes) refl
   where
     go : (bs : List (List ℕ)) → w .function .breakScopes ≡ bs → Moves w (withFunction (Emission.emitBreakIn bs p (w .function)) w)
-    go [] e = moves-function w _ (kept-refl _) refl (le-refl _)
+    go [] e = moves-function w _ (kept-refl _) refl (le-refl _) refl (λ i q. inl q)
     go (s ∷ ss) e = record {
       kept = kept-append (code w) _;
       pushed = next w ∷ [];
@@ -192,22 +272,27 @@ break-moves p w = go (w .function .breakScopes) refl
       pool = sym (append-nil _);
       plain = none;
       context = refl;
+      left = λ j q. q;
+      nexts = λ i q. inl (emit-next (code w) (toInstruction Jump 0) tt i q);
     }
 
 -- compiler.rs: leaves
 
 pub define-same : (n : ℕ) (f : FunctionState) → (defineLocal n f .state .breakScopes ≡ f .breakScopes)
     × (f .localCount ≤ defineLocal n f .state .localCount) × (defineLocal n f .state .instructions ≡ f .instructions)
+    × (defineLocal n f .state .trace ≡ f .trace)
 unfolding defineLocal
 define-same n f = go (findName n (innermost (f .scopes)))
   where
     go : (o : Option ℕ) → (Emission.defineLocalBy o n f .state .breakScopes ≡ f .breakScopes)
         × (f .localCount ≤ Emission.defineLocalBy o n f .state .localCount) × (Emission.defineLocalBy o n f .state .instructions ≡ f .instructions)
-    go none = (refl, omega arith, refl)
-    go (some i) = (refl, omega arith, refl)
+        × (Emission.defineLocalBy o n f .state .trace ≡ f .trace)
+    go none = (refl, omega arith, refl, refl)
+    go (some i) = (refl, omega arith, refl, refl)
 
 pub define-moves : (n : ℕ) (w : Work) → Moves w (withFunction (defineLocal n (w .function) .state) w)
 define-moves n w = moves-function w _ (rw (define-same n (w .function) .2) (kept-refl _)) (define-same n (w .function) .0) (define-same n (w .function) .1)
+    (define-same n (w .function) .3) (λ i q. inl (subst (λ (l : List Instruction). Next l i) (define-same n (w .function) .2) q))
 
 pub constant-moves : (c : Constant) → c .kind < 5 → (w : Work) → Moves w (addConstant c w .work)
 unfolding addConstant
@@ -225,34 +310,36 @@ constant-moves c k w = cond-case (λ (a : Added). Moves w (a .work)) (isShared (
       pool = refl;
       plain = k & none;
       context = refl;
+      left = λ j q. q;
+      nexts = λ i q. inl (inl q);
     }
 
     go : (o : Option ℕ) → Moves w (Compiler.addConstantBy o c w .work)
     go none = plain
     go (some i) = moves-refl w
 
-pub emit-constant-moves : (o : ℕ) (c : Constant) (p : ℕ) → c .kind < 5 → Moving (emitConstant o c p)
+pub emit-constant-moves : (o : ℕ) (c : Constant) (p : ℕ) → c .kind < 5 → NoNext o → Moving (emitConstant o c p)
 unfolding emitConstant
-emit-constant-moves o c p k w = moves-trans (constant-moves c k w) (emit-moves _ p _)
+emit-constant-moves o c p k t w = moves-trans (constant-moves c k w) (emit-moves _ p t _)
 
 mark-moves : (i : ℕ) → Moving (Compiler.markGlobal i)
-mark-moves i w = simply (kept-refl _) refl (λ e. e) (le-refl _) refl refl
+mark-moves i w = simply (kept-refl _) refl (λ e. e) (le-refl _) refl refl refl (λ i q. inl q)
 
-pub emit-global-moves : (o n p : ℕ) → Moving (emitGlobal o n p)
+pub emit-global-moves : (o n p : ℕ) → NoNext o → Moving (emitGlobal o n p)
 unfolding emitGlobal
-emit-global-moves o n p w = moves-trans (constant-moves (constantOf 4 n) (omega arith) w) (moves-trans (mark-moves _ _) (emit-moves _ p _))
+emit-global-moves o n p t w = moves-trans (constant-moves (constantOf 4 n) (omega arith) w) (moves-trans (mark-moves _ _) (emit-moves _ p t _))
 
-pub name-moves : (l c g n p : ℕ) → Moving (emitName l c g n p)
+pub name-moves : (l c g n p : ℕ) → NoNext l → NoNext c → NoNext g → Moving (emitName l c g n p)
 unfolding emitName
-name-moves l c g n p w = go (Emission.findLocal n (w .function))
+name-moves l c g n p tl tc tg w = go (Emission.findLocal n (w .function))
   where
     inner : (o : Option ℕ) → Moves w (Compiler.emitNameInContext o c g n p w)
-    inner none = emit-global-moves g n p w
-    inner (some i) = emit-moves _ p w
+    inner none = emit-global-moves g n p tg w
+    inner (some i) = emit-moves _ p tc w
 
     go : (o : Option ℕ) → Moves w (Compiler.emitNameBy o l c g n p w)
     go none = inner (findName n (w .compiler .locals))
-    go (some i) = emit-moves _ p w
+    go (some i) = emit-moves _ p tl w
 
 -- compiler.rs: compounds
 
@@ -261,9 +348,9 @@ module _ {a b : Step} (A : Moving a) (B : Moving b) where
   unfolding andThen
   then-moves w = moves-trans (A w) (B _)
 
-  pub pair-moves : (o : ℕ) (t : Token) → Moving (compilePair o t a b)
+  pub pair-moves : (o : ℕ) (t : Token) → NoNext o → Moving (compilePair o t a b)
   unfolding compilePair
-  pair-moves o t w = moves-trans (A w) (moves-trans (B _) (emit-moves _ _ _))
+  pair-moves o t s w = moves-trans (A w) (moves-trans (B _) (emit-moves _ _ s _))
 
   pub assign-moves : Moving (compileAssignExpression a b)
   unfolding compileAssignExpression
@@ -271,34 +358,34 @@ module _ {a b : Step} (A : Moving a) (B : Moving b) where
 
   pub operation-moves : (n : ℕ) (t : Token) → Moving (compileOperation n t a b)
   unfolding compileOperation
-  operation-moves n t w = moves-trans (A w) (moves-trans (B _) (emit-moves _ _ _))
+  operation-moves n t w = moves-trans (A w) (moves-trans (B _) (emit-moves _ _ tt _))
 
   pub call-moves : (t : Token) (n : ℕ) → Moving (compileCallExpression t n a b)
   unfolding compileCallExpression
-  call-moves t n w = moves-trans (A w) (moves-trans (B _) (emit-moves _ _ _))
+  call-moves t n w = moves-trans (A w) (moves-trans (B _) (emit-moves _ _ tt _))
 
 module _ {a : Step} (A : Moving a) where
   pub array-moves : (t : Token) (n : ℕ) → Moving (compileArrayExpression t n a)
   unfolding compileArrayExpression
-  array-moves t n w = moves-trans (A w) (emit-moves _ _ _)
+  array-moves t n w = moves-trans (A w) (emit-moves _ _ tt _)
 
   pub prefix-moves : (t : Token) → Moving (compilePrefixExpression t a)
   unfolding compilePrefixExpression
-  prefix-moves t w = moves-trans (A w) (cond-case (Moves (a w)) (eqb (t .value) 0) (λ h. emit-moves _ _ _)
-      (λ h. cond-case (Moves (a w)) (eqb (t .value) 1) (λ k. emit-moves _ _ _) (λ k. error-moves 3 t _)))
+  prefix-moves t w = moves-trans (A w) (cond-case (Moves (a w)) (eqb (t .value) 0) (λ h. emit-moves _ _ tt _)
+      (λ h. cond-case (Moves (a w)) (eqb (t .value) 1) (λ k. emit-moves _ _ tt _) (λ k. error-moves 3 t _)))
 
   pub part-moves : Moving (compilePart a)
   unfolding compilePart
-  part-moves w = moves-trans (moves-function w _ (kept-refl _) refl (le-refl _))
-      (moves-trans (A _) (moves-trans (moves-function _ _ (kept-refl _) refl (le-refl _)) (close-moves _)))
+  part-moves w = moves-trans (moves-function w _ (kept-refl _) refl (le-refl _) refl (λ i q. inl q))
+      (moves-trans (A _) (moves-trans (moves-function _ _ (kept-refl _) refl (le-refl _) refl (λ i q. inl q)) (close-moves _)))
 
   pub deeper-moves : Moving (deeper a)
   unfolding deeper
-  deeper-moves w = moves-trans (moves-function w _ (kept-refl _) refl (le-refl _)) (moves-trans (A _) (moves-function _ _ (kept-refl _) refl (le-refl _)))
+  deeper-moves w = moves-trans (moves-function w _ (kept-refl _) refl (le-refl _) refl (λ i q. inl q)) (moves-trans (A _) (moves-function _ _ (kept-refl _) refl (le-refl _) refl (λ i q. inl q)))
 
   pub expression-statement-moves : Moving (compileExpressionStatement a)
   unfolding compileExpressionStatement
-  expression-statement-moves w = moves-trans (A w) (emit-moves _ _ _)
+  expression-statement-moves w = moves-trans (A w) (emit-moves _ _ tt _)
 
   pub valued-moves : (t : Token) → Moving (compileValued t a)
   unfolding compileValued
@@ -306,7 +393,7 @@ module _ {a : Step} (A : Moving a) where
     where
       go : (o : Option ℕ) (v : Work) → Moves v (Compiler.valuedBy o t a v)
       go none v = error-moves 1 t v
-      go (some i) v = moves-trans (A v) (emit-moves _ _ _)
+      go (some i) v = moves-trans (A v) (emit-moves _ _ tt _)
 
 pub bare-moves : (n : ℕ) (t : Token) → Moving (compileBare n t)
 unfolding compileBare
@@ -318,7 +405,7 @@ bare-moves n t w = moves-trans (define-moves (t .value) w) (go (defineLocal (t .
 
 pub no-part-moves : Moving compileNoPart
 unfolding compileNoPart
-no-part-moves w = emit-moves _ _ w
+no-part-moves w = emit-moves _ _ tt w
 
 pub skip-moves : Moving skip
 unfolding skip
@@ -328,7 +415,7 @@ pub rescue-moves : (t : Token) → Moving (compileRescue t)
 unfolding compileRescue
 rescue-moves t w = cond-case (Moves w) (ltb 1 (w .function .depth)) (λ h. error-moves 4 t w)
     (λ h. moves-function w _ (return-kept _ (w .function)) (return-same _ (w .function) .breaks)
-    (omega (arith, return-same (t .position) (w .function) .locals)))
+    (omega (arith, return-same (t .position) (w .function) .locals)) (return-same _ (w .function) .trace) (return-next _ (w .function)))
 
 module _ {l r g : Step} (L : Moving l) (R : Moving r) (G : Moving g) where
   pub infix-moves : (t : Token) → Moving (compileInfixExpression t l r g)
@@ -338,7 +425,7 @@ module _ {l r g : Step} (L : Moving l) (R : Moving r) (G : Moving g) where
       go : (k : InfixKind) → Moves w (compileInfixBy k t l r g w)
       go Assigning = assign-moves R G w
       go (Plain n) = operation-moves L R n t w
-      go (Negated n) = moves-trans (operation-moves L R n t w) (emit-moves _ _ _)
+      go (Negated n) = moves-trans (operation-moves L R n t w) (emit-moves _ _ tt _)
       go (Compound n) = moves-trans (operation-moves L R n t w) (G _)
       go Unknown = error-moves 3 t w
 
@@ -349,9 +436,9 @@ module _ {l r g : Step} (L : Moving l) (R : Moving r) (G : Moving g) where
       let w₁ = l w in
       let w₂ = Compiler.emitOpcodeWithoutPosition JumpIf w₁ in
       let w₃ = g w₂ in
-      let m₃ : Moves w₁ w₃ = moves-trans (emit-moves _ _ w₁) (G w₂) in
-      let m₄ : Moves w₁ (Compiler.emitOpcodeWithoutPosition Jump w₃) = moves-trans m₃ (emit-moves _ _ w₃) in
-      moves-trans (L w) (set-moves _ (moves-trans (set-moves _ m₄ (fresh-ge (le-refl _))) (R _)) (fresh-trans (m₃ .kept) (fresh-ge (le-refl _))))
+      let m₃ : Moves w₁ w₃ = moves-trans (emit-moves _ _ tt w₁) (G w₂) in
+      let m₄ : Moves w₁ (Compiler.emitOpcodeWithoutPosition Jump w₃) = moves-trans m₃ (emit-moves _ _ tt w₃) in
+      moves-trans (L w) (set-moves _ tt (moves-trans (set-moves _ tt m₄ (fresh-ge (le-refl _))) (R _)) (fresh-trans (m₃ .kept) (fresh-ge (le-refl _))))
 
 module _ {a b : Step} (A : Moving a) (B : Moving b) where
   -- the enumerable a, the statements b
@@ -370,19 +457,19 @@ module _ {a b : Step} (A : Moving a) (B : Moving b) where
       let w₇ = emit (toInstruction ForNext enumerableIndex) (t .position) w₆ in
       let w₈ = Compiler.emitOpcodeWithoutPosition JumpIf w₇ in
       let w₉ = Compiler.emitOpcodeWithoutPosition Pop (emit (toInstruction LocalSet (getOr 0 (d .found))) (i .position) w₈) in
-      let m₃ : Moves w₁ w₃ = moves-trans (A w₁) (moves-trans (emit-moves _ _ _) (emit-moves _ _ _)) in
-      let m₅ : Moves w₁ w₅ = moves-trans m₃ (moves-trans (emit-constant-moves PushConstant (constantOf 2 0) (t .position) (omega arith) w₃)
-      (moves-trans (emit-moves _ _ _) (emit-moves _ _ _))) in
-      let m₇ : Moves w₁ w₇ = moves-trans m₅ (moves-trans (define-moves (i .value) w₅) (emit-moves _ _ _)) in
-      let m₉ : Moves w₁ w₉ = moves-trans m₇ (moves-trans (emit-moves _ _ _) (moves-trans (emit-moves _ _ _) (emit-moves _ _ _))) in
+      let m₃ : Moves w₁ w₃ = moves-trans (A w₁) (moves-trans (emit-moves _ _ tt _) (emit-moves _ _ tt _)) in
+      let m₅ : Moves w₁ w₅ = moves-trans m₃ (moves-trans (emit-constant-moves PushConstant (constantOf 2 0) (t .position) (omega arith) tt w₃)
+      (moves-trans (emit-moves _ _ tt _) (emit-moves _ _ tt _))) in
+      let m₇ : MovesBut (next w₆ ∷ []) w₁ w₇ = moves-trans m₅ (moves-trans (define-moves (i .value) w₅) (emit-next-moves _ _ w₆)) in
+      let m₉ : MovesBut (next w₆ ∷ []) w₁ w₉ = moves-trans m₇ (moves-trans (emit-moves _ _ tt _) (moves-trans (emit-moves _ _ tt _) (emit-moves _ _ tt _))) in
       let n₁ = moves-trans m₉ (B w₉) in
-      let n₃ = moves-trans n₁ (moves-trans (emit-moves (toInstruction Iterate iteratorIndex) _ _) (emit-moves (toInstruction Jump (next w₆)) _ _)) in
-      finish w _ (next w₇) n₃ (fresh-trans (m₇ .kept) (fresh-ge (le-refl _)))
+      let n₃ = moves-trans n₁ (moves-trans (emit-moves (toInstruction Iterate iteratorIndex) _ tt _) (emit-moves (toInstruction Jump (next w₆)) _ tt _)) in
+      finish w _ (next w₆) (next w₇) (length-append (code w₆) _) n₃ (fresh-trans (m₇ .kept) (fresh-ge (le-refl _)))
     where
-      finish : (w v : Work) (exit : ℕ) → Moves (doing (λ f. Emission.enterBreakScope
+      finish : (w v : Work) (start exit : ℕ) → exit ≡ start + 1 → MovesBut (start ∷ []) (doing (λ f. Emission.enterBreakScope
           (Emission.enterScope (Emission.defineAnonymousLocal (Emission.defineAnonymousLocal f)))) w) v → Fresh (code w) exit
           → Moves w (doing Emission.exitScope (doing (exitBreakScope exit) (Compiler.replaceInstruction exit (toInstruction JumpIf (next v)) v)))
-      finish w v exit m f = record {
+      finish w v start exit one m f = record {
         kept = kept-patch (innermost (v .function .breakScopes)) _ (kept-set _ (m .kept) f)
             (subst (All (Fresh (code w))) (sym (ap innermost (m .breaks))) (m .new));
         pushed = [];
@@ -394,11 +481,37 @@ module _ {a b : Step} (A : Moving a) (B : Moving b) where
         pool = m .pool;
         plain = m .plain;
         context = m .context;
+        left = λ j q. subst (Among j) (sym more) (among-first (exit ∷ []) (m .left j q));
+        nexts = λ k q.
+            let was = each-patch P (innermost (v .function .breakScopes)) (length (set (code v) exit (toInstruction JumpIf (next v))))
+            (set (code v) exit (toInstruction JumpIf (next v))) (λ n e. absurd (omega arith))
+            (each-set P (code v) exit (toInstruction JumpIf (next v)) (λ n r s. known n (m .nexts n (r, s))) (λ e. absurd (omega arith))) k (q .0) (q .1) in
+            subst (λ es. (Next (code w) k ⊎ Among k []) ⊎ Among (k + 1) es) (sym more) was;
       }
+        where
+          P : ℕ → Instruction → Type 0
+          P n y = y .opcode ≡ ForNext → (Next (code w) n ⊎ Among n []) ⊎ Among (n + 1) (exits v ++ (exit ∷ []))
+
+          exits-append : (es fs : List Loop) → exitsOf (es ++ fs) ≡ exitsOf es ++ exitsOf fs
+          exits-append [] fs = refl
+          exits-append (e ∷ es) fs = ap (λ l. e .exit ∷ l) (exits-append es fs)
+
+          more : exits (doing Emission.exitScope (doing (exitBreakScope exit) (Compiler.replaceInstruction exit (toInstruction JumpIf (next v)) v)))
+              ≡ exits v ++ (exit ∷ [])
+          more = ap exitsOf (leave-closed exit _ (readTrace (v .function .trace) .open′) (loopsOf (v .function .trace)))
+              ∙ exits-append (loopsOf (v .function .trace)) _
+
+          -- the loop's own ForNext stands before its exit
+          known : (n : ℕ) → (Next (code w) n ⊎ Among n (start ∷ [])) ⊎ Among (n + 1) (exits v)
+              → (Next (code w) n ⊎ Among n []) ⊎ Among (n + 1) (exits v ++ (exit ∷ []))
+          known n (inl (inl h)) = inl (inl h)
+          known n (inl (inr here)) = inr (subst (λ x. Among x (exits v ++ (exit ∷ []))) one (among-second (exits v) here))
+          known n (inl (inr (there q))) = elim q [ ]
+          known n (inr h) = inr (among-first (exit ∷ []) h)
 
 pub this-moves : (t : Token) → Moving (compileThisExpression t)
 unfolding compileThisExpression
-this-moves t w = moves-function w _ (kept-append _ _) refl (le-refl _)
+this-moves t w = moves-function w _ (kept-append _ _) refl (le-refl _) refl (emit-next (code w) (toInstruction LocalGet 0) tt)
 
 -- every piece moves
 
@@ -407,13 +520,13 @@ mutual
       compileBooleanExpression compileAssignName
 
   pub expression-moves : (e : Expression) → Moving (compileExpression e)
-  expression-moves (Identifier t) = name-moves _ _ _ _ _
+  expression-moves (Identifier t) = name-moves _ _ _ _ _ tt tt tt
   expression-moves (This t) = this-moves t
-  expression-moves (Null t) = emit-moves _ _
-  expression-moves (Integer t) = emit-constant-moves _ _ _ (omega arith)
-  expression-moves (Float t) = emit-constant-moves _ _ _ (omega arith)
-  expression-moves (Text t) = emit-constant-moves _ _ _ (omega arith)
-  expression-moves (Boolean t) = emit-moves _ _
+  expression-moves (Null t) = emit-moves _ _ tt
+  expression-moves (Integer t) = emit-constant-moves _ _ _ (omega arith) tt
+  expression-moves (Float t) = emit-constant-moves _ _ _ (omega arith) tt
+  expression-moves (Text t) = emit-constant-moves _ _ _ (omega arith) tt
+  expression-moves (Boolean t) = emit-moves _ _ tt
   expression-moves (Array t values) = array-moves (expressions-moves values) _ _
   expression-moves (Prefix t right) = prefix-moves (expression-moves right) t
   expression-moves (Infix left t right) = infix-moves (expression-moves left) (expression-moves right) (target-moves left t) t
@@ -421,11 +534,11 @@ mutual
   expression-moves (IfElse condition truePart falsePart) = if-moves (expression-moves condition) (part-moves (statements-moves truePart))
       (part-moves (statements-moves falsePart))
   expression-moves (Call t function parameters) = call-moves (expression-moves function) (expressions-moves parameters) _ _
-  expression-moves (InstanceGet t instance index) = pair-moves (expression-moves instance) (expression-moves index) _ _
-  expression-moves (IndexGet t instance index) = pair-moves (expression-moves instance) (expression-moves index) _ _
+  expression-moves (InstanceGet t instance index) = pair-moves (expression-moves instance) (expression-moves index) _ _ tt
+  expression-moves (IndexGet t instance index) = pair-moves (expression-moves instance) (expression-moves index) _ _ tt
 
   pub target-moves : (e : Expression) (a : Token) → Moving (compileAssignExpressionLeftPart e a)
-  target-moves (Identifier t) a = name-moves _ _ _ _ _
+  target-moves (Identifier t) a = name-moves _ _ _ _ _ tt tt tt
   target-moves (This t) a = error-moves _ _
   target-moves (Null t) a = error-moves _ _
   target-moves (Integer t) a = error-moves _ _
@@ -438,8 +551,8 @@ mutual
   target-moves (If condition truePart) a = error-moves _ _
   target-moves (IfElse condition truePart falsePart) a = error-moves _ _
   target-moves (Call t function parameters) a = error-moves _ _
-  target-moves (InstanceGet t instance index) a = pair-moves (expression-moves instance) (expression-moves index) _ _
-  target-moves (IndexGet t instance index) a = pair-moves (expression-moves instance) (expression-moves index) _ _
+  target-moves (InstanceGet t instance index) a = pair-moves (expression-moves instance) (expression-moves index) _ _ tt
+  target-moves (IndexGet t instance index) a = pair-moves (expression-moves instance) (expression-moves index) _ _ tt
 
   pub expressions-moves : (es : Expressions) → Moving (compileExpressions es)
   expressions-moves ∅ₑ = skip-moves

@@ -31,7 +31,7 @@ use Rattle.definition.specs.Compiler.{compileInfixExpression, compileInf
 use Rattle.definition.specs.Compiler.{compileAssignName, compileFunctionDefinitionBase, compileThisExpression, compileIdentifierExpression}
 use Rattle.definition.specs.Compiler.{emitName, compileNullExpression, compileBooleanExpression, compileStringExpression}
 use Rattle.definition.specs.Compiler.{compileFloatExpression, compileIntegerExpression, emitGlobal, emitConstant, compileParameter}
-use Rattle.definition.specs.Within.{All, none, _&_, Class, Position, Slot, Read, Pool, Global, Other, classOf}
+use Rattle.definition.specs.Within.{All, none, _&_, Class, Position, Slot, Read, Pool, ContextSlot, Other, classOf}
 use Rattle.definition.proofs.Lists.{all-append, all-set, all-take, all-patch, cond-case}
 use Rattle.definition.proofs.Uses.{Later, Noted, later-same, later-more, noted-here, noted-more}
 use Rattle.definition.proofs.Room.{room, room-deeper, room-two, room-more, room-beside, get-once, get-twice}
@@ -44,7 +44,7 @@ SmallBy Position B n = Unit {0}
 SmallBy Slot B n = Unit {0}
 SmallBy Read B n = Unit {0}
 SmallBy Pool B n = Unit {0}
-SmallBy Global B n = Unit {0}
+SmallBy ContextSlot B n = Unit {0}
 SmallBy Other B n = n ≤ B
 
 abbrev pub Small : ℕ → Instruction → Type 0

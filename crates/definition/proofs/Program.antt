@@ -14,13 +14,16 @@ use Rattle.words.specs.Ast.{Token, Statements}
 use Rattle.definition.specs.FunctionState.{Entry, FunctionState, newFunctionState, findName}
 use Rattle.definition.specs.Compiler
 use Rattle.definition.specs.Uses.{Use}
+use Rattle.words.specs.Areas.{startWord}
 use Rattle.words.specs.Object.{Constant, constantOf, isShared}
+use Rattle.words.specs.Opcode.{unword}
 use Rattle.definition.specs.Compiler.{Error, CompilerContext, Work, addConstant, addConstantNoCheck, Added, findConstant}
 use Rattle.definition.specs.Compiler.{compileFunctionDefinitionBase}
 use Rattle.definition.specs.Book
 use Rattle.words.specs.Ast.{Binding, Alias, FunctionDefinition, Definition, LocalDefinition, IncludeDefinition, ModelDefinition, PublicModelDefinition}
 use Rattle.words.specs.Ast.{PlainFunction, PublicFunction, ImplementDefinition, ApplyDefinition, Document}
-use Rattle.definition.specs.Book.{Function, Model, Method, Assembly, Context}
+use Rattle.definition.specs.Prior.{Entries, Prior, bookIndex, hasKey, findPublic}
+use Rattle.definition.specs.Book.{Function, Model, Method, Assembly, Context, functionCount, modelCount, bookCount, includedFrom, includedName}
 use Rattle.definition.specs.Book.{Deed, working, resumed, Placed, addBookConstant, MaybePlaced, defineContextLocal, defineContextLocalBy}
 use Rattle.definition.specs.Book.{setLocalValue, findAssembly, publicOf, giveValue, compileAlias, compileIncludeDefinition, Value, Standing, Adding}
 use Rattle.definition.specs.Book.{NoConstant, valueOf, compileValue, compileBindingBy, compileBinding, compileLocalDefinition}
@@ -32,10 +35,11 @@ use Rattle.definition.specs.Book.{compileMethods, compileImplementDefini
 use Rattle.definition.specs.Book.{compileDefinitions, opened, compileDocument, pushBookError, newContext}
 use Rattle.words.specs.Areas.{propertiesArea}
 use Rattle.definition.specs.DependencySolver.{Worked, Delivered, ready, without, afterBook, driveBy, drive, compileNeeded}
-use Rattle.definition.specs.Within.{All, none, _&_, Fits, EntryWithin}
-use Rattle.definition.proofs.Safe.{FunctionSafe, Named, Parts, PartsOf, ProgramSafe}
+use Rattle.definition.specs.Within.{All, none, _&_, Class, Position, Slot, Read, Pool, ContextSlot, Other, classOf}
+use Rattle.definition.proofs.Safe.{EntryWithin, FunctionSafe, Named, LooseBy, Loose, standingCounts, StandingSafe, PriorSafe, PriorWide, Parts, PartsOf}
+use Rattle.definition.proofs.Safe.{ProgramSafe}
 use Rattle.definition.proofs.Lists.{all-map, all-append, all-set, cond-case}
-use Rattle.definition.proofs.Sound.{fits-mono, find-name}
+use Rattle.definition.proofs.Sound.{Wider, fit-mono, fits-mono, find-name}
 use Rattle.definition.proofs.Moves.{Moves}
 use Rattle.definition.proofs.Good.{Good, Ready, find-constant, no-snoc, function-good, function-moves, function-safe}
 
@@ -46,9 +50,10 @@ abbrev constantsOf : Book.Book → ℕ
 constantsOf b = length (b .context .pool .constants)
 
 record BookGood (b : Book.Book) : Type 0 where
-  parts : PartsOf (length (b .context .assemblies) + 1) (b .context)
-  index : b .assembly .index ≡ length (b .context .assemblies)
-  counted : length (b .context .localNames) ≡ b .context .pool .localCount
+  wide : PriorWide (b .context .prior)
+  parts : PartsOf (bookCount (b .context) + 1) (b .context)
+  index : b .assembly .index ≡ bookCount (b .context)
+  counted : length (b .context .prior .locals) + length (b .context .localNames) ≡ b .context .pool .localCount
   pool : 3 ≤ length (b .context .pool .constants)
   names : All (λ (e : Entry). e .index < b .context .pool .localCount) (b .compiler .locals)
   own : All (λ (e : Entry). e .index < length (b .context .pool .constants)) (b .assembly .publics)
@@ -63,6 +68,37 @@ safe-mono {f = f} k c s = record {
   rescue = s .rescue;
   loops = s .loops;
   breaks = s .breaks;
+  closed = s .closed;
+  nexts = s .nexts;
+}
+
+standing-mono : {K K′ C C′ A A′ : ℕ} {code : Entries} {f : List ℕ} → K ≤ K′ → C ≤ C′ → A ≤ A′ → StandingSafe K C A code f → StandingSafe K′ C′ A′ code f
+standing-mono {K} {K′} {C} {C′} {code = code} {f = f} k c a s = record {
+  inside = s .inside;
+  fits = λ i h. fit-mono i (unword (getD (getD code (getD f startWord 0 + i) []) 0 0)) wider (s .fits i h);
+  rescue = s .rescue;
+  file = le-trans (s .file) a;
+}
+  where
+    wider : Wider (standingCounts K C f) (standingCounts K′ C′ f)
+    wider = record { tops = le-refl _; slots = le-refl _; pools = k; globals = c; reads = λ i a. a }
+
+loose-mono : (k : Class) (n : ℕ) {K K′ C C′ : ℕ} → K ≤ K′ → C ≤ C′ → LooseBy k K C n → LooseBy k K′ C′ n
+loose-mono Pool n k c h = le-trans h k
+loose-mono ContextSlot n k c h = le-trans h c
+loose-mono Position n k c h = tt
+loose-mono Slot n k c h = tt
+loose-mono Read n k c h = tt
+loose-mono Other n k c h = tt
+
+prior-mono : {K K′ C C′ M M′ A A′ : ℕ} {p : Prior} → K ≤ K′ → C ≤ C′ → M ≤ M′ → A ≤ A′ → PriorSafe K C M A p → PriorSafe K′ C′ M′ A′ p
+prior-mono k c m a s = record {
+  code = all-map (λ e h. loose-mono (classOf (unword (getD e 0 0) .opcode)) (unword (getD e 0 0) .operand) k c h) (s .code);
+  functions = all-map (λ f h. standing-mono k c a h) (s .functions);
+  models = all-map (λ e h. le-trans h a) (s .models);
+  properties = all-map (λ e h. le-trans h m) (s .properties);
+  locals = all-map (λ e h. (le-trans (h .0) a, h .1, λ q. le-trans (h .2 q) k)) (s .locals);
+  publics = all-map (λ e h. (le-trans (h .0) a, le-trans (h .1) k)) (s .publics);
 }
 
 named-mono : {M M′ F F′ : ℕ} {c : Constant} → M ≤ M′ → F ≤ F′ → Named M F c → Named M′ F′ c
@@ -78,6 +114,7 @@ entered-mono {F} {F′} {n} h (inr q) = go (ℕ-discrete F′ 0)
 
 parts-mono : {K K′ C C′ M M′ F F′ A A′ : ℕ} {c : Context} → K ≤ K′ → C ≤ C′ → M ≤ M′ → F ≤ F′ → A ≤ A′ → Parts K C M F A c → Parts K′ C′ M′ F′ A′ c
 parts-mono k c m f a p = record {
+  prior = prior-mono k c m a (p .prior);
   functions = all-map (λ x s. (safe-mono k c (s .0), le-trans (s .1) a)) (p .functions);
   constants = all-map (λ x n. named-mono m f n) (p .constants);
   globals = all-map (λ x h. le-trans h k) (p .globals);
@@ -110,10 +147,13 @@ record BookPlaced (b : Book.Book) (p : Placed) : Type 0 where
   good : BookGood (p .book)
   inside : p .place < length (p .book .context .pool .constants)
 
-constant-placed : (c : Constant) (b : Book.Book) → BookGood b → Named (length (b .context .models)) (length (b .context .functions)) c
+constant-placed : (c : Constant) (b : Book.Book) → BookGood b → Named (modelCount (b .context)) (functionCount (b .context)) c
     → BookPlaced b (addBookConstant c b)
 constant-placed c b g n = added-case (λ (a : Added). BookPlaced b (record { place = a .index; book = resumed (a .work) b })) c (working b) new
-    (λ i h. record { good = record { parts = g .parts; pool = g .pool; names = g .names; own = g .own; index = g .index; counted = g .counted }; inside = h })
+    (λ i h. record {
+      good = record { parts = g .parts; pool = g .pool; names = g .names; own = g .own; index = g .index; counted = g .counted; wide = g .wide };
+      inside = h;
+    })
   where
     cs : List Constant
     cs = b .context .pool .constants
@@ -124,14 +164,15 @@ constant-placed c b g n = added-case (λ (a : Added). BookPlaced b (record { pla
     more : length cs ≤ length (cs ++ (c ∷ []))
     more = omega (arith, longer)
 
-    p : Parts (length (cs ++ (c ∷ []))) (b .context .pool .localCount) (length (b .context .models)) (length (b .context .functions))
-        (length (b .context .assemblies) + 1) (b .context)
+    p : Parts (length (cs ++ (c ∷ []))) (b .context .pool .localCount) (modelCount (b .context)) (functionCount (b .context))
+        (bookCount (b .context) + 1) (b .context)
     p = parts-mono more (le-refl _) (le-refl _) (le-refl _) (le-refl _) (g .parts)
 
     new : BookPlaced b (record { place = addConstantNoCheck c (working b) .index; book = resumed (addConstantNoCheck c (working b) .work) b })
     new = record {
       good = record {
         parts = record {
+          prior = p .prior;
           functions = p .functions;
           constants = all-append (p .constants) (n & none);
           globals = p .globals;
@@ -147,6 +188,7 @@ constant-placed c b g n = added-case (λ (a : Added). BookPlaced b (record { pla
         own = all-map (λ x h. le-trans h more) (g .own);
         index = g .index;
         counted = g .counted;
+        wide = g .wide;
       };
       inside = omega (arith, longer);
     }
@@ -167,8 +209,8 @@ defined n b g = go (findName n (b .compiler .locals))
     L : ℕ
     L = b .context .pool .localCount
 
-    p : Parts (length (b .context .pool .constants)) (L + 1) (length (b .context .models)) (length (b .context .functions))
-        (length (b .context .assemblies) + 1) (b .context)
+    p : Parts (length (b .context .pool .constants)) (L + 1) (modelCount (b .context)) (functionCount (b .context))
+        (bookCount (b .context) + 1) (b .context)
     p = parts-mono (le-refl _) (omega arith) (le-refl _) (le-refl _) (le-refl _) (g .parts)
 
     go : (o : Option ℕ) → BookDefined b (defineContextLocalBy o n b)
@@ -182,6 +224,7 @@ defined n b g = go (findName n (b .compiler .locals))
     go none = record {
       good = record {
         parts = record {
+          prior = p .prior;
           functions = p .functions;
           constants = p .constants;
           globals = p .globals;
@@ -196,7 +239,8 @@ defined n b g = go (findName n (b .compiler .locals))
         names = all-append (all-map (λ x h. omega arith) (g .names)) (here & none);
         own = g .own;
         index = g .index;
-        counted = length-append (b .context .localNames) _ ∙ ap (λ n. n + 1) (g .counted);
+        counted = omega (arith, length-append (b .context .localNames) (record { name = n; index = b .assembly .index } ∷ []), g .counted);
+        wide = g .wide;
       };
       inside = λ j e. let z : L ≡ j = cc in omega arith;
       constants = refl;
@@ -207,7 +251,7 @@ defined n b g = go (findName n (b .compiler .locals))
         here : L < L + 1
         here = omega arith
 
-        mine : b .assembly .index < length (b .context .assemblies) + 1
+        mine : b .assembly .index < bookCount (b .context) + 1
         mine = omega (arith, g .index)
 
 value-good : (o : Option ℕ) (c : ℕ) (b : Book.Book) → BookGood b → ((i : ℕ) → o ≡ some i → i < b .context .pool .localCount)
@@ -215,6 +259,7 @@ value-good : (o : Option ℕ) (c : ℕ) (b : Book.Book) → BookGood b → ((i :
 value-good none c b g h k = g
 value-good (some i) c b g h k = record {
   parts = record {
+    prior = g .parts .prior;
     functions = g .parts .functions;
     constants = g .parts .constants;
     globals = g .parts .globals;
@@ -230,6 +275,7 @@ value-good (some i) c b g h k = record {
   own = g .own;
   index = g .index;
   counted = g .counted;
+  wide = g .wide;
 }
 
 value-faults : (o : Option ℕ) (c : ℕ) (b : Book.Book) → faults (setLocalValue o c b) ≡ faults b
@@ -269,14 +315,25 @@ find-assembly {P} n a (x ∷ l) (p & ps) e = go (eqb (x .filename) n) (λ q. fin
     go true r q = let z : x ≡ a = cc in subst P z p
     go false r q = r q
 
-find-public : (m n i : ℕ) (b : Book.Book) → BookGood b → publicOf (findAssembly m (b .context .assemblies)) n ≡ some i
-    → i < length (b .context .pool .constants)
-find-public m n i b g e = go (findAssembly m (b .context .assemblies)) refl e
+standing-public : {K : ℕ} (book name i : ℕ) {es : Entries} → All (λ (e : List ℕ). getD e 2 0 < K) es → findPublic book name es ≡ some i → i < K
+standing-public book name i none e = absurd (let z : _≡_ {A = ℕ} 0 1 = cc in omega arith)
+standing-public {K} book name i (_&_ {x = x} {xs = es} p ps) e = go (hasKey book name x) (λ q. standing-public book name i ps q) e
+  where
+    go : (b : Bool) → (findPublic book name es ≡ some i → i < K) → cond b (some (getD x 2 0)) (findPublic book name es) ≡ some i → i < K
+    go true r q = let z : getD x 2 0 ≡ i = cc in omega arith
+    go false r q = r q
+
+find-public : (m n i : ℕ) (b : Book.Book) → BookGood b → includedName m n (b .context) ≡ some i → i < length (b .context .pool .constants)
+find-public m n i b g e = by (bookIndex m 0 (b .context .prior .books)) e
   where
     go : (o : Option Assembly) → findAssembly m (b .context .assemblies) ≡ o → publicOf o n ≡ some i → i < length (b .context .pool .constants)
     go none q r = absurd (let z : _≡_ {A = ℕ} 0 1 = cc in omega arith)
-    go (some a) q r = find-name n i (find-assembly {P = λ (x : Assembly). (x .index < length (b .context .assemblies) + 1)
+    go (some a) q r = find-name n i (find-assembly {P = λ (x : Assembly). (x .index < bookCount (b .context) + 1)
         × All (λ (y : Entry). y .index < length (b .context .pool .constants)) (x .publics)} m a _ (g .parts .publics) q .1) r
+
+    by : (o : Option ℕ) → includedFrom o m n (b .context) ≡ some i → i < length (b .context .pool .constants)
+    by none q = go (findAssembly m (b .context .assemblies)) refl q
+    by (some k) q = standing-public k n i (all-map (λ x h. h .1) (g .parts .prior .publics)) q
 
 alias-fine : (file : ℕ) (a : Alias) → Fine (compileAlias file a)
 unfolding compileAlias
@@ -286,7 +343,7 @@ alias-fine file a = record {
 }
   where
     lookup : Book.Book → Option ℕ
-    lookup b = publicOf (findAssembly file (b .context .assemblies)) (a .publicName .value)
+    lookup b = includedName file (a .publicName .value) (b .context)
 
     same : (b : Book.Book) (o : Option ℕ) → faults (giveValue (defineContextLocal (a .alias .value) b .place) o
         (defineContextLocal (a .alias .value) b .book)) ≡ [] → faults b ≡ []
@@ -377,7 +434,7 @@ property-before t ps b = property-case (λ a. faults (a .book) ≡ [] → faults
 
 property-good : (t : Token) (ps : List ℕ) (b : Book.Book) → BookGood b → faults (addProperty t ps b .book) ≡ [] → BookGood (addProperty t ps b .book)
 property-good t ps b g = property-case (λ a. faults (a .book) ≡ [] → BookGood (a .book)) t ps b (λ e. faulty 6 t b e)
-    (λ n e. record { parts = g .parts; pool = g .pool; names = g .names; own = g .own; index = g .index; counted = g .counted })
+    (λ n e. record { parts = g .parts; pool = g .pool; names = g .names; own = g .own; index = g .index; counted = g .counted; wide = g .wide })
 
 properties-before : (ts : List Token) (ps : List ℕ) (b : Book.Book) → faults (compileProperties ts ps b .book) ≡ [] → faults b ≡ []
 unfolding compileProperties
@@ -394,6 +451,7 @@ properties-good (t ∷ ts) ps b g e = properties-good ts _ _ (property-good t ps
 model-added : (b : Book.Book) (ps : List ℕ) (n : ℕ) → BookGood b → BookGood (addModel ps n b)
 model-added b ps n g = record {
   parts = record {
+    prior = p .prior;
     functions = p .functions;
     constants = p .constants;
     globals = p .globals;
@@ -409,16 +467,18 @@ model-added b ps n g = record {
   own = g .own;
   index = g .index;
   counted = g .counted;
+  wide = g .wide;
 }
   where
     m : Model
     m = record { properties = ps; name = n; file = b .assembly .index }
 
-    mine : b .assembly .index < length (b .context .assemblies) + 1
+    mine : b .assembly .index < bookCount (b .context) + 1
     mine = omega (arith, g .index)
 
-    p : Parts (length (b .context .pool .constants)) (b .context .pool .localCount) (length (b .context .models ++ (m ∷ [])))
-        (length (b .context .functions)) (length (b .context .assemblies) + 1) (b .context)
+    p : Parts (length (b .context .pool .constants)) (b .context .pool .localCount)
+        (length (b .context .prior .models) + length (b .context .models ++ (m ∷ [])))
+        (functionCount (b .context)) (bookCount (b .context) + 1) (b .context)
     p = parts-mono (le-refl _) (le-refl _) (omega (arith, length-append (b .context .models) (m ∷ []))) (le-refl _) (le-refl _) (g .parts)
 
 record Places (d : Book.Book → Placed) : Type 0 where
@@ -434,7 +494,7 @@ model-places n ts = record {
       let g₁ = properties-good ts [] b g (back b e) in
       let b₂ = second b in
       let g₂ : BookGood b₂ = model-added b₁ (compileProperties ts [] b .texts) (n .value) g₁ in
-      let c = constantOf 5 (length (b₁ .context .models)) in
+      let c = constantOf 5 (modelCount (b₁ .context)) in
       let a = constant-placed c b₂ g₂ (λ q. omega (arith, length-append (b₁ .context .models) (newModel b ∷ [])), λ q. absurd (omega arith)) in
       let d = defined (n .value) (addBookConstant c b₂ .book) (a .good) in
       record {
@@ -455,7 +515,7 @@ model-places n ts = record {
 
     back : (b : Book.Book) → faults (compileModelDefinition n ts b .book) ≡ [] → faults (compileProperties ts [] b .book) ≡ []
     back b e =
-        let c = constantOf 5 (length (compileProperties ts [] b .book .context .models)) in
+        let c = constantOf 5 (modelCount (compileProperties ts [] b .book .context)) in
         let a = addBookConstant c (second b) in
         sym (constant-before c (second b)) ∙ define-before (n .value) (a .book)
         (sym (value-faults (defineContextLocal (n .value) (a .book) .place) (a .place) (defineContextLocal (n .value) (a .book) .book)) ∙ e)
@@ -471,6 +531,7 @@ publish-fine n D = record {
         own = all-insert _ (p .inside) (p .good .own);
         index = p .good .index;
         counted = p .good .counted;
+        wide = p .good .wide;
       };
 }
 
@@ -495,6 +556,7 @@ unfolding compileBase
 base-made f b g e = record {
   good = record {
     parts = record {
+      prior = p .prior;
       functions = p .functions;
       constants = rw (m .pool) (all-append (p .constants) (plain-all (m .plain)));
       globals = h .marks;
@@ -510,6 +572,7 @@ base-made f b g e = record {
     own = all-map (λ x q. le-trans q more) (g .own);
     index = g .index;
     counted = g .counted ∙ sym (m .context);
+    wide = g .wide;
   };
   safe = function-safe (f .parameters) (f .body) (working b) (set-out b g) e;
   locals = omega (arith, m .context);
@@ -527,8 +590,8 @@ base-made f b g e = record {
     more : length (b .context .pool .constants) ≤ length (w .context .constants)
     more = omega (arith, length-append (b .context .pool .constants) (m .added), ap length (m .pool))
 
-    p : Parts (length (w .context .constants)) (w .context .localCount) (length (b .context .models)) (length (b .context .functions))
-        (length (b .context .assemblies) + 1) (b .context)
+    p : Parts (length (w .context .constants)) (w .context .localCount) (modelCount (b .context)) (functionCount (b .context))
+        (bookCount (b .context) + 1) (b .context)
     p = parts-mono more (omega (arith, m .context)) (le-refl _) (le-refl _) (le-refl _) (g .parts)
 
 base-before : (f : FunctionDefinition) (b : Book.Book) → faults (compileBase f b .book) ≡ [] → faults b ≡ []
@@ -540,6 +603,7 @@ function-added : (s : FunctionState) (n : ℕ) (b : Book.Book) → BookGood b
     → FunctionSafe (length (b .context .pool .constants)) (b .context .pool .localCount) s → BookGood (addFunction s n b)
 function-added s n b g h = record {
   parts = record {
+    prior = p .prior;
     functions = all-append (p .functions) ((h, mine) & none);
     constants = p .constants;
     globals = p .globals;
@@ -555,26 +619,28 @@ function-added s n b g h = record {
   own = g .own;
   index = g .index;
   counted = g .counted;
+  wide = g .wide;
 }
   where
-    mine : b .assembly .index < length (b .context .assemblies) + 1
+    mine : b .assembly .index < bookCount (b .context) + 1
     mine = omega (arith, g .index)
 
-    p : Parts (length (b .context .pool .constants)) (b .context .pool .localCount) (length (b .context .models))
-        (length (addFunction s n b .context .functions)) (length (b .context .assemblies) + 1) (b .context)
+    p : Parts (length (b .context .pool .constants)) (b .context .pool .localCount) (modelCount (b .context))
+        (functionCount (addFunction s n b .context)) (bookCount (b .context) + 1) (b .context)
     p = parts-mono (le-refl _) (le-refl _) (le-refl _) (omega
         (arith, length-append (b .context .functions) (record { state = s; name = n; file = b .assembly .index } ∷ []))) (le-refl _) (g .parts)
 
-value-functions : (o : Option ℕ) (c : ℕ) (b : Book.Book) → setLocalValue o c b .context .functions ≡ b .context .functions
+value-functions : (o : Option ℕ) (c : ℕ) (b : Book.Book) → functionCount (setLocalValue o c b .context) ≡ functionCount (b .context)
 value-functions none c b = refl
 value-functions (some i) c b = refl
 
-constant-functions : (c : Constant) (b : Book.Book) → addBookConstant c b .book .context .functions ≡ b .context .functions
-constant-functions c b = added-case (λ (a : Added). resumed (a .work) b .context .functions ≡ b .context .functions) c (working b) refl (λ i h. refl)
+constant-functions : (c : Constant) (b : Book.Book) → functionCount (addBookConstant c b .book .context) ≡ functionCount (b .context)
+constant-functions c b = added-case (λ (a : Added). functionCount (resumed (a .work) b .context) ≡ functionCount (b .context)) c (working b) refl (λ i h. refl)
 
-entry-good : (n : ℕ) (b : Book.Book) → BookGood b → n < length (b .context .functions) → BookGood (Book.withContext (Book.withEntryPoint n (b .context)) b)
+entry-good : (n : ℕ) (b : Book.Book) → BookGood b → n < functionCount (b .context) → BookGood (Book.withContext (Book.withEntryPoint n (b .context)) b)
 entry-good n b g h = record {
   parts = record {
+    prior = g .parts .prior;
     functions = g .parts .functions;
     constants = g .parts .constants;
     globals = g .parts .globals;
@@ -590,6 +656,7 @@ entry-good n b g h = record {
   own = g .own;
   index = g .index;
   counted = g .counted;
+  wide = g .wide;
 }
 
 plain-placed : (o : Option ℕ) (s : FunctionState) (n : ℕ) (b : Book.Book) → BookGood b
@@ -598,8 +665,8 @@ plain-placed : (o : Option ℕ) (s : FunctionState) (n : ℕ) (b : Book.Book) �
 unfolding addPlainFunction
 plain-placed o s n b g h local = cond-case (λ x. BookPlaced b (record { place = a .place; book = x })) (eqb n 1)
     (λ t. record {
-      good = entry-good (length (b .context .functions)) b₁ g₁
-          (omega (arith, ap length (value-functions o (a .place) (a .book) ∙ constant-functions c b₀), length-append (b .context .functions) (f ∷ [])));
+      good = entry-good (functionCount (b .context)) b₁ g₁
+          (omega (arith, value-functions o (a .place) (a .book), constant-functions c b₀, length-append (b .context .functions) (f ∷ [])));
       inside = in₁;
     })
     (λ t. record { good = g₁; inside = in₁ })
@@ -611,7 +678,7 @@ plain-placed o s n b g h local = cond-case (λ x. BookPlaced b (record { place =
     b₀ = addFunction s n b
 
     c : Constant
-    c = constantOf 6 (length (b .context .functions))
+    c = constantOf 6 (functionCount (b .context))
 
     a : Placed
     a = addBookConstant c b₀
@@ -633,7 +700,7 @@ unfolding addPlainFunction
 plain-before o s n b = cond-case (λ x. faults x ≡ faults b) (eqb n 1) (λ t. same) (λ t. same)
   where
     c : Constant
-    c = constantOf 6 (length (b .context .functions))
+    c = constantOf 6 (functionCount (b .context))
 
     same : faults (setLocalValue o (addBookConstant c (addFunction s n b) .place) (addBookConstant c (addFunction s n b) .book)) ≡ faults b
     same = value-faults o _ _ ∙ constant-before c (addFunction s n b)
@@ -683,21 +750,21 @@ model-below (some c) M F m h e = go (eqb (c .kind) 5) (λ t. eqb→eq _ _ t) e
     go false k q = absurd (let z : _≡_ {A = ℕ} 0 1 = cc in omega arith)
 
 model-case : (P : MaybePlaced → Type 0) (t : Token) (b : Book.Book) → BookGood b
-    → ((m : ℕ) → m < length (b .context .models) → P (record { place = some m; book = b }))
+    → ((m : ℕ) → m < modelCount (b .context) → P (record { place = some m; book = b }))
     → ((n : ℕ) → P (record { place = none; book = pushBookError n t b })) → P (findModelIndexByLocalName t b)
 unfolding findModelIndexByLocalName
 model-case P t b g yes′ no′ = outer (findName (t .value) (b .compiler .locals))
   where
-    named : (local : ℕ) (c : Constant) → getLocalValue local (b .context) ≡ some c → Named (length (b .context .models)) (length (b .context .functions)) c
+    named : (local : ℕ) (c : Constant) → getLocalValue local (b .context) ≡ some c → Named (modelCount (b .context)) (functionCount (b .context)) c
     named local c e = go (findName local (b .context .localValues)) e
       where
-        go : (o : Option ℕ) → valueAt o (b .context .pool .constants) ≡ some c → Named (length (b .context .models)) (length (b .context .functions)) c
+        go : (o : Option ℕ) → valueAt o (b .context .pool .constants) ≡ some c → Named (modelCount (b .context)) (functionCount (b .context)) c
         go none q = absurd (let z : _≡_ {A = ℕ} 0 1 = cc in omega arith)
         go (some i) q = constant-at _ i c (g .parts .constants) q
 
     inner : (local : ℕ) (o : Option ℕ) → modelOf (getLocalValue local (b .context)) ≡ o → P (findModelBy o t b)
     inner local none e = no′ 9
-    inner local (some m) e = yes′ m (model-below _ _ (length (b .context .functions)) m (named local) e)
+    inner local (some m) e = yes′ m (model-below _ _ (functionCount (b .context)) m (named local) e)
 
     outer : (o : Option ℕ) → P (findModelIn o t b)
     outer none = no′ 10
@@ -730,10 +797,11 @@ own-methods m [] none = none
 own-methods {M} {F} m (x ∷ l) (p & ps) = cond-case (All (λ (e : Entry). e .index < F)) (eqb (x .model) m) (λ t. p .1 & own-methods m l ps)
     (λ t. own-methods m l ps)
 
-methods-added : (m : ℕ) (es : List Entry) (b : Book.Book) → BookGood b → m < length (b .context .models)
-    → All (λ (e : Entry). e .index < length (b .context .functions)) es → BookGood (addMethods (some m) es b)
+methods-added : (m : ℕ) (es : List Entry) (b : Book.Book) → BookGood b → m < modelCount (b .context)
+    → All (λ (e : Entry). e .index < functionCount (b .context)) es → BookGood (addMethods (some m) es b)
 methods-added m es b g k h = record {
   parts = record {
+    prior = g .parts .prior;
     functions = g .parts .functions;
     constants = g .parts .constants;
     globals = g .parts .globals;
@@ -749,6 +817,7 @@ methods-added m es b g k h = record {
   own = g .own;
   index = g .index;
   counted = g .counted;
+  wide = g .wide;
 }
 
 add-before : (o : Option ℕ) (es : List Entry) (b : Book.Book) → faults (addMethods o es b) ≡ faults b
@@ -757,7 +826,7 @@ add-before (some m) es b = refl
 
 record BookMethods (m : Methods) : Type 0 where
   good : BookGood (m .book)
-  entries : All (λ (e : Entry). e .index < length (m .book .context .functions)) (m .entries)
+  entries : All (λ (e : Entry). e .index < functionCount (m .book .context)) (m .entries)
 
 methods-before : (fs : List FunctionDefinition) (es : List Entry) (b : Book.Book) → faults (compileMethods fs es b .book) ≡ [] → faults b ≡ []
 unfolding compileMethods
@@ -765,14 +834,14 @@ methods-before [] es b e = e
 methods-before (f ∷ fs) es b e = base-before f b (methods-before fs _ _ e)
 
 methods-good : (fs : List FunctionDefinition) (es : List Entry) (b : Book.Book) → BookGood b
-    → All (λ (e : Entry). e .index < length (b .context .functions)) es → faults (compileMethods fs es b .book) ≡ [] → BookMethods (compileMethods fs es b)
+    → All (λ (e : Entry). e .index < functionCount (b .context)) es → faults (compileMethods fs es b .book) ≡ [] → BookMethods (compileMethods fs es b)
 unfolding compileMethods compileBase
 methods-good [] es b g h e = record { good = g; entries = h }
 methods-good (f ∷ fs) es b g h e =
     let m = base-made f b g (methods-before fs _ _ e) in
     let n : length (addFunction (compileBase f b .state) (f .name .value) (compileBase f b .book) .context .functions) ≡ length
     (b .context .functions) + 1 = length-append (b .context .functions) _ in
-    let here : length (b .context .functions) < length (addFunction (compileBase f b .state) (f .name .value) (compileBase f b .book) .context .functions) =
+    let here : functionCount (b .context) < functionCount (addFunction (compileBase f b .state) (f .name .value) (compileBase f b .book) .context) =
     omega (arith, n) in
     methods-good fs _ _ (function-added _ _ _ (m .good) (m .safe)) (all-insert _ here (all-map (λ x q. omega (arith, n)) h)) e
 
@@ -783,7 +852,7 @@ toModel t es b = addMethods (findModelIndexByLocalName t b .place) es (findModel
 to-model-before : (t : Token) (es : List Entry) (b : Book.Book) → faults (toModel t es b) ≡ [] → faults b ≡ []
 to-model-before t es b e = find-before t b (sym (add-before (findModelIndexByLocalName t b .place) es (findModelIndexByLocalName t b .book)) ∙ e)
 
-to-model-good : (t : Token) (es : List Entry) (b : Book.Book) → BookGood b → All (λ (e : Entry). e .index < length (b .context .functions)) es
+to-model-good : (t : Token) (es : List Entry) (b : Book.Book) → BookGood b → All (λ (e : Entry). e .index < functionCount (b .context)) es
     → faults (toModel t es b) ≡ [] → BookGood (toModel t es b)
 to-model-good t es b g h = model-case (λ (d : MaybePlaced). faults (addMethods (d .place) es (d .book)) ≡ []
     → BookGood (addMethods (d .place) es (d .book))) t b g (λ m k q. methods-added m es b g k h) (λ n q. faulty n t b q)
@@ -832,6 +901,7 @@ document-good : (d : Document) (c : Context) (us : List Use) → ProgramSafe c �
 unfolding compileDocument
 document-good d c us s e = record {
   parts = record {
+    prior = p .prior;
     functions = p .functions;
     constants = p .constants;
     globals = p .globals;
@@ -844,6 +914,7 @@ document-good d c us s e = record {
   };
   pool = g .pool;
   counted = g .counted;
+  wide = g .wide;
 }
   where
     b : Book.Book
@@ -854,6 +925,7 @@ document-good d c us s e = record {
       parts = parts-mono (le-refl _) (le-refl _) (le-refl _) (le-refl _) (omega arith) (s .parts);
       index = refl;
       counted = s .counted;
+      wide = s .wide;
       pool = s .pool;
       names = none;
       own = none;
@@ -862,13 +934,17 @@ document-good d c us s e = record {
     g : BookGood b
     g = definitions-fine (d .definitions) .keeps (opened d c us) start e
 
-    one-more : length (b .context .assemblies ++ (b .assembly ∷ [])) ≡ length (b .context .assemblies) + 1
-    one-more = length-append (b .context .assemblies) (b .assembly ∷ [])
+    -- the books with this one
+    A : ℕ
+    A = length (b .context .prior .books) + length (b .context .assemblies ++ (b .assembly ∷ []))
 
-    p : PartsOf (length (b .context .assemblies ++ (b .assembly ∷ []))) (b .context)
+    one-more : A ≡ bookCount (b .context) + 1
+    one-more = omega (arith, length-append (b .context .assemblies) (b .assembly ∷ []))
+
+    p : PartsOf A (b .context)
     p = parts-mono (le-refl _) (le-refl _) (le-refl _) (le-refl _) (omega (arith, one-more)) (g .parts)
 
-    mine : b .assembly .index < length (b .context .assemblies ++ (b .assembly ∷ []))
+    mine : b .assembly .index < A
     mine = omega (arith, one-more, g .index)
 
 -- in the order of a bundle
@@ -901,6 +977,7 @@ worked-safe numbers ds c r s e = drive-good (length numbers) ds _ numbers c r _ 
 pub fresh-safe : ProgramSafe newContext
 fresh-safe = record {
   parts = record {
+    prior = record { code = none; functions = none; models = none; properties = none; locals = none; publics = none };
     functions = none;
     constants = plain-named 0 0 (omega arith) & plain-named 1 1 (omega arith) & plain-named 1 0 (omega arith) & none;
     globals = none;
@@ -913,4 +990,5 @@ fresh-safe = record {
   };
   pool = omega arith;
   counted = refl;
+  wide = record { code = none; functions = none; models = none; properties = none; locals = none; publics = none; books = none };
 }

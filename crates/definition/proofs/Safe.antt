@@ -1,14 +1,43 @@
 -- Demand 3 of the definition's own states: what `Within` says of words, said of instructions, constants and models as lists. Assumes nothing.
-use Prim.Native.Nat.{ℕ, _≤_, _<_}
+use Prim.Native.Nat.{ℕ, zero, suc, _+_, _≤_, _<_}
 use mathlib.Core.Path.{_≡_}
-use mathlib.Core.List.{List}
+use mathlib.Core.Logic.{_⊎_}
+use mathlib.Core.List.{List, [], _∷_}
 use lib.ListN.{length, getD}
+use Rattle.words.specs.Areas.{localsWord, rescueWord, startWord, lengthWord, functionFileWord}
 use Rattle.words.specs.Object.{Constant, modelKind, functionKind}
-use Rattle.words.specs.Opcode.{Instruction, toInstruction, nothing, Jump, JumpIf}
+use Rattle.words.specs.Opcode.{Instruction, toInstruction, unword, nothing, Jump, JumpIf, ForNext}
 use Rattle.definition.specs.FunctionState.{FunctionState, Entry}
 use Rattle.definition.specs.Compiler.{Work}
-use Rattle.definition.specs.Book.{Context, Function, Model, Method, Assembly}
-use Rattle.definition.specs.Within.{All, InLoop, Loop, loopsOf, breaksOf, Counts, Fits, EntryWithin}
+use Rattle.definition.specs.Prior.{Entries, Prior}
+use Rattle.definition.specs.Book.{Context, Function, Model, Method, Assembly, functionCount, modelCount, bookCount}
+use Rattle.definition.specs.Within.{All, Among, InLoop, Loop, readTrace, loopsOf, breaksOf, exitsOf, Class, Position, Slot, Read, Pool, ContextSlot}
+use Rattle.definition.specs.Within.{Other, classOf}
+
+-- the counts that bound an operand; `top`: the function's length; `this`: where its reads of `this` are
+pub record Counts : Type 0 where
+  pub top : ℕ
+  pub locals : ℕ
+  pub constants : ℕ
+  pub context : ℕ
+  pub this : List ℕ
+
+-- an operand n, at index i, within its count. A read of a local may be 0 where there is no local, if it is the read of a 31: the first exception
+abbrev pub Within : Class → Counts → ℕ → ℕ → Type 0
+Within Position c i n = n ≤ c .top
+Within Slot c i n = n < c .locals
+Within Read c i n = (n < c .locals) ⊎ ((n ≡ 0) × (c .locals ≡ 0) × Among i (c .this))
+Within Pool c i n = n < c .constants
+Within ContextSlot c i n = n < c .context
+Within Other c i n = Unit {0}
+
+-- an instruction's operand is within its count
+abbrev pub Fits : Counts → ℕ → Instruction → Type 0
+Fits c i x = Within (classOf (x .opcode)) c i (x .operand)
+
+-- an entry point: a function's number, or 0 where there is no function, the second exception
+abbrev pub EntryWithin : ℕ → ℕ → Type 0
+EntryWithin functions n = (n < functions) ⊎ ((n ≡ 0) × (functions ≡ 0))
 
 abbrev pub at : List Instruction → ℕ → Instruction
 at l i = getD l i nothing
@@ -37,6 +66,8 @@ pub record FunctionSafe (K C : ℕ) (f : FunctionState) : Type 0 where
   pub rescue : f .rescuePosition ≤ length (f .instructions)
   pub loops : All (Landed (f .instructions)) (loopsOf (f .trace))
   pub breaks : All (λ b. InLoop b (loopsOf (f .trace))) (breaksOf (f .trace))
+  pub closed : readTrace (f .trace) .open′ ≡ []
+  pub nexts : Each (λ i x. x .opcode ≡ ForNext → Among (i + 1) (exitsOf (loopsOf (f .trace)))) (f .instructions)
 
 abbrev pub Safe : Work → Type 0
 Safe w = FunctionSafe (length (w .context .constants)) (w .context .localCount) (w .function)
@@ -45,8 +76,60 @@ Safe w = FunctionSafe (length (w .context .constants)) (w .context .localCount) 
 abbrev pub Named : ℕ → ℕ → Constant → Type 0
 Named M F c = (c .kind ≡ modelKind → c .value < M) × (c .kind ≡ functionKind → c .value < F)
 
+-- an operand below a program's K constants or C context locals, whatever function it is in
+abbrev pub LooseBy : Class → ℕ → ℕ → ℕ → Type 0
+LooseBy Pool K C n = n < K
+LooseBy ContextSlot K C n = n < C
+LooseBy Position K C n = Unit {0}
+LooseBy Slot K C n = Unit {0}
+LooseBy Read K C n = Unit {0}
+LooseBy Other K C n = Unit {0}
+
+abbrev pub Loose : ℕ → ℕ → Instruction → Type 0
+Loose K C x = LooseBy (classOf (x .opcode)) K C (x .operand)
+
+abbrev pub below : ℕ → List ℕ
+below zero = []
+below (suc n) = n ∷ below n
+
+-- a function that stood before, in a program of K constants, C context locals and A books: the words of its entry and of its code
+abbrev pub standingCounts : ℕ → ℕ → List ℕ → Counts
+standingCounts K C f = record {
+  top = getD f lengthWord 0;
+  locals = getD f localsWord 0;
+  constants = K;
+  context = C;
+  this = below (getD f lengthWord 0);
+}
+
+pub record StandingSafe (K C A : ℕ) (code : Entries) (f : List ℕ) : Type 0 where
+  pub inside : 0 < getD f lengthWord 0 → getD f startWord 0 + getD f lengthWord 0 ≤ length code
+  pub fits : (i : ℕ) → i < getD f lengthWord 0 → Fits (standingCounts K C f) i (unword (getD (getD code (getD f startWord 0 + i) []) 0 0))
+  pub rescue : getD f rescueWord 0 ≤ getD f lengthWord 0
+  pub file : getD f functionFileWord 0 < A
+
+-- what stood before, over K constants, C context locals, M models and A books
+pub record PriorSafe (K C M A : ℕ) (p : Prior) : Type 0 where
+  pub code : All (λ (e : List ℕ). Loose K C (unword (getD e 0 0))) (p .code)
+  pub functions : All (StandingSafe K C A (p .code)) (p .functions)
+  pub models : All (λ (e : List ℕ). getD e 0 0 < A) (p .models)
+  pub properties : All (λ (e : List ℕ). getD e 0 0 < M) (p .properties)
+  pub locals : All (λ (e : List ℕ). (getD e 0 0 < A) × (getD e 2 0 ≤ 1) × (getD e 2 0 ≡ 1 → getD e 3 0 < K)) (p .locals)
+  pub publics : All (λ (e : List ℕ). (getD e 0 0 < A) × (getD e 2 0 < K)) (p .publics)
+
+-- every entry has its area's words
+pub record PriorWide (p : Prior) : Type 0 where
+  pub code : All (λ (e : List ℕ). length e ≡ 2) (p .code)
+  pub functions : All (λ (e : List ℕ). length e ≡ 8) (p .functions)
+  pub models : All (λ (e : List ℕ). length e ≡ 2) (p .models)
+  pub properties : All (λ (e : List ℕ). length e ≡ 2) (p .properties)
+  pub locals : All (λ (e : List ℕ). length e ≡ 4) (p .locals)
+  pub publics : All (λ (e : List ℕ). length e ≡ 3) (p .publics)
+  pub books : All (λ (e : List ℕ). length e ≡ 1) (p .books)
+
 -- a context over K constants, C context locals, M models, F functions and A books
 pub record Parts (K C M F A : ℕ) (c : Context) : Type 0 where
+  pub prior : PriorSafe K C M A (c .prior)
   pub functions : All (λ (f : Function). FunctionSafe K C (f .state) × (f .file < A)) (c .functions)
   pub constants : All (Named M F) (c .pool .constants)
   pub globals : All (λ n. n < K) (c .pool .globals)
@@ -58,10 +141,11 @@ pub record Parts (K C M F A : ℕ) (c : Context) : Type 0 where
   pub entry : EntryWithin F (c .entryPoint)
 
 abbrev pub PartsOf : ℕ → Context → Type 0
-PartsOf A c = Parts (length (c .pool .constants)) (c .pool .localCount) (length (c .models)) (length (c .functions)) A c
+PartsOf A c = Parts (length (c .pool .constants)) (c .pool .localCount) (modelCount c) (functionCount c) A c
 
 -- a context that keeps within itself
 pub record ProgramSafe (c : Context) : Type 0 where
-  pub parts : PartsOf (length (c .assemblies)) c
+  pub wide : PriorWide (c .prior)
+  pub parts : PartsOf (bookCount c) c
   pub pool : 3 ≤ length (c .pool .constants)
-  pub counted : length (c .localNames) ≡ c .pool .localCount
+  pub counted : length (c .prior .locals) + length (c .localNames) ≡ c .pool .localCount

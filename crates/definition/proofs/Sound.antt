@@ -16,10 +16,9 @@ use Rattle.definition.specs.FunctionState.{FunctionState, Entry, pushBre
 use Rattle.definition.specs.FunctionState.{emitReturn, emitBreak, exitBreakScope, defineLocal, findName}
 use Rattle.definition.specs.Within.{Loop}
 use Rattle.definition.specs.FunctionState as Emission
-use Rattle.definition.specs.Within.{All, none, _&_, Loop, readTrace, loopsOf, breaksOf, Among, here, there, InLoop, first, later, Counts, Within}
-use Rattle.definition.specs.Within.{Fits, Class}
-use Rattle.definition.proofs.Safe.{at, Each, counts, Landed}
-use Rattle.definition.specs.Within.{Position, Slot, Read, Pool, Global, Other, classOf}
+use Rattle.definition.specs.Within.{All, none, _&_, Loop, readTrace, loopsOf, breaksOf, Among, here, there, InLoop, first, later, Class, breakIn, leave}
+use Rattle.definition.specs.Within.{Position, Slot, Read, Pool, ContextSlot, Other, classOf}
+use Rattle.definition.proofs.Safe.{at, Each, counts, Landed, Counts, Within, Fits}
 use Rattle.definition.proofs.Lists.{all-map, all-append, Kept, Fresh, kept-append, kept-init, kept-set, cond-case, ne-of-test, each-map, each-snoc}
 use Rattle.definition.proofs.Lists.{each-set, each-init, each-patch, last-snoc, opcode-set, opcode-patch, patch-other, patch-hits, length-patch}
 
@@ -75,11 +74,14 @@ within-mono Read {c} {d} i n w (inr h) = go (ℕ-discrete (d .locals) 0)
     go (yes e) = inr (h .0, e, w .reads i (h .2))
     go (no e) = inl (omega (arith, h .0))
 within-mono Pool i n w h = omega arith
-within-mono Global i n w h = omega arith
+within-mono ContextSlot i n w h = omega arith
 within-mono Other i n w h = tt
 
+pub fit-mono : {c d : Counts} (i : ℕ) (x : Instruction) → Wider c d → Fits c i x → Fits d i x
+fit-mono i x w h = within-mono (classOf (x .opcode)) i (x .operand) w h
+
 pub fits-mono : {c d : Counts} (l : List Instruction) → Wider c d → Each (Fits c) l → Each (Fits d) l
-fits-mono l w ps = each-map l (λ i x h. within-mono (classOf (x .opcode)) i (x .operand) w h) ps
+fits-mono l w ps = each-map l (λ i x h. fit-mono i x w h) ps
 
 pub pending-kept : {l l′ : List Instruction} → Kept l l′ → (b : ℕ) → Pending l b → Pending l′ b
 pending-kept {l} {l′} k b (h, e) = let r = k .keeps b h (rw e (omega arith)) in (r .0, r .1 ∙ e)
@@ -311,6 +313,20 @@ pushed-one : {b : ℕ} {ss : List (List ℕ)} {es : List Loop} (k : ℕ) → InS
 pushed-one k (inl q) = inl (in-some-push _ q)
 pushed-one k (inr q) = inr q
 
+-- the stack that a trace is read with goes as the break scopes do
+break-in : (i : ℕ) (ss : List (List ℕ)) → breakIn i ss ≡ pushBreaks (i ∷ []) ss
+break-in i [] = refl
+break-in i (s ∷ ss) = refl
+
+leave-open : (exit after : ℕ) (ss : List (List ℕ)) (es : List Loop) → leave exit after ss es .open′ ≡ tail ss
+leave-open exit after [] es = refl
+leave-open exit after (s ∷ ss) es = refl
+
+pub leave-closed : (exit after : ℕ) (ss : List (List ℕ)) (es : List Loop)
+    → leave exit after ss es .closed ≡ es ++ (record { exit = exit; breaks = innermost ss; after = after } ∷ [])
+leave-closed exit after [] es = refl
+leave-closed exit after (s ∷ ss) es = refl
+
 -- a scope that is left is the new loop's
 left-scope : {b : ℕ} {ss : List (List ℕ)} (e : Loop) (es : List Loop) → e .breaks ≡ innermost ss → InSome b ss → InSome b (tail ss) ⊎ InLoop b (es ++ (e ∷ []))
 left-scope {b} e es h (own a) = inr (in-loop-last es e (subst (Among b) (sym h) a))
@@ -345,7 +361,7 @@ module _ {K C : ℕ} where
               (toInstruction Jump 0) [] nothing,
         ) & none);
         loops = r .loops;
-        traced = ap (pushBreaks (length (f .instructions) ∷ [])) (r .traced);
+        traced = break-in (length (f .instructions)) (readTrace (f .trace) .open′) ∙ ap (pushBreaks (length (f .instructions) ∷ [])) (r .traced);
         belongs = newest b bs e & all-map (λ k q. pushed-one (length (f .instructions)) q) (r .belongs);
       }
 
@@ -365,10 +381,11 @@ module _ {K C : ℕ} where
       rescue = le-trans (s .sound .rescue) (s .sound .low);
       scopes = s .sound .scopes;
       breaks = outer;
-      loops = all-append (all-map land (s .sound .loops)) (subst (λ (ks : List ℕ). Landed l′ (record { exit = exit; breaks = ks; after = n }))
-          (sym own-breaks) this & none);
-      traced = ap tail (s .sound .traced);
-      belongs = all-map (λ b q. left b q) (s .sound .belongs);
+      loops = subst (All (Landed l′)) (sym closed) (all-append (all-map land (s .sound .loops))
+          (subst (λ (ks : List ℕ). Landed l′ (record { exit = exit; breaks = ks; after = n })) (sym own-breaks) this & none));
+      traced = leave-open exit n (readTrace (f .trace) .open′) (loopsOf (f .trace)) ∙ ap tail (s .sound .traced);
+      belongs = subst (λ (es : List Loop). All (λ b. InSome b (tail (f .breakScopes)) ⊎ InLoop b es) (breaksOf (f .trace))) (sym closed)
+          (all-map (λ b q. left b q) (s .sound .belongs));
     };
     solid = record { some-code = omega (arith, same, s .solid .some-code); no-pop = no };
   }
@@ -393,6 +410,9 @@ module _ {K C : ℕ} where
 
       new : Loop
       new = record { exit = exit; breaks = innermost (readTrace (f .trace) .open′); after = n }
+
+      closed : leave exit n (readTrace (f .trace) .open′) (loopsOf (f .trace)) .closed ≡ loopsOf (f .trace) ++ (new ∷ [])
+      closed = leave-closed exit n (readTrace (f .trace) .open′) (loopsOf (f .trace))
 
       left : (b : ℕ) → InSome b (f .breakScopes) ⊎ InLoop b (loopsOf (f .trace)) → InSome b (tail (f .breakScopes))
           ⊎ InLoop b (loopsOf (f .trace) ++ (new ∷ []))

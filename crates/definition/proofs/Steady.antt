@@ -1,20 +1,21 @@
--- What every piece of compiling leaves as it was: the depth, the book's names, the code before the function; and notes are only added. By one lemma
--- for each combinator over arbitrary steps, and one induction on the tree. Assumes nothing.
+-- What every piece of compiling leaves as it was: the depth, the book's names, the code before the function; notes are only added, and constants are added to
+-- the pool as `addConstant` does (`PoolGrows`). By one lemma for each combinator over arbitrary steps, and one induction on the tree. Assumes nothing.
 use Prim.Native.Nat.{ℕ, zero, suc, _+_, _-_}
 use native.Mathlib.Omega.{arith}
 use mathlib.Core.Path.{_≡_, refl, sym, ap, _∙_}
-use mathlib.Core.Bool.{Bool, true, false, cond}
+use mathlib.Core.Bool.{Bool, true, false, cond, not}
 use mathlib.Core.Option.{Option, none, some}
 use mathlib.Core.List.{List, [], _∷_, _++_}
-use lib.Dec.{eqb, ltb}
-use Rattle.words.specs.Ast.{Token, Expression, Expressions, Variables, Statement, Statements}
+use lib.ListN.{length}
+use lib.Dec.{T, eqb, ltb}
+use Rattle.words.specs.Ast.{Token, Expression, Expressions, Variables, Statement, Statements, FunctionDefinition}
 use Rattle.words.specs.Ast.{Identifier, This, Null, Integer, Float, Text, Boolean, Array, Prefix, Infix, If, IfElse, Call, InstanceGet, IndexGet}
 use Rattle.words.specs.Ast.{∅ₑ, _∷ₑ_, ∅ᵥ, Bare, Valued, Local, Return, For, Break, Rescue, Expr, ∅ₛ, _∷ₛ_}
 use Rattle.words.specs.Object.{Constant, constantOf, isShared, integerKind}
 use Rattle.words.specs.Opcode.{Instruction, toInstruction, Pop, PushConstant, ReturnOp, Jump, JumpIf, LocalSet, ForNext, Iterate}
 use Rattle.definition.specs.FunctionState as Emission
 use Rattle.definition.specs.FunctionState.{FunctionState, Entry, removePopOrPushNull, emitReturn, emitBreak, exitBreakScope, defineLocal, lastOpcode}
-use Rattle.definition.specs.FunctionState.{innermost, findName, getNextInstructionIndex}
+use Rattle.definition.specs.FunctionState.{innermost, findName, getNextInstructionIndex, newFunctionState}
 use Rattle.definition.specs.Uses.{Use}
 use Rattle.definition.specs.Compiler
 use Rattle.definition.specs.Compiler.{Work, Step, Added, withFunction, doing, emit, emitOpcode, pushError, addConstant, addConstantNoCheck, findConstant}
@@ -27,7 +28,7 @@ use Rattle.definition.specs.Compiler.{compileValued, compileExpressionSt
 use Rattle.definition.specs.Compiler.{compileArrayExpression, compileCallExpression, compilePrefixExpression, compileInfixExpression, compileOperation}
 use Rattle.definition.specs.Compiler.{compileAssignExpression, compilePair, compileAssignName, compileThisExpression, compileIdentifierExpression}
 use Rattle.definition.specs.Compiler.{compileNullExpression, compileBooleanExpression, compileStringExpression, compileFloatExpression}
-use Rattle.definition.specs.Compiler.{compileIntegerExpression}
+use Rattle.definition.specs.Compiler.{compileIntegerExpression, compileFunctionDefinitionBase}
 use Rattle.definition.proofs.Lists.{cond-case}
 
 -- notes are added in front
@@ -39,17 +40,29 @@ pub longer-trans : {us vs ws : List Use} → Longer us vs → Longer vs ws → L
 longer-trans l same = l
 longer-trans l (more m) = more (longer-trans l m)
 
+-- constants are added at the end: one that is not shared, or one that is not found
+pub data PoolGrows (cs : List Constant) : List Constant → Type 0 where
+  same-pool : PoolGrows cs cs
+  not-shared : (ds : List Constant) (d : Constant) → PoolGrows cs ds → T (not (isShared (d .kind))) → PoolGrows cs (ds ++ (d ∷ []))
+  not-found : (ds : List Constant) (d : Constant) → PoolGrows cs ds → findConstant d ds 0 ≡ none → PoolGrows cs (ds ++ (d ∷ []))
+
+pub grows-trans : {bs cs ds : List Constant} → PoolGrows bs cs → PoolGrows cs ds → PoolGrows bs ds
+grows-trans g same-pool = g
+grows-trans g (not-shared ds d h t) = not-shared ds d (grows-trans g h) t
+grows-trans g (not-found ds d h e) = not-found ds d (grows-trans g h) e
+
 pub record Steady (w w′ : Work) : Type 0 where
   pub depth : w′ .function .depth ≡ w .function .depth
   pub locals : w′ .compiler .locals ≡ w .compiler .locals
   pub before : w′ .before ≡ w .before
   pub uses : Longer (w .uses) (w′ .uses)
+  pub pool : PoolGrows (w .context .constants) (w′ .context .constants)
 
 abbrev pub Steadily : Step → Type 0
 Steadily s = (w : Work) → Steady w (s w)
 
 pub steady-refl : (w : Work) → Steady w w
-steady-refl w = record { depth = refl; locals = refl; before = refl; uses = same }
+steady-refl w = record { depth = refl; locals = refl; before = refl; uses = same; pool = same-pool }
 
 pub steady-trans : {a b c : Work} → Steady a b → Steady b c → Steady a c
 steady-trans m n = record {
@@ -57,17 +70,18 @@ steady-trans m n = record {
   locals = n .locals ∙ m .locals;
   before = n .before ∙ m .before;
   uses = longer-trans (m .uses) (n .uses);
+  pool = grows-trans (m .pool) (n .pool);
 }
 
 -- a change of the function state alone that keeps the depth
 pub steady-function : (w : Work) (f : FunctionState) → f .depth ≡ w .function .depth → Steady w (withFunction f w)
-steady-function w f e = record { depth = e; locals = refl; before = refl; uses = more (more (more same)) }
+steady-function w f e = record { depth = e; locals = refl; before = refl; uses = more (more (more same)); pool = same-pool }
 
 pub steady-emit : (i : Instruction) (p : ℕ) → Steadily (emit i p)
 steady-emit i p w = steady-function w _ refl
 
 pub steady-error : (n : ℕ) (t : Token) → Steadily (pushError n t)
-steady-error n t w = record { depth = refl; locals = refl; before = refl; uses = more same }
+steady-error n t w = record { depth = refl; locals = refl; before = refl; uses = more same; pool = same-pool }
 
 -- function_state.rs
 
@@ -107,17 +121,19 @@ steady-define n w = go (findName n (innermost (w .function .scopes)))
 
 pub steady-constant : (c : Constant) (w : Work) → Steady w (addConstant c w .work)
 unfolding addConstant
-steady-constant c w = cond-case (λ (a : Added). Steady w (a .work)) (isShared (c .kind)) (λ t. go (findConstant c (w .context .constants) 0)) (λ t. plain)
+steady-constant c w =
+    cond-case (λ (a : Added). Steady w (a .work)) (isShared (c .kind)) (λ t. go (findConstant c (w .context .constants) 0) refl)
+    (λ t. new (not-shared (w .context .constants) c same-pool t))
   where
-    plain : Steady w (addConstantNoCheck c w .work)
-    plain = record { depth = refl; locals = refl; before = refl; uses = more same }
+    new : PoolGrows (w .context .constants) (w .context .constants ++ (c ∷ [])) → Steady w (addConstantNoCheck c w .work)
+    new g = record { depth = refl; locals = refl; before = refl; uses = more same; pool = g }
 
-    go : (o : Option ℕ) → Steady w (Compiler.addConstantBy o c w .work)
-    go none = plain
-    go (some i) = steady-refl w
+    go : (o : Option ℕ) → findConstant c (w .context .constants) 0 ≡ o → Steady w (Compiler.addConstantBy o c w .work)
+    go none e = new (not-found (w .context .constants) c same-pool e)
+    go (some i) e = steady-refl w
 
 pub steady-mark : (i : ℕ) → Steadily (Compiler.markGlobal i)
-steady-mark i w = record { depth = refl; locals = refl; before = refl; uses = more same }
+steady-mark i w = record { depth = refl; locals = refl; before = refl; uses = more same; pool = same-pool }
 
 pub steady-emit-constant : (o : ℕ) (c : Constant) (p : ℕ) → Steadily (emitConstant o c p)
 unfolding emitConstant
@@ -288,6 +304,7 @@ steady-deeper {a} A w = record {
   locals = s .locals;
   before = s .before;
   uses = more (more (more (longer-trans (more (more (more same))) (s .uses))));
+  pool = s .pool;
 }
   where
     w₁ : Work
@@ -371,3 +388,12 @@ pub steady-parameters : (ts : List Token) → Steadily (compileParameters ts)
 unfolding compileParameters
 steady-parameters [] = steady-skip
 steady-parameters (t ∷ ts) = steady-then (steady-parameter t) (steady-parameters ts)
+
+pub steady-base : (f : FunctionDefinition) (w : Work) → Steady (withFunction newFunctionState w) (compileFunctionDefinitionBase (f .parameters) (f .body) w)
+unfolding compileFunctionDefinitionBase
+steady-base f w =
+    let w₁ = compileParameters (f .parameters) (withFunction newFunctionState w) in
+    let w₂ = doing (λ g. Emission.withParameters (g .isInstance) (length (f .parameters)) g) w₁ in
+    let w₃ = compileStatements (f .body) w₂ in
+    steady-trans (steady-parameters (f .parameters) (withFunction newFunctionState w)) (steady-trans {b = w₂} (steady-function w₁ _ refl)
+    (steady-trans (steady-statements (f .body) w₂) (steady-return (Emission.getLastPosition (w₃ .function)) w₃)))

@@ -1,13 +1,14 @@
 -- The tables that are delivered have as many entries as are in use: the totals of the reply are the counts by area (`totals-counted`). By what each of a
 -- list gives. Assumes nothing.
-use Prim.Native.Nat.{ℕ, suc}
+use Prim.Native.Nat.{ℕ, suc, _+_}
 use native.Mathlib.Nat.{add-zero}
-use mathlib.Core.Path.{_≡_, refl, ap}
-use mathlib.Core.List.{List, [], _∷_, map}
-use lib.ListN.{length}
+use mathlib.Core.Path.{_≡_, refl, ap, _∙_}
+use mathlib.Core.List.{List, [], _∷_, _++_, map}
+use lib.ListN.{length, length-append}
 use Rattle.definition.specs.FunctionState.{Entry}
-use Rattle.definition.specs.Book.{Function, Context, publicsOf}
-use Rattle.definition.specs.Program.{Entries, entriesFrom, constantEntry, modelEntry, propertyEntries, modelProperties, methodEntry, localEntry}
+use Rattle.definition.specs.Book.{Function, Context, publicCount, bookCount}
+use Rattle.definition.specs.Program.{Entries, entriesFrom, functionCode, functionEntries, constantEntry, modelEntry, propertyEntries, modelProperties}
+use Rattle.definition.specs.Program.{methodEntry, localEntry}
 use Rattle.definition.specs.Program.{publicEntries, assemblyPublics, bookEntry, tablesOf}
 use Rattle.definition.proofs.Safe.{ProgramSafe}
 use Rattle.definition.proofs.Lists.{all-map}
@@ -23,19 +24,29 @@ publics-length : (file : ℕ) (es : List Entry) → length (publicEntries file e
 publics-length file [] = refl
 publics-length file (e ∷ es) = ap suc (publics-length file es)
 
+-- after those that stood
+more : {n : ℕ} (es fs : Entries) → length fs ≡ n → length (es ++ fs) ≡ length es + n
+more es fs e = length-append es fs ∙ ap (λ k. length es + k) e
+
 pub totals-counted : (c : Context) → ProgramSafe c → map (λ (es : Entries). length es) (tablesOf c) ≡ countsOf c 0 0
 unfolding tablesOf
 totals-counted c s =
-    let code = functionsCode-length (all-map (λ (f : Function) p. p .0 .sized) (s .parts .functions)) in
+    let p = c .prior in
+    let code = more (p .code) (entriesFrom functionCode 0 (c .functions))
+    (functionsCode-length (all-map (λ (f : Function) p. p .0 .sized) (s .parts .functions))) in
     let pool = c .pool .constants in
     let constants : length (entriesFrom (constantEntry (c .pool .globals)) 0 pool) ≡ length pool = single-length _ 0 pool in
-    let functions = functions-length 0 (c .functions) in
-    let models : length (entriesFrom modelEntry 0 (c .models)) ≡ length (c .models) = single-length _ 0 (c .models) in
-    let properties = entries-length modelProperties (λ m. length (m .properties)) 0 (λ j m u. properties-length j (m .properties)) (all-any (c .models)) in
+    let functions = more (p .functions) (functionEntries (length (p .code)) (c .functions)) (functions-length (length (p .code)) (c .functions)) in
+    let models = more (p .models) (entriesFrom modelEntry 0 (c .models)) (single-length _ 0 (c .models)) in
+    let M = length (p .models) in
+    let properties = more (p .properties) (entriesFrom modelProperties M (c .models))
+    (entries-length modelProperties (λ m. length (m .properties)) M (λ j m u. properties-length j (m .properties)) (all-any (c .models))) in
     let methods : length (entriesFrom methodEntry 0 (c .methods)) ≡ length (c .methods) = single-length _ 0 (c .methods) in
-    let names : length (entriesFrom (localEntry (c .localValues)) 0 (c .localNames)) ≡ length (c .localNames) = single-length _ 0 (c .localNames) in
-    let publics = entries-length assemblyPublics (λ a. length (a .publics)) 0 (λ j a u. publics-length (a .index) (a .publics)) (all-any (c .assemblies)) in
-    let books : length (entriesFrom bookEntry 0 (c .assemblies)) ≡ length (c .assemblies) = single-length _ 0 (c .assemblies) in
-    let none-own = add-zero (publicsOf (c .assemblies)) in
-    let none-left = add-zero (length (c .assemblies)) in
+    let L = length (p .locals) in
+    let names = more (p .locals) (entriesFrom (localEntry (c .localValues)) L (c .localNames)) (single-length _ L (c .localNames)) in
+    let publics = more (p .publics) (entriesFrom assemblyPublics 0 (c .assemblies))
+    (entries-length assemblyPublics (λ a. length (a .publics)) 0 (λ j a u. publics-length (a .index) (a .publics)) (all-any (c .assemblies))) in
+    let books = more (p .books) (entriesFrom bookEntry 0 (c .assemblies)) (single-length _ 0 (c .assemblies)) in
+    let none-own = add-zero (publicCount c) in
+    let none-left = add-zero (bookCount c) in
     rw (code, constants, functions, models, properties, methods, names, s .counted, publics, books, none-own, none-left)

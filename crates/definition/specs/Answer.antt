@@ -14,7 +14,7 @@ use Rattle.tree.specs.declared.Shape.the-variants.{Fine, Refused}
 use Rattle.definition.specs.Uses.{Limits, firstOver}
 use Rattle.definition.specs.Compiler.{Error}
 use Rattle.definition.specs.Book.{Context, newContext, hasText}
-use Rattle.definition.specs.DependencySolver.{Ending, Delivered, Faulty, Ring, Worked, filesOf, needed, missing, compileNeeded}
+use Rattle.definition.specs.DependencySolver.{Ending, Delivered, Faulty, Ring, Worked, loadedOf, needed, missing, compileNeeded}
 use Rattle.definition.specs.Program.{Entries, tablesOf, errorTables, globalDependencies, filledAll}
 
 -- a context to deliver, or a refusal with its row, its place and its errors
@@ -48,7 +48,7 @@ answerNeeded none numbers ds l c = answerWorked l (compileNeeded numbers ds c)
 -- a bundle, its root first, laid onto a standing context
 unfoldable pub answerBundle : Document → List Document → Limits → Context → Answer
 answerBundle root others l c =
-    let numbers = needed (filesOf (c .assemblies)) root others in
+    let numbers = needed (loadedOf c) root others in
     answerNeeded (missing (root ∷ others) numbers) numbers (root ∷ others) l c
 
 abbrev pub answerDocuments : List Document → Limits → Context → Answer

@@ -12,9 +12,9 @@ use Rattle.words.specs.Opcode.{OPERATION_ADD, OPERATION_SUB, OPERATION_MULTIPLY
 use Rattle.words.specs.Opcode.{OPERATION_LESS, OPERATION_GREATER_EQUAL, OPERATION_LESS_EQUAL, OPERATION_AND, OPERATION_OR}
 use Rattle.words.specs.Areas.{widths}
 use Rattle.words.specs.Object.{integerKind, floatKind, textKind, modelKind, functionKind}
-use Rattle.words.specs.Record.{fieldOf, packPosition}
+use Rattle.words.specs.Record.{fieldOf, packPosition, inPlace}
 use Rattle.tree.specs.Check.{shapeOf, walkBy, headAt, soundAt, thisAfter, sameThis, lacksBy, withinOf}
-use Rattle.tree.specs.Rules.{mayStand, slotAfter, isDue, firstSlot, goesOn, inRange}
+use Rattle.tree.specs.Rules.{mayStand, slotAfter, isDue, firstSlot, goesOn, mayBeAt, inRange}
 use Rattle.tree.specs.Reading.{expressionOf, listOf, pairsOf, parametersOf, definitionOf, documentOf, documentsOf}
 use Rattle.definition.specs.FunctionState.{removePopOrPushNull, emitReturn, emitBreak, exitBreakScope, defineLocal}
 use Rattle.definition.specs.Uses.{firstOver}
@@ -101,10 +101,10 @@ ample = 0 ∷ replicate 12 100
 
 -- the call on words, with areas of these lengths. Its line unfolds all that the call computes with, for whoever unfolds it
 unfoldable pub runIn : List ℕ → List ℕ → Result
-unfolding shapeOf walkBy headAt soundAt thisAfter sameThis lacksBy withinOf fieldOf mayStand slotAfter isDue firstSlot goesOn inRange expressionOf listOf
-    pairsOf parametersOf definitionOf documentOf documentsOf removePopOrPushNull emitReturn emitBreak exitBreakScope defineLocal firstOver addConstant
-    emitConstant emitGlobal compileIntegerExpression compileFloatExpression compileStringExpression compileBooleanExpression compileNullExpression emitName
-    compileIdentifierExpression compileThisExpression compileAssignName compilePair compileAssignExpression compileOperation compileInfixExpression
+unfolding shapeOf walkBy headAt soundAt thisAfter sameThis lacksBy withinOf fieldOf mayStand slotAfter isDue firstSlot goesOn inRange mayBeAt inPlace
+    expressionOf listOf pairsOf parametersOf definitionOf documentOf documentsOf removePopOrPushNull emitReturn emitBreak exitBreakScope defineLocal firstOver
+    addConstant emitConstant emitGlobal compileIntegerExpression compileFloatExpression compileStringExpression compileBooleanExpression compileNullExpression
+    emitName compileIdentifierExpression compileThisExpression compileAssignName compilePair compileAssignExpression compileOperation compileInfixExpression
     compilePrefixExpression compileCallExpression compileArrayExpression compilePart compileNoPart compileIfExpression compileForStatement
     compileExpressionStatement compileValued compileBare compileRescue deeper skip andThen compileExpression compileParameter compileParameters
     compileFunctionDefinitionBase defineContextLocal compileAlias compileIncludeDefinition compileBinding compileLocalDefinition compileProperties
@@ -234,10 +234,9 @@ pub record BenchPieces (listing : List ℕ → List (List ℕ)) : Type 0 where
   -- (f) 7 twice: constant 3 twice
   pub f : run (function (r 25 2 0 0 ∷ r 33 1 5 7 ∷ r 25 2 0 0 ∷ r 33 1 6 7 ∷ []))
       ≡ body (op PushConstant 3 ∷ op₀ Pop ∷ op PushConstant 3 ∷ op₀ ReturnOp ∷ []) (5 ∷ 5 ∷ 6 ∷ 6 ∷ []) (constant integerKind 7 ∷ [])
-  -- 0.5 twice: 3 and 4 (2026-05 makes it 3 and 3)
+  -- 0.5 twice: constant 3 twice (2026-05)
   pub f-floats : run (function (r 25 2 0 0 ∷ r 34 1 5 half ∷ r 25 2 0 0 ∷ r 34 1 6 half ∷ []))
-      ≡ body (op PushConstant 3 ∷ op₀ Pop ∷ op PushConstant 4 ∷ op₀ ReturnOp ∷ []) (5 ∷ 5 ∷ 6 ∷ 6 ∷ [])
-      (constant floatKind half ∷ constant floatKind half ∷ [])
+      ≡ body (op PushConstant 3 ∷ op₀ Pop ∷ op PushConstant 3 ∷ op₀ ReturnOp ∷ []) (5 ∷ 5 ∷ 6 ∷ 6 ∷ []) (constant floatKind half ∷ [])
   -- (g) a lone `this`, no parameter: LocalGet 0, Return, no locals
   pub g : run (expression (r 31 1 5 0 ∷ [])) ≡ body (op LocalGet 0 ∷ op₀ ReturnOp ∷ []) (5 ∷ 5 ∷ []) []
   -- (h) parameter x, `for i in x break end`: length 15; JumpIf at 7 and Jump at 10 go to 13
@@ -431,8 +430,15 @@ pub record Cases : Type 0 where
   pub missing-first : runIn (replicate 13 0) (book (r 11 1 0 3 ∷ [])) ≡ refused 6 3 []
   -- row 5: the index of the second
   pub twice-over : run (bundle (r 1 2 0 2 ∷ r 12 1 0 3 ∷ r 1 1 0 2 ∷ [])) ≡ refused 5 2 []
-  -- a late include is not needed
-  pub late-include : run (book (r 10 1 0 0 ∷ r 11 1 0 3 ∷ [])) ≡ delivered [] []
+  -- an include below another definition is needed too, and of several each
+  pub late-include : run (book (r 12 1 0 7 ∷ r 11 1 0 3 ∷ [])) ≡ refused 6 3 []
+  pub second-late-include : run (bundle (r 1 4 0 2 ∷ r 12 1 0 7 ∷ r 11 1 0 3 ∷ r 11 1 0 4 ∷ r 1 1 0 3 ∷ [])) ≡ refused 6 4 []
+  -- a book that includes itself below another definition is a ring
+  pub late-self-include : run (book (r 12 1 0 7 ∷ r 11 1 8 2 ∷ [])) ≡ refused 8 1 (error 11 0 0 2 ∷ [])
+  -- its book comes first, whatever its number
+  pub late-include-first : table 12 (bundle (r 1 3 0 2 ∷ r 12 1 0 7 ∷ r 11 1 0 3 ∷ r 1 1 0 3 ∷ [])) ≡ (3 ∷ []) ∷ (2 ∷ []) ∷ []
+  -- a book that is not needed needs none
+  pub include-not-needed : table 12 (bundle (r 1 1 0 2 ∷ r 1 2 0 3 ∷ r 11 1 0 4 ∷ [])) ≡ (2 ∷ []) ∷ []
   -- two books, the included one first: its functions come first
   pub smallest-first : run (bundle (r 1 3 0 2 ∷ r 11 1 0 5 ∷ r 14 1 0 3 ∷ r 1 3 0 5 ∷ r 14 2 0 4 ∷ r 21 1 8 0 ∷ []))
       ≡ delivered (plain 0 0 0 nullReturned (0 ∷ 8 ∷ []) ∷ plain 0 0 0 nullReturned (0 ∷ 0 ∷ []) ∷ []) (constant functionKind 0 ∷ constant functionKind 1 ∷ [])

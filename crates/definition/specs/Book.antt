@@ -11,6 +11,7 @@ use Rattle.words.specs.Ast.{PlainFunction, PublicFunction, ImplementDefinition,
 use Rattle.words.specs.Areas.{functionsArea, modelsArea, propertiesArea, methodsArea, contextLocalsArea, publicNamesArea, errorsArea}
 use Rattle.words.specs.Object.{Constant, constantOf, defaultConstants, NULL, TRUE, FALSE, integerKind, floatKind, modelKind, functionKind}
 use Rattle.definition.specs.FunctionState.{Entry, FunctionState, newFunctionState, findName}
+use Rattle.definition.specs.Prior.{Prior, nothingStands, bookIndex, findPublic}
 use Rattle.definition.specs.Uses.{Use, using′, sumOf}
 use Rattle.definition.specs.Compiler.{CompilerContext, CompilerState, Work, withError, addConstant, compileFunctionDefinitionBase}
 
@@ -39,9 +40,12 @@ pub record Assembly : Type 0 where
   pub publics : List Entry
 
 -- the Rust's `CompilerContext`; `pool` is what functions need of it. localValues: context local, constant. localNames: each context local's name and
--- its book's index, which area 7 keeps though the Rust drops its books' `locals`. methods: those of all models, in the order in which each first came
+-- its book's index, which area 7 keeps though the Rust drops its books' `locals`. methods: those of all models, in the order in which each first came.
+-- prior: what stood before a bundle (2026-01). Constants, marks and methods are whole lists, those that stood first; models, functions, context locals'
+-- names and values, and assemblies are those added, and their indices go on from what stood
 pub record Context : Type 0 where
   pub pool : CompilerContext
+  pub prior : Prior
   pub models : List Model
   pub functions : List Function
   pub localValues : List Entry
@@ -64,6 +68,7 @@ Deed = Book → Book
 abbrev pub newContext : Context
 newContext = record {
   pool = record { constants = defaultConstants; globals = []; localCount = 0 };
+  prior = nothingStands;
   models = [];
   functions = [];
   localValues = [];
@@ -77,6 +82,7 @@ newContext = record {
 abbrev pub withPool : CompilerContext → Context → Context
 withPool p c = record {
   pool = p;
+  prior = c .prior;
   models = c .models;
   functions = c .functions;
   localValues = c .localValues;
@@ -89,6 +95,7 @@ withPool p c = record {
 abbrev pub withModels : List Model → Context → Context
 withModels m c = record {
   pool = c .pool;
+  prior = c .prior;
   models = m;
   functions = c .functions;
   localValues = c .localValues;
@@ -101,6 +108,7 @@ withModels m c = record {
 abbrev pub withFunctions : List Function → Context → Context
 withFunctions f c = record {
   pool = c .pool;
+  prior = c .prior;
   models = c .models;
   functions = f;
   localValues = c .localValues;
@@ -113,6 +121,7 @@ withFunctions f c = record {
 abbrev pub withLocalValues : List Entry → Context → Context
 withLocalValues v c = record {
   pool = c .pool;
+  prior = c .prior;
   models = c .models;
   functions = c .functions;
   localValues = v;
@@ -125,6 +134,7 @@ withLocalValues v c = record {
 abbrev pub withEntryPoint : ℕ → Context → Context
 withEntryPoint n c = record {
   pool = c .pool;
+  prior = c .prior;
   models = c .models;
   functions = c .functions;
   localValues = c .localValues;
@@ -137,6 +147,7 @@ withEntryPoint n c = record {
 abbrev pub withAssemblies : List Assembly → Context → Context
 withAssemblies a c = record {
   pool = c .pool;
+  prior = c .prior;
   models = c .models;
   functions = c .functions;
   localValues = c .localValues;
@@ -149,6 +160,7 @@ withAssemblies a c = record {
 abbrev pub withLocalNames : List Entry → Context → Context
 withLocalNames n c = record {
   pool = c .pool;
+  prior = c .prior;
   models = c .models;
   functions = c .functions;
   localValues = c .localValues;
@@ -161,6 +173,7 @@ withLocalNames n c = record {
 abbrev pub withMethods : List Method → Context → Context
 withMethods l c = record {
   pool = c .pool;
+  prior = c .prior;
   models = c .models;
   functions = c .functions;
   localValues = c .localValues;
@@ -183,9 +196,34 @@ pushBookError n t b =
     noted errorsArea (length (b .compiler .errors) + 1)
     (record { compiler = withError n t (b .compiler); assembly = b .assembly; context = b .context; uses = b .uses })
 
--- how many instructions functions have
+-- how many instructions functions have, properties models, and public names books
 abbrev pub codeOf : List Function → ℕ
 codeOf fs = sumOf (λ f. length (f .state .instructions)) fs
+
+abbrev pub propertiesOf : List Model → ℕ
+propertiesOf ms = sumOf (λ m. length (m .properties)) ms
+
+abbrev pub publicsOf : List Assembly → ℕ
+publicsOf as′ = sumOf (λ a. length (a .publics)) as′
+
+-- the entries of areas 1, 3, 4, 5, 8 and 12, those that stood before and those added; the public names are those of the books before this one
+abbrev pub codeCount : Context → ℕ
+codeCount c = length (c .prior .code) + codeOf (c .functions)
+
+abbrev pub functionCount : Context → ℕ
+functionCount c = length (c .prior .functions) + length (c .functions)
+
+abbrev pub modelCount : Context → ℕ
+modelCount c = length (c .prior .models) + length (c .models)
+
+abbrev pub propertyCount : Context → ℕ
+propertyCount c = length (c .prior .properties) + propertiesOf (c .models)
+
+abbrev pub publicCount : Context → ℕ
+publicCount c = length (c .prior .publics) + publicsOf (c .assemblies)
+
+abbrev pub bookCount : Context → ℕ
+bookCount c = length (c .prior .books) + length (c .assemblies)
 
 -- the states that functions and constants work on, and back
 abbrev pub working : Book → Work
@@ -193,7 +231,7 @@ working b = record {
   compiler = b .compiler;
   context = b .context .pool;
   function = newFunctionState;
-  before = codeOf (b .context .functions);
+  before = codeCount (b .context);
   uses = b .uses;
 }
 
@@ -258,9 +296,14 @@ abbrev pub publicOf : Option Assembly → ℕ → Option ℕ
 publicOf none n = none
 publicOf (some a) n = findName n (a .publics)
 
+-- a public name of a file: of the book that stood before, if one did
+abbrev pub includedFrom : Option ℕ → ℕ → ℕ → Context → Option ℕ
+includedFrom (some book) file name c = findPublic book name (c .prior .publics)
+includedFrom none file name c = publicOf (findAssembly file (c .assemblies)) name
+
 -- `find_constant_index_by_include`: the rule of one included name (change point of 2026-07)
 abbrev pub includedName : ℕ → ℕ → Context → Option ℕ
-includedName file name c = publicOf (findAssembly file (c .assemblies)) name
+includedName file name c = includedFrom (bookIndex file 0 (c .prior .books)) file name c
 
 abbrev pub giveValue : Option ℕ → Option ℕ → Deed
 giveValue local none b = b
@@ -323,16 +366,12 @@ pub record Properties : Type 0 where
   pub texts : List ℕ
   pub book : Book
 
--- how many properties models have
-abbrev pub propertiesOf : List Model → ℕ
-propertiesOf ms = sumOf (λ m. length (m .properties)) ms
-
 -- `Model::add_property`: a name that is there already is error 6 and takes no entry
 abbrev pub addProperty : Token → List ℕ → Book → Properties
 addProperty t ps b =
     cond (hasText (t .value) ps)
     (record { texts = ps; book = pushBookError 6 t b })
-    (record { texts = ps ++ (t .value ∷ []); book = noted propertiesArea (propertiesOf (b .context .models) + length ps + 1) b })
+    (record { texts = ps ++ (t .value ∷ []); book = noted propertiesArea (propertyCount (b .context) + length ps + 1) b })
 
 unfoldable pub compileProperties : List Token → List ℕ → Book → Properties
 compileProperties [] ps b = record { texts = ps; book = b }
@@ -341,7 +380,7 @@ compileProperties (t ∷ ts) ps b = let a = addProperty t ps b in compilePropert
 -- `add_model`
 abbrev pub addModel : List ℕ → ℕ → Deed
 addModel properties name b =
-    noted modelsArea (length (b .context .models) + 1)
+    noted modelsArea (modelCount (b .context) + 1)
     (withContext (withModels (b .context .models ++ (record { properties = properties; name = name; file = b .assembly .index } ∷ [])) (b .context)) b)
 
 -- `compile_model_definition`: the properties one by one, the model, its constant, its context local
@@ -349,15 +388,11 @@ unfoldable pub compileModelDefinition : Token → List Token → Book → Placed
 compileModelDefinition name properties b =
     let p = compileProperties properties [] b in
     let b₁ = p .book in
-    let modelIndex = length (b₁ .context .models) in
+    let modelIndex = modelCount (b₁ .context) in
     let b₂ = addModel (p .texts) (name .value) b₁ in
     let a = addBookConstant (constantOf modelKind modelIndex) b₂ in
     let d = defineContextLocal (name .value) (a .book) in
     record { place = a .place; book = setLocalValue (d .place) (a .place) (d .book) }
-
--- how many public names the books before have
-abbrev pub publicsOf : List Assembly → ℕ
-publicsOf as′ = sumOf (λ a. length (a .publics)) as′
 
 abbrev pub withPublics : List Entry → Deed
 withPublics ps b = record {
@@ -372,7 +407,7 @@ abbrev pub publish : ℕ → Placed → Book
 publish name p =
     let b = p .book in
     let publics = insertEntry (record { name = name; index = p .place }) (b .assembly .publics) in
-    noted publicNamesArea (publicsOf (b .context .assemblies) + length publics) (withPublics publics b)
+    noted publicNamesArea (publicCount (b .context) + length publics) (withPublics publics b)
 
 -- functions
 
@@ -387,13 +422,13 @@ compileBase f b = let w = compileFunctionDefinitionBase (f .parameters) (f .body
 -- `add_function`
 abbrev pub addFunction : FunctionState → ℕ → Deed
 addFunction s name b =
-    noted functionsArea (length (b .context .functions) + 1)
+    noted functionsArea (functionCount (b .context) + 1)
     (withContext (withFunctions (b .context .functions ++ (record { state = s; name = name; file = b .assembly .index } ∷ [])) (b .context)) b)
 
 -- the rest of `compile_function_definition`: the last `main`, text 1, is the entry point
 unfoldable pub addPlainFunction : Option ℕ → FunctionState → ℕ → Book → Placed
 addPlainFunction local s name b =
-    let functionIndex = length (b .context .functions) in
+    let functionIndex = functionCount (b .context) in
     let a = addBookConstant (constantOf functionKind functionIndex) (addFunction s name b) in
     let b₁ = setLocalValue local (a .place) (a .book) in
     record { place = a .place; book = cond (eqb name 1) (withContext (withEntryPoint functionIndex (b₁ .context)) b₁) b₁ }
@@ -465,7 +500,7 @@ unfoldable pub compileMethods : List FunctionDefinition → List Entry → Book 
 compileMethods [] es b = record { entries = es; book = b }
 compileMethods (f ∷ fs) es b =
     let m = compileBase f b in
-    compileMethods fs (insertEntry (record { name = f .name .value; index = length (m .book .context .functions) }) es)
+    compileMethods fs (insertEntry (record { name = f .name .value; index = functionCount (m .book .context) }) es)
     (addFunction (m .state) (f .name .value) (m .book))
 
 -- `compile_implement_definition`
@@ -514,7 +549,7 @@ compileDefinitions (d ∷ ds) b = compileDefinitions ds (compileDefinition d b)
 abbrev pub opened : Document → Context → List Use → Book
 opened d c uses = record {
   compiler = record { locals = []; errors = [] };
-  assembly = record { filename = d .filename; index = length (c .assemblies); publics = [] };
+  assembly = record { filename = d .filename; index = bookCount c; publics = [] };
   context = c;
   uses = uses;
 }

@@ -4,7 +4,7 @@
 use Prim.Native.Nat.{ℕ, zero, suc, _+_}
 use mathlib.Core.Bool.{Bool, true, false, cond}
 use mathlib.Core.Option.{Option, none, some}
-use mathlib.Core.List.{List, [], _∷_}
+use mathlib.Core.List.{List, [], _∷_, _++_}
 use lib.ListN.{length}
 use lib.Dec.{eqb, ltb}
 use Rattle.words.specs.Ast.{Document}
@@ -14,18 +14,28 @@ use Rattle.words.specs.Areas.{constantsArea, errorsArea, booksArea}
 use Rattle.definition.specs.Uses.{Use, using′}
 use Rattle.definition.specs.Compiler.{Error}
 use Rattle.definition.specs.Book.{Assembly, Context, compileDocument, hasText}
+use Rattle.definition.specs.Prior.{fileNumbers}
 
--- `get_dependencies`: the includes ahead of the first other definition (change point of 2026-04)
+-- the book that a definition includes
+abbrev pub includedFile : Definition → Option ℕ
+includedFile (IncludeDefinition file as′) = some (file .value)
+includedFile (LocalDefinition x) = none
+includedFile (ModelDefinition x y) = none
+includedFile (PublicModelDefinition x y) = none
+includedFile (PlainFunction x) = none
+includedFile (PublicFunction x) = none
+includedFile (ImplementDefinition x y) = none
+includedFile (ApplyDefinition x y) = none
+
+-- a definition that is no include is passed over
+abbrev pub dependenciesBy : Option ℕ → List ℕ → List ℕ
+dependenciesBy none l = l
+dependenciesBy (some file) l = file ∷ l
+
+-- 'all includes of a book are dependencies, wherever they are written' (2026-04; the Rust's `get_dependencies` stops at the first other definition)
 abbrev pub dependencies : List Definition → List ℕ
 dependencies [] = []
-dependencies (IncludeDefinition file as′ ∷ ds) = file .value ∷ dependencies ds
-dependencies (LocalDefinition x ∷ ds) = []
-dependencies (ModelDefinition x y ∷ ds) = []
-dependencies (PublicModelDefinition x y ∷ ds) = []
-dependencies (PlainFunction x ∷ ds) = []
-dependencies (PublicFunction x ∷ ds) = []
-dependencies (ImplementDefinition x y ∷ ds) = []
-dependencies (ApplyDefinition x y ∷ ds) = []
+dependencies (d ∷ ds) = dependenciesBy (includedFile d) (dependencies ds)
 
 -- `documents.get`
 abbrev pub findDocument : ℕ → List Document → Option Document
@@ -115,14 +125,17 @@ drive zero ds done left c uses = record { ending = Delivered c; uses = uses }
 drive (suc k) ds done left c uses =
     driveBy (ready ds done left) left c uses (λ d c′ uses′. drive k ds (d .filename ∷ done) (without (d .filename) left) c′ uses′)
 
--- the file numbers of the books that stand: `get_loaded_assemblies`
 abbrev pub filesOf : List Assembly → List ℕ
 filesOf [] = []
 filesOf (a ∷ l) = a .filename ∷ filesOf l
 
+-- the file numbers of the books that stand: `get_loaded_assemblies`
+abbrev pub loadedOf : Context → List ℕ
+loadedOf c = fileNumbers (c .prior .books) ++ filesOf (c .assemblies)
+
 -- the work after row 6: first the constants that stand (2) and an entry for each book that stands or is needed (12), then the books
 unfoldable pub compileNeeded : List ℕ → List Document → Context → Worked
 compileNeeded numbers ds c =
-    let standing = filesOf (c .assemblies) in
+    let standing = loadedOf c in
     drive (length numbers) ds standing numbers c
     (using′ booksArea (length standing + length numbers) ∷ using′ constantsArea (length (c .pool .constants)) ∷ [])

@@ -1,10 +1,17 @@
 pub mod FunctionState
 pub mod Uses
 pub mod Compiler
+pub mod Prior
 pub mod Book
 pub mod DependencySolver
 pub mod Needed
 pub mod Program
 pub mod Answer
+pub mod HeadIncludes
 pub mod Within
+pub mod ProgramCheck
+pub mod Promise
+pub mod SharedOnce
 pub mod Bench
+pub mod WithinBench
+pub mod PriorBench

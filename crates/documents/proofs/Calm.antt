@@ -1,12 +1,15 @@
--- What no deed changes of a book: the books put away, its own name and index; and notes are only added. By cases over each deed. Assumes nothing.
+-- What no deed changes of a book: what stood before, the books put away, its own name and index; and notes are only added. By cases over each
+-- deed. Assumes nothing.
 use Prim.Native.Nat.{ℕ}
-use mathlib.Core.Path.{_≡_, refl, _∙_}
+use mathlib.Core.Path.{_≡_, refl, ap, _∙_}
 use mathlib.Core.Bool.{Bool, true, false, cond}
 use mathlib.Core.Option.{Option, none, some}
 use mathlib.Core.List.{List, [], _∷_}
 use Rattle.words.specs.Ast.{Token, Binding, Alias}
 use Rattle.words.specs.Object.{Constant}
 use Rattle.definition.specs.FunctionState.{findName}
+use Rattle.definition.specs.Prior.{Prior, bookIndex, findPublic}
+use Rattle.definition.specs.Book.{Assembly, findAssembly, publicOf, includedFrom}
 use Rattle.definition.specs.Book.{Book, Deed, working, pushBookError, addBookConstant, noted, defineContextLocalBy, defineContextLocal, setLocalValue}
 use Rattle.definition.specs.Book.{giveValue, includedName, compileAlias, compileIncludeDefinition, Value, Standing, Adding, NoConstant, valueOf, compileValue}
 use Rattle.definition.specs.Book.{compileBindingBy, compileBinding, compileLocalDefinition}
@@ -14,6 +17,7 @@ use Rattle.definition.proofs.Steady.{Longer, same, more, longer-trans, steady-c
 
 pub record Calm (b b′ : Book) : Type 0 where
   pub uses : Longer (b .uses) (b′ .uses)
+  pub prior : b′ .context .prior ≡ b .context .prior
   pub assemblies : b′ .context .assemblies ≡ b .context .assemblies
   pub filename : b′ .assembly .filename ≡ b .assembly .filename
   pub index : b′ .assembly .index ≡ b .assembly .index
@@ -22,24 +26,34 @@ abbrev pub Calms : Deed → Type 0
 Calms deed = (b : Book) → Calm b (deed b)
 
 pub calm-refl : (b : Book) → Calm b b
-calm-refl b = record { uses = same; assemblies = refl; filename = refl; index = refl }
+calm-refl b = record { uses = same; prior = refl; assemblies = refl; filename = refl; index = refl }
 
 pub calm-trans : {a b c : Book} → Calm a b → Calm b c → Calm a c
 calm-trans x y = record {
   uses = longer-trans (x .uses) (y .uses);
+  prior = y .prior ∙ x .prior;
   assemblies = y .assemblies ∙ x .assemblies;
   filename = y .filename ∙ x .filename;
   index = y .index ∙ x .index;
 }
 
+-- so an include finds what it found before
+pub included-calm : {b b′ : Book} (file name : ℕ) → Calm b b′ → includedName file name (b′ .context) ≡ includedName file name (b .context)
+included-calm {b} {b′} file name c =
+    ap (λ (p : Prior). includedFrom (bookIndex file 0 (p .books)) file name (b′ .context)) (c .prior) ∙ go (bookIndex file 0 (b .context .prior .books))
+  where
+    go : (o : Option ℕ) → includedFrom o file name (b′ .context) ≡ includedFrom o file name (b .context)
+    go none = ap (λ (as′ : List Assembly). publicOf (findAssembly file as′) name) (c .assemblies)
+    go (some i) = ap (λ (p : Prior). findPublic i name (p .publics)) (c .prior)
+
 pub calm-noted : (area n : ℕ) → Calms (noted area n)
-calm-noted area n b = record { uses = more same; assemblies = refl; filename = refl; index = refl }
+calm-noted area n b = record { uses = more same; prior = refl; assemblies = refl; filename = refl; index = refl }
 
 pub calm-error : (n : ℕ) (t : Token) → Calms (pushBookError n t)
-calm-error n t b = record { uses = more same; assemblies = refl; filename = refl; index = refl }
+calm-error n t b = record { uses = more same; prior = refl; assemblies = refl; filename = refl; index = refl }
 
 pub calm-constant : (c : Constant) → Calms (λ b. addBookConstant c b .book)
-calm-constant c b = record { uses = steady-constant c (working b) .uses; assemblies = refl; filename = refl; index = refl }
+calm-constant c b = record { uses = steady-constant c (working b) .uses; prior = refl; assemblies = refl; filename = refl; index = refl }
 
 pub calm-local : (n : ℕ) → Calms (λ b. defineContextLocal n b .book)
 unfolding defineContextLocal
@@ -47,11 +61,11 @@ calm-local n b = go (findName n (b .compiler .locals))
   where
     go : (o : Option ℕ) → Calm b (defineContextLocalBy o n b .book)
     go (some i) = calm-refl b
-    go none = record { uses = more same; assemblies = refl; filename = refl; index = refl }
+    go none = record { uses = more same; prior = refl; assemblies = refl; filename = refl; index = refl }
 
 pub calm-value : (o : Option ℕ) (c : ℕ) → Calms (setLocalValue o c)
 calm-value none c b = calm-refl b
-calm-value (some i) c b = record { uses = same; assemblies = refl; filename = refl; index = refl }
+calm-value (some i) c b = record { uses = same; prior = refl; assemblies = refl; filename = refl; index = refl }
 
 pub calm-give : (o p : Option ℕ) → Calms (giveValue o p)
 calm-give o none b = calm-refl b

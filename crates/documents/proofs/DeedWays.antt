@@ -1,12 +1,11 @@
 -- One lemma for each way through a routine of the document level that compiles no part: what its calls ensure is the definition's deed. By the laws of
 -- the routines it calls. Assumes nothing.
 use Prim.Native.Nat.{ℕ, _+_, _*_, _<_}
-use native.Mathlib.Nat.{zero-add}
 use native.Mathlib.Omega.{arith}
 use mathlib.Core.Path.{_≡_, refl, sym, ap, _∙_, subst}
 use mathlib.Core.Bool.{Bool, true, false, cond}
 use mathlib.Core.Option.{Option, none, some}
-use mathlib.Core.List.{List, [], _∷_, _++_}
+use mathlib.Core.List.{List, [], _∷_, _++_, append-assoc}
 use lib.ListN.{length, length-append, length-set}
 use lib.Dec.{eqb, ltb}
 use Rattle.words.specs.Ast.{Token}
@@ -16,7 +15,7 @@ use Rattle.definition.specs.FunctionState.{Entry, newFunctionState, findName}
 use Rattle.definition.specs.Uses.{Limits}
 use Rattle.definition.specs.Compiler.{Added, pushError, addConstant}
 use Rattle.definition.specs.Book.{Book, working, pushBookError, addBookConstant, defineContextLocalBy, defineContextLocal, setLocalValue}
-use Rattle.definition.specs.Program.{Entries, localWords, localEntry, entriesFrom}
+use Rattle.definition.specs.Program.{Entries, localWords, localEntry, entriesFrom, localTable}
 use Rattle.definition.proofs.Lists.{cond-case}
 use Rattle.definition.proofs.Cells.{single-length}
 use Rattle.definition.proofs.Program.{added-case}
@@ -37,12 +36,12 @@ use Rattle.building.proofs.ContextLaws.{Grown, grown, over, Defines, there, new
 use Rattle.documents.specs.declared.book.Book as struct
 use Rattle.bodies.specs.Meets.{OnErrors}
 use Rattle.documents.specs.Shelf.{Shelf, shelf, Stock, Fitted, Keeping}
-use Rattle.documents.specs.Deeds.{resumedBook, ErrorsDo, ConstantsPlace, LocalsSeek, Below, LocalsValue}
+use Rattle.documents.specs.Deeds.{resumedBook, ErrorsDo, ConstantsPlace, LocalsSeek, AddedLocal, LocalsValue}
 use Rattle.documents.proofs.Counts.{withLocals}
 use Rattle.documents.proofs.Calm.{calm-local, calm-value}
 use Rattle.documents.proofs.Shelving.{keeping-longer}
 use Rattle.documents.proofs.Resuming.{codeSoFar, held-working, keeping-held}
-use Rattle.documents.proofs.LocalEntries.{locals-entries, valued-longer, insert-all, values-set}
+use Rattle.documents.proofs.LocalEntries.{locals-entries, valued-longer, insert-all, table-set}
 
 -- `fault`
 module _ {s s′ : struct.Book} {before r : FunctionState} {e e′ : List ℕ} (number : ℕ) (token : Token)
@@ -83,19 +82,22 @@ module _ {s s′ : struct.Book} {before r : FunctionState} {k k′ : List ℕ} {
 
 -- `define_local`
 
-names-count : {ps : List ℕ} {m : Shelf} {x : Book} → Stock ps m x → m .book .locals ≡ length (x .context .localNames)
+pub names-count : {ps : List ℕ} {m : Shelf} {x : Book} → Stock ps m x → m .book .locals ≡ length (x .context .prior .locals) + length (x .context .localNames)
 names-count {x = x} S =
-    S .locals .count ∙ single-length (λ i e. localWords (findName i (x .context .localValues)) (e .index) (e .name)) 0 (x .context .localNames)
+    let stood = x .context .prior .locals in
+    S .locals .count ∙ length-append stood _ ∙ ap (λ (n : ℕ). length stood + n)
+    (single-length (λ i e. localWords (findName i (x .context .localValues)) (e .index) (e .name)) (length stood) (x .context .localNames))
 
 module _ {s : struct.Book} {c k f m p t l u n b e : List ℕ} {x : Book} where
   -- area 7 anew leaves all else
   stock-locals : {ps : List ℕ} (name : ℕ) {l′ : List ℕ} → Stock ps (shelf s c k f m p t l u n b e) x
-      → Filled 4 l′ (entriesFrom (localEntry (x .context .localValues)) 0 (x .context .localNames) ++ ((s .file ∷ name ∷ 0 ∷ 0 ∷ []) ∷ [])) (s .locals + 1)
+      → Filled 4 l′ (localTable (x .context) ++ ((s .file ∷ name ∷ 0 ∷ 0 ∷ []) ∷ [])) (s .locals + 1)
       → LocalsHeld (s .«first_local») (s .locals + 1) l′ (withLocal name (s .locals) (x .compiler))
       → Stock ps (shelf (withLocals (taken 0 (s .locals + 1)) s) c k f m p t l′ u n b e) (defineContextLocalBy none name x .book)
   stock-locals name S filled held =
       let many : s .locals ≡ x .context .pool .localCount = names-count S ∙ sym (S .counted) in
       let entry : Entry = record { name = name; index = x .assembly .index } in
+      let stood = x .context .prior .locals in
       record {
         code = S .code;
         sized = S .sized;
@@ -105,12 +107,19 @@ module _ {s : struct.Book} {c k f m p t l u n b e : List ℕ} {x : Book} where
         models = S .models;
         properties = S .properties;
         methods = S .methods;
-        locals = rw (locals-entries (x .context .localValues) (x .context .localNames) entry (S .valued), ← S .file) filled;
+        locals = rw (
+          locals-entries (length stood) (x .context .localValues) (x .context .localNames) entry (S .valued),
+          ← append-assoc stood (entriesFrom (localEntry (x .context .localValues)) (length stood) (x .context .localNames))
+              ((x .assembly .index ∷ name ∷ 0 ∷ 0 ∷ []) ∷ []),
+          ← S .file,
+        ) filled;
         counted = rw (length-append (x .context .localNames) (entry ∷ [])) (omega (arith, S .counted));
-        valued = valued-longer (x .context .localNames) entry (S .valued);
+        valued = valued-longer (length stood) (x .context .localNames) entry (S .valued);
+        first-local = S .first-local;
         named = rw (← many) held;
         publics = S .publics;
         first-public = S .first-public;
+        prior = S .prior;
         file = S .file;
         last-index = S .last-index;
         indexed = S .indexed;
@@ -139,7 +148,7 @@ fitted-locals long F = record {
 module _ {κ : Limits} {ps : List ℕ} {s : struct.Book} {c k f m p t l u n b e : List ℕ} {x : Book} (z : s .full ≡ 0)
     (H : Keeping κ ps (shelf s c k f m p t l u n b e) x) where
   abbrev localEntries : Entries
-  localEntries = entriesFrom (localEntry (x .context .localValues)) 0 (x .context .localNames)
+  localEntries = localTable (x .context)
 
   locals-many : s .locals ≡ x .context .pool .localCount
   locals-many = let S = H .rest z in names-count S ∙ sym (S .counted)
@@ -191,19 +200,20 @@ module _ {s : struct.Book} {l : List ℕ} (name : ℕ) where
   }
     where
       defines : (κ : Limits) (ps c k f m p t u n b e : List ℕ) (x : Book) (H : Keeping κ ps (shelf s c k f m p t l u n b e) x)
-          → Defines (s .«first_local») (s .locals) (s .file) name l (entriesFrom (localEntry (x .context .localValues)) 0 (x .context .localNames))
-          (x .compiler) g T l′
+          → Defines (s .«first_local») (s .locals) (s .file) name l (localTable (x .context)) (x .compiler) g T l′
       defines κ ps c k f m p t u n b e x H = define-context-law (s .file) name d z (H .rest z .locals) (H .rest z .named)
 
 -- the local that is new is one of the book's context
-pub defined-below : (name : ℕ) (x : Book) → x .context .pool .localCount ≡ length (x .context .localNames)
-    → Below (defineContextLocal name x .place) (length (defineContextLocal name x .book .context .localNames))
+pub defined-added : (name : ℕ) (x : Book) → x .context .pool .localCount ≡ length (x .context .prior .locals) + length (x .context .localNames)
+    → AddedLocal (defineContextLocal name x .place) (defineContextLocal name x .book .context)
 unfolding defineContextLocal
-defined-below name x many = go (findName name (x .compiler .locals))
+defined-added name x many = go (findName name (x .compiler .locals))
   where
-    go : (o : Option ℕ) → Below (defineContextLocalBy o name x .place) (length (defineContextLocalBy o name x .book .context .localNames))
+    go : (o : Option ℕ) → AddedLocal (defineContextLocalBy o name x .place) (defineContextLocalBy o name x .book .context)
     go (some i) = tt
-    go none = rw (length-append (x .context .localNames) (record { name = name; index = x .assembly .index } ∷ [])) (omega arith)
+    go none =
+        let longer = length-append (x .context .localNames) (record { name = name; index = x .assembly .index } ∷ []) in
+        (omega arith, omega (arith, longer))
 
 value-length : (full count i constant : ℕ) (l : List ℕ) → length (setValueC full count i constant l) ≡ length l
 unfolding setValueC
@@ -218,11 +228,11 @@ value-length full count i constant l = go (eqb full 0) (ltb i count)
     go true true = word 3 constant (writeWord 4 i 2 1 l) ∙ word 2 1 l
 
 value-keeping : {κ : Limits} {ps : List ℕ} {s : struct.Book} {c k f m p t l u n b e : List ℕ} {x : Book} → s .full ≡ 0 → (i constant : ℕ) {l′ : List ℕ}
-    → l′ ≡ setValueC (s .full) (s .locals) i constant l → i < length (x .context .localNames) → Keeping κ ps (shelf s c k f m p t l u n b e) x
+    → l′ ≡ setValueC (s .full) (s .locals) i constant l → AddedLocal (some i) (x .context) → Keeping κ ps (shelf s c k f m p t l u n b e) x
     → Keeping κ ps (shelf s c k f m p t l′ u n b e) (setLocalValue (some i) constant x)
 value-keeping {s = s} {l = l} {x = x} z i constant {l′} d h H =
     let S = H .rest z in
-    let filled = set-value-law i constant d z (omega (arith, names-count S)) (S .locals) in
+    let filled = set-value-law i constant d z (omega (arith, names-count S, h .1)) (S .locals) in
     record {
       fitted = fitted-locals long (H .fitted);
       full = H .full;
@@ -235,12 +245,14 @@ value-keeping {s = s} {l = l} {x = x} z i constant {l′} d h H =
         models = S .models;
         properties = S .properties;
         methods = S .methods;
-        locals = rw (← zero-add i) (rw (values-set (x .context .localValues) constant 0 i (x .context .localNames) h) at filled);
+        locals = rw (table-set (x .context .prior .locals) (x .context .localValues) (x .context .localNames) constant i (h .0) (h .1)) at filled;
         counted = S .counted;
-        valued = insert-all (record { name = i; index = constant }) h (S .valued);
+        valued = insert-all (record { name = i; index = constant }) (h .1) (S .valued);
+        first-local = S .first-local;
         named = set-value-locals (s .full) i constant d (S .named);
         publics = S .publics;
         first-public = S .first-public;
+        prior = S .prior;
         file = S .file;
         last-index = S .last-index;
         indexed = S .indexed;
@@ -277,7 +289,7 @@ module _ {s : struct.Book} {l : List ℕ} {found : Found} {constant : ℕ} where
   }
     where
       go : (c k f m p t u n b e : List ℕ) (κ : Limits) (ps : List ℕ) (x : Book) (o : Option ℕ) → Keeping κ ps (shelf s c k f m p t l u n b e) x
-          → At i ≡ foundOf o → Below o (length (x .context .localNames)) → Keeping κ ps (shelf s c k f m p t l′ u n b e) (setLocalValue o constant x)
+          → At i ≡ foundOf o → AddedLocal o (x .context) → Keeping κ ps (shelf s c k f m p t l′ u n b e) (setLocalValue o constant x)
       go c k f m p t u n b e κ ps x none H q h = absurd (let y : _≡_ {A = ℕ} 0 1 = cc in omega arith)
       go c k f m p t u n b e κ ps x (some j) H q h =
           let is : i ≡ j = cc in

@@ -43,7 +43,7 @@ module _ {tree : List ℕ} {at end kind : ℕ} {books : List ℕ} (kind-is : kin
   unfolding compileDefinition DefinitionAt sizeD
   definition-include {s′} {l′} is D = record { meets = λ d h q limited κ x shelved H. go d (seeD d tree at h kind-is is) h q κ x shelved H }
     where
-      go : (d : Definition) → ViewD 11 d → DefinitionAt d tree at → at + sizeD d ≡ end → (κ : Limits) (x : Book) → Shelved books (x .context .assemblies)
+      go : (d : Definition) → ViewD 11 d → DefinitionAt d tree at → at + sizeD d ≡ end → (κ : Limits) (x : Book) → Shelved books (x .context)
           → Keeping κ [] (shelf s c k f m p t l u n b e) x → Keeping κ [] (shelf s′ c k f m p t l′ u n b e) (compileDefinition d x)
       go _ (v-IncludeDefinition {t = file} {l = as′}) h q κ x shelved H =
           let same : file .value ≡ valueAt tree at = ap (λ (y : Token). y .value) (h .0 .token) in

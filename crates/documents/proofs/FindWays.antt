@@ -1,14 +1,14 @@
 -- One lemma for each way through `model_of` and `find_model`, over what their calls ensure. Words behind the entries are zeros, and kind 0 is no
 -- model. Assumes nothing.
 use Prim.Native.Nat.{ℕ, zero, suc, _+_, _-_, _≤_, _<_}
-use native.Mathlib.Nat.{zero-add}
 use native.Mathlib.Omega.{arith}
 use native.Mathlib.Decide.{decLt}
-use mathlib.Core.Path.{_≡_, refl, sym, ap, _∙_}
-use mathlib.Core.Bool.{cond}
+use mathlib.Core.Path.{_≡_, refl, sym, ap, subst, _∙_}
+use mathlib.Core.Bool.{Bool, true, false, cond}
 use mathlib.Core.Option.{Option, none, some}
-use mathlib.Core.List.{List, [], _∷_}
-use lib.ListN.{length, getD}
+use mathlib.Core.List.{List, [], _∷_, _++_}
+use lib.ListN.{length, getD, length-append}
+use lib.Seq.{getD-append-add}
 use lib.Dec.{eqb}
 use borrow.Author.Tests.{eq-eqb, ne-eqb}
 use Rattle.words.specs.Areas.{entryField}
@@ -17,12 +17,12 @@ use Rattle.words.specs.Record.{tokenAt, valueAt}
 use Rattle.definition.specs.FunctionState.{Entry, findName}
 use Rattle.definition.specs.Book as book
 use Rattle.definition.specs.Book.{Book, modelOf, constantAt, getLocalValue, pushBookError, findModelIndexByLocalName}
-use Rattle.definition.specs.Program.{entriesFrom, localWords, localEntry, constantEntry, bit}
+use Rattle.definition.specs.Program.{Entries, entriesFrom, localWords, localEntry, constantEntry, bit}
 use Rattle.definition.specs.Within.{All, none as nil, _&_}
 use Rattle.definition.proofs.Cells.{single-length, single-at}
 use Rattle.building.specs.declared.scopes.Found.{Found}
 use Rattle.building.specs.declared.scopes.Found.the-variants.{At, Nothing}
-use Rattle.building.specs.Found.{foundOf, findContextLocalC}
+use Rattle.building.specs.Found.{foundOf, firstFrom, findContextLocalC}
 use Rattle.building.specs.Held.{Filled}
 use Rattle.building.proofs.Filling.{filled-field}
 use Rattle.building.proofs.ContextLaws.{find-context-law}
@@ -51,24 +51,35 @@ no-value : (n i : ℕ) {vs : List Entry} → n ≤ i → All (λ (e : Entry). e 
 no-value n i h nil = refl
 no-value n i h (_&_ {x = e} {xs = vs} p ps) = rw (ne-eqb (e .name) i (λ q. omega arith), no-value n i h ps)
 
-local-word : {l : List ℕ} {n : ℕ} (vs ns : List Entry) → Filled 4 l (entriesFrom (localEntry vs) 0 ns) n
-    → All (λ (e : Entry). e .name < length ns) vs → (i k : ℕ) → k < 4
+local-word : {l : List ℕ} {n : ℕ} (stood : Entries) (vs ns : List Entry) → Filled 4 l (stood ++ entriesFrom (localEntry vs) (length stood) ns) n
+    → All (λ (e : Entry). e .name < length stood + length ns) vs → (i k : ℕ) → length stood ≤ i → k < 4
     → ((o : Option ℕ) (file name : ℕ) → getD (localWords o file name) k 0 ≡ getD (localWords o 0 0) k 0) → getD (localWords none 0 0) k 0 ≡ 0
     → entryField 4 i k l ≡ getD (localWords (findName i vs) 0 0) k 0
-local-word {l} {n} vs ns f valued i k q apart zero′ = go (decLt i (length ns))
+local-word {l} {n} stood vs ns f valued i k past q apart zero′ = go (decLt i (length stood + length ns))
   where
-    many : n ≡ length ns
-    many = f .count ∙ single-length (λ j x. localWords (findName j vs) (x .index) (x .name)) 0 ns
+    words : ℕ → Entry → List ℕ
+    words j x = localWords (findName j vs) (x .index) (x .name)
 
-    go : Dec (i < length ns) → entryField 4 i k l ≡ getD (localWords (findName i vs) 0 0) k 0
+    es : Entries
+    es = entriesFrom (localEntry vs) (length stood) ns
+
+    many : n ≡ length stood + length ns
+    many = f .count ∙ length-append stood es ∙ ap (λ (m : ℕ). length stood + m) (single-length words (length stood) ns)
+
+    go : Dec (i < length stood + length ns) → entryField 4 i k l ≡ getD (localWords (findName i vs) 0 0) k 0
     go (yes h) =
         let nobody : Entry = record { name = 0; index = 0 } in
+        let j = i - length stood in
+        let there : length stood + j ≡ i = omega arith in
+        let entry : getD (stood ++ es) i [] ≡ words i (getD ns j nobody) =
+        subst (λ (m : ℕ). getD (stood ++ es) m [] ≡ words m (getD ns j nobody)) there
+        (getD-append-add stood es j [] ∙ single-at words (length stood) ns j nobody (omega arith)) in
         filled-field i k (omega arith) (omega (arith, many)) q f
-        ∙ ap (λ (e : List ℕ). getD e k 0) (single-at (λ j x. localWords (findName j vs) (x .index) (x .name)) 0 ns i nobody h)
-        ∙ rw (zero-add i) (apart (findName i vs) (getD ns i nobody .index) (getD ns i nobody .name))
+        ∙ ap (λ (e : List ℕ). getD e k 0) entry
+        ∙ apart (findName i vs) (getD ns j nobody .index) (getD ns j nobody .name)
     go (no h) =
         filled-past f i k (omega arith) q (omega (arith, many))
-        ∙ sym (ap (λ (o : Option ℕ). getD (localWords o 0 0) k 0) (no-value (length ns) i (omega arith) valued) ∙ zero′)
+        ∙ sym (ap (λ (o : Option ℕ). getD (localWords o 0 0) k 0) (no-value (length stood + length ns) i (omega arith) valued) ∙ zero′)
 
 -- a constant's model
 constant-at : (cs : List Constant) (c : ℕ) → c < length cs → constantAt cs c ≡ some (getD cs c (constantOf 0 0))
@@ -98,11 +109,24 @@ constant-model {k} {n} gs cs f c = go (decLt c (length cs))
     go (yes h) = rw (at h 0 (omega arith), at h 1 (omega arith), constant-at cs c h)
     go (no h) = rw (filled-past f c 0 (omega arith) (omega arith) (omega (arith, many)), constant-past cs c (omega arith))
 
-pub model-law : {ps : List ℕ} {m : Shelf} {w : Book} → Stock ps m w → (i : ℕ) → modelAtC i (m .locals) (m .constants) ≡ modelOf (getLocalValue i (w .context))
-model-law {ps} {m} {w} S i =
+-- a search finds nothing before it starts
+first-past : (test : ℕ → Bool) (n from i : ℕ) → firstFrom test n from ≡ some i → from ≤ i
+unfolding firstFrom
+first-past test zero from i q = absurd (let z : _≡_ {A = ℕ} 0 1 = cc in omega arith)
+first-past test (suc n) from i q = go (test from) (λ r. omega (arith, first-past test n (from + 1) i r)) q
+  where
+    go : (b : Bool) → (firstFrom test n (from + 1) ≡ some i → from ≤ i) → cond b (some from) (firstFrom test n (from + 1)) ≡ some i → from ≤ i
+    go true r q = let z : from ≡ i = cc in omega arith
+    go false r q = r q
+
+pub model-law : {ps : List ℕ} {m : Shelf} {w : Book} (name : ℕ) → Stock ps m w → (i : ℕ)
+    → findContextLocalC (m .book .«first_local») (m .book .locals) name (m .locals) ≡ some i
+    → modelAtC i (m .locals) (m .constants) ≡ modelOf (getLocalValue i (w .context))
+model-law {ps} {m} {w} name S i found =
+    let past : length (w .context .prior .locals) ≤ i = omega (arith, S .first-local, first-past _ _ _ i found) in
     rw (
-      local-word (w .context .localValues) (w .context .localNames) (S .locals) (S .valued) i 2 (omega arith) apart2 refl,
-      local-word (w .context .localValues) (w .context .localNames) (S .locals) (S .valued) i 3 (omega arith) apart3 refl,
+      local-word (w .context .prior .locals) (w .context .localValues) (w .context .localNames) (S .locals) (S .valued) i 2 past (omega arith) apart2 refl,
+      local-word (w .context .prior .locals) (w .context .localValues) (w .context .localNames) (S .locals) (S .valued) i 3 past (omega arith) apart3 refl,
     )
     (go (findName i (w .context .localValues)))
   where
@@ -157,12 +181,12 @@ module _ {tree : List ℕ} {at : ℕ} {s : struct.Book} {l k e : List ℕ} where
         seeks = λ c f m p t u n b. record {
           meets = λ κ ps w H. rw (
             local-is value (H .rest z) (found-at (findContextLocalC (s .«first_local») (s .locals) name l) searched at-i),
-            ← model-law (H .rest z) i,
+            ← model-law name (H .rest z) i (found-at (findContextLocalC (s .«first_local») (s .locals) name l) searched at-i),
             found-none (modelAtC i l k) model lost,
           ) (E .deeds c k f m p t l u n b .meets κ ps w H);
           sought = λ κ ps w H q. rw (
             local-is value (H .rest z) (found-at (findContextLocalC (s .«first_local») (s .locals) name l) searched at-i),
-            ← model-law (H .rest z) i,
+            ← model-law name (H .rest z) i (found-at (findContextLocalC (s .«first_local») (s .locals) name l) searched at-i),
             found-none (modelAtC i l k) model lost,
           );
         };
@@ -174,12 +198,12 @@ module _ {tree : List ℕ} {at : ℕ} {s : struct.Book} {l k e : List ℕ} where
         seeks = λ c f m p t u n b. record {
           meets = λ κ ps w H. rw (
             local-is value (H .rest z) (found-at (findContextLocalC (s .«first_local») (s .locals) name l) searched at-i),
-            ← model-law (H .rest z) i,
+            ← model-law name (H .rest z) i (found-at (findContextLocalC (s .«first_local») (s .locals) name l) searched at-i),
             found-at (modelAtC i l k) model at-j,
           ) H;
           sought = λ κ ps w H q. rw (
             local-is value (H .rest z) (found-at (findContextLocalC (s .«first_local») (s .locals) name l) searched at-i),
-            ← model-law (H .rest z) i,
+            ← model-law name (H .rest z) i (found-at (findContextLocalC (s .«first_local») (s .locals) name l) searched at-i),
             found-at (modelAtC i l k) model at-j,
           ) at-j;
         };

@@ -14,12 +14,12 @@ use Rattle.words.specs.Object.{constantOf, functionKind}
 use Rattle.words.specs.Record.{tokenAt, valueAt}
 use Rattle.tree.specs.At.{FunctionAt, sizeF}
 use Rattle.definition.specs.Uses.{Limits}
-use Rattle.definition.specs.Book.{Book, Placed, MaybePlaced, Made, withContext}
+use Rattle.definition.specs.Book.{Book, Placed, MaybePlaced, Made, functionCount, withContext}
 use Rattle.definition.specs.Book.{withEntryPoint, pushBookError, addBookConstant, setLocalValue, defineContextLocal}
 use Rattle.definition.specs.Book.{working, compileBase, addFunction, addPlainFunction, compileFunctionDefinition}
 use Rattle.definition.proofs.Lists.{cond-case}
 use Rattle.definition.proofs.Good.{function-moves}
-use Rattle.definition.proofs.Steady.{same, more}
+use Rattle.definition.proofs.Steady.{same, more, steady-base}
 use Rattle.building.specs.declared.function_state.FunctionState.{FunctionState}
 use Rattle.building.specs.declared.scopes.Found.{Found}
 use Rattle.building.specs.Emission.{Coded, coded, dropC}
@@ -32,30 +32,30 @@ use Rattle.building.proofs.BreakLaws.{drop-law}
 use Rattle.building.proofs.Notes.{over-longer}
 use Rattle.documents.specs.declared.book.Book as struct
 use Rattle.documents.specs.Shelf.{shelf, Keeping}
-use Rattle.documents.specs.Deeds.{resumedBook, ErrorsDo, ConstantsPlace, LocalsSeek, LocalsValue, Below}
+use Rattle.documents.specs.Deeds.{resumedBook, ErrorsDo, ConstantsPlace, LocalsSeek, LocalsValue, AddedLocal}
 use Rattle.documents.specs.Adding.{Bounded, ended, baseOf, Built, Makes, AddsFunction, DropsFunction, AddsPlain, DefinesFunction}
 use Rattle.documents.proofs.Counts.{entering}
 use Rattle.documents.proofs.Calm.{Calm, Calms, calm-trans, calm-error, calm-constant, calm-local, calm-value}
 use Rattle.documents.proofs.Shelving.{unfilled}
 use Rattle.documents.proofs.Resuming.{keeping-resumed}
-use Rattle.documents.proofs.DeedWays.{defined-below}
-use Rattle.documents.proofs.MakingWays.{base-steady, calm-base, functions-length, built-back, built-between, added-fitted}
+use Rattle.documents.proofs.DeedWays.{defined-added}
+use Rattle.documents.proofs.MakingWays.{calm-base, functions-count, built-back, built-between, added-fitted}
 
 -- what the deeds leave as it was
 pub calm-added : (f : FunctionDefinition) (name : ℕ) (x : Book) → Calm x (addFunction (compileBase f x .state) name (compileBase f x .book))
-calm-added f name x = calm-trans (calm-base f x) (record { uses = more same; assemblies = refl; filename = refl; index = refl })
+calm-added f name x = calm-trans (calm-base f x) (record { uses = more same; prior = refl; assemblies = refl; filename = refl; index = refl })
 
 calm-plain : (o : Option ℕ) (m : Made) (name : ℕ) → Calm (m .book) (addPlainFunction o (m .state) name (m .book) .book)
 unfolding addPlainFunction
 calm-plain o m name =
     let y = addFunction (m .state) name (m .book) in
-    let i = length (m .book .context .functions) in
+    let i = functionCount (m .book .context) in
     let a = addBookConstant (constantOf functionKind i) y in
     let z = setLocalValue o (a .place) (a .book) in
-    let C : Calm (m .book) z = calm-trans {b = y} (record { uses = more same; assemblies = refl; filename = refl; index = refl })
+    let C : Calm (m .book) z = calm-trans {b = y} (record { uses = more same; prior = refl; assemblies = refl; filename = refl; index = refl })
     (calm-trans (calm-constant (constantOf functionKind i) y) (calm-value o (a .place) (a .book))) in
     cond-case (λ (w : Book). Calm (m .book) w) (eqb name 1)
-    (λ t. record { uses = C .uses; assemblies = C .assemblies; filename = C .filename; index = C .index }) (λ t. C)
+    (λ t. record { uses = C .uses; prior = C .prior; assemblies = C .assemblies; filename = C .filename; index = C .index }) (λ t. C)
 
 -- what is left after the base
 calm-rest : (f : FunctionDefinition) (o : Option ℕ) (m : Made)
@@ -102,7 +102,7 @@ module _ {κ : Limits} {ps : List ℕ} {s : struct.Book} {c₀ k₀ n₀ b₀ e�
         names = K .names;
         breaks = K .breaks;
         errors = K .errors;
-      }) (rw (D .full) (B .function .full)) (λ z. built-back B (sym (D .full) ∙ z)) (base-steady f (working x) .locals)
+      }) (rw (D .full) (B .function .full)) (λ z. built-back B (sym (D .full) ∙ z)) (steady-base f (working x) .locals)
       (function-moves (f .parameters) (f .body) (working x) .context) (λ z.
       let z′ : r .full ≡ 0 = sym (D .full) ∙ z in
       let A = built-between B z′ in
@@ -157,9 +157,11 @@ keeping-entry i H = record {
         locals = S .locals;
         counted = S .counted;
         valued = S .valued;
+        first-local = S .first-local;
         named = S .named;
         publics = S .publics;
         first-public = S .first-public;
+        prior = S .prior;
         file = S .file;
         last-index = S .last-index;
         indexed = S .indexed;
@@ -174,18 +176,18 @@ module _ {name : ℕ} {found : Found} {s s₁ s₂ : struct.Book} {r : FunctionS
     (A : AddsFunction name s r g s₁ g′) (C : ConstantsPlace s₁ k s₂ k′ place (addBookConstant (constantOf functionKind index)))
     (L : LocalsValue s₂ l l′ found place) where
   module _ (z : r .full ≡ 0) (f : FunctionDefinition) (bounded : Bounded f) {c₀ k₀ n₀ b₀ e₀ c n b e m p t u : List ℕ} {κ : Limits} {ps : List ℕ} {x : Book}
-      (o : Option ℕ) (same : found ≡ foundOf o) (below : Below o (length (x .context .localNames)))
+      (o : Option ℕ) (same : found ≡ foundOf o) (below : AddedLocal o (x .context))
       (B : Built κ ps (shelf s c₀ k₀ g m p t l u n₀ b₀ e₀) x f (machine r c k n b e)) where
     abbrev grown : Book
     grown = addFunction (compileBase f x .state) name (compileBase f x .book)
 
     abbrev constant : Placed
-    constant = addBookConstant (constantOf functionKind (length (x .context .functions))) grown
+    constant = addBookConstant (constantOf functionKind (functionCount (x .context))) grown
 
-    many : index ≡ length (x .context .functions)
-    many = index-is ∙ B .book .rest (built-back B z) .functions .count ∙ functions-length 0 (x .context .functions)
+    many : index ≡ functionCount (x .context)
+    many = index-is ∙ functions-count (B .book .rest (built-back B z))
 
-    numbered : ConstantsPlace s₁ k s₂ k′ place (addBookConstant (constantOf functionKind (length (x .context .functions))))
+    numbered : ConstantsPlace s₁ k s₂ k′ place (addBookConstant (constantOf functionKind (functionCount (x .context))))
     numbered = subst (λ (i : ℕ). ConstantsPlace s₁ k s₂ k′ place (addBookConstant (constantOf functionKind i))) many C
 
     added : Keeping κ ps (shelf s₁ c k g′ m p t l u n b e) grown
@@ -211,7 +213,7 @@ module _ {name : ℕ} {found : Found} {s s₁ s₂ : struct.Book} {r : FunctionS
   unfolding addPlainFunction compileBase
   plain-main q = record {
     adds = λ z f bounded c₀ k₀ n₀ b₀ e₀ c n b e m p t u κ ps x o same below B. (
-      rw (eq-eqb name 1 q, many z f bounded o same below B) (keeping-entry (length (x .context .functions)) (plain-keeping z f bounded o same below B)),
+      rw (eq-eqb name 1 q, many z f bounded o same below B) (keeping-entry (functionCount (x .context)) (plain-keeping z f bounded o same below B)),
       plain-placed z f bounded o same below B,
     );
   }
@@ -243,9 +245,9 @@ module _ {tree : List ℕ} {at end name : ℕ} {s s₁ : struct.Book} {c k g l n
     same-found : r .full ≡ 0 → found ≡ foundOf (local .place)
     same-found z = D′ .seeks c k g m p t u n b e .sought κ ps x H (built-back built z)
 
-    is-below : r .full ≡ 0 → Below (local .place) (length (local .book .context .localNames))
+    is-below : r .full ≡ 0 → AddedLocal (local .place) (local .book .context)
     is-below z =
-        defined-below (f .name .value) x (H .rest (unfilled (calm-local (f .name .value) x .uses) H there (built-back built z)) .counted)
+        defined-added (f .name .value) x (H .rest (unfilled (calm-local (f .name .value) x .uses) H there (built-back built z)) .counted)
 
     full-keeping : (r .full ≡ 0 → ⊥) → Keeping κ ps (shelf (resumedBook s₁ r) c₁ k₁ g m p t l₁ u n₁ b₁ e₁) (compileFunctionDefinition f x .book)
     unfolding compileFunctionDefinition compileBase

@@ -12,7 +12,7 @@ use Rattle.tree.specs.At.{Headed, RunAt, runSize, FunctionAt, sizeF}
 use Rattle.definition.specs.FunctionState.{Entry, findName}
 use Rattle.definition.specs.Uses.{Limits}
 use Rattle.definition.specs.Within.{All, _&_}
-use Rattle.definition.specs.Book.{Context, Book, Method, Methods, MaybePlaced, modelOf, getLocalValue, insertEntry, insertMethods, addMethods}
+use Rattle.definition.specs.Book.{Book, functionCount, Method, Methods, MaybePlaced, modelOf, getLocalValue, insertEntry, insertMethods, addMethods}
 use Rattle.definition.specs.Book.{compileBase, compileMethods, findModelBy, findModelIn, findModelIndexByLocalName, compileImplementDefinition}
 use Rattle.building.specs.declared.function_state.FunctionState.{FunctionState}
 use Rattle.building.specs.declared.scopes.Found.{Found}
@@ -29,19 +29,20 @@ use Rattle.documents.proofs.ModelCalm.{calm-methods, calm-find-model}
 use Rattle.documents.proofs.Shelving.{keeping-longer, full-deeds}
 use Rattle.bodies.proofs.Tokens.{skip-law}
 use Rattle.documents.proofs.Pairs.{found-at, found-none}
-use Rattle.documents.proofs.MakingWays.{functions-length}
+use Rattle.documents.proofs.MakingWays.{functions-count}
 use Rattle.documents.proofs.FunctionDeeds.{calm-added}
 use Rattle.documents.proofs.Copying.{inserts-append, methods-then, methods-none}
 use Rattle.documents.proofs.MethodOrder.{Distinct, nobody, distinct-insert, inserts-entry}
 
 -- the definition, by the functions one by one
 
-one-more : (f : FunctionDefinition) (x : Book) → length (implementing f x .context .functions) ≡ length (x .context .functions) + 1
+one-more : (f : FunctionDefinition) (x : Book) → functionCount (implementing f x .context) ≡ functionCount (x .context) + 1
 unfolding compileBase
-one-more f x = length-append (x .context .functions) (record { state = compileBase f x .state; name = f .name .value; file = x .assembly .index } ∷ [])
+one-more f x =
+    omega (arith, length-append (x .context .functions) (record { state = compileBase f x .state; name = f .name .value; file = x .assembly .index } ∷ []))
 
 pub all-more : (fs : List FunctionDefinition) (x : Book)
-    → length (implementingAll fs x .context .functions) ≡ length (x .context .functions) + length fs
+    → functionCount (implementingAll fs x .context) ≡ functionCount (x .context) + length fs
 all-more [] x = omega arith
 all-more (f ∷ fs) x = omega (arith, all-more fs (implementing f x), one-more f x)
 
@@ -54,11 +55,11 @@ abbrev methodsOf : List Entry → Book → Methods
 methodsOf es b = record { entries = es; book = b }
 
 methods-are : (fs : List FunctionDefinition) (es : List Entry) (x : Book)
-    → compileMethods fs es x ≡ methodsOf (collected (numbered (length (x .context .functions)) fs) es) (implementingAll fs x)
+    → compileMethods fs es x ≡ methodsOf (collected (numbered (functionCount (x .context)) fs) es) (implementingAll fs x)
 unfolding compileMethods compileBase
 methods-are [] es x = refl
 methods-are (f ∷ fs) es x =
-    let es′ = insertEntry (record { name = f .name .value; index = length (x .context .functions) }) es in
+    let es′ = insertEntry (record { name = f .name .value; index = functionCount (x .context) }) es in
     methods-are fs es′ (implementing f x)
     ∙ ap (λ (n : ℕ). methodsOf (collected (numbered n fs) es′) (implementingAll fs (implementing f x))) (one-more f x)
 
@@ -87,7 +88,7 @@ sought t fs x = findModelIndexByLocalName t (implementingAll fs x)
 
 by-parts : (t : Token) (fs : List FunctionDefinition) (x : Book)
     → compileImplementDefinition t fs x
-    ≡ addMethods (sought t fs x .place) (collected (numbered (length (x .context .functions)) fs) []) (sought t fs x .book)
+    ≡ addMethods (sought t fs x .place) (collected (numbered (functionCount (x .context)) fs) []) (sought t fs x .book)
 unfolding compileImplementDefinition
 by-parts t fs x =
     ap (λ (c : Methods). let d = findModelIndexByLocalName t (c .book) in addMethods (d .place) (c .entries) (d .book)) (methods-are fs [] x)
@@ -95,7 +96,7 @@ by-parts t fs x =
 pub calm-implement : (t : Token) (fs : List FunctionDefinition) → Calms (compileImplementDefinition t fs)
 calm-implement t fs x =
     rw (by-parts t fs x) (calm-trans (calm-all fs x) (calm-trans (calm-find-model t (implementingAll fs x))
-    (calm-methods (sought t fs x .place) (collected (numbered (length (x .context .functions)) fs) []) (sought t fs x .book))))
+    (calm-methods (sought t fs x .place) (collected (numbered (functionCount (x .context)) fs) []) (sought t fs x .book))))
 
 -- collected by name or not
 collect-all : (m : ℕ) (rs : List Entry) {es : List Entry} → Distinct es → (l : List Method)
@@ -207,7 +208,7 @@ module _ {tree : List ℕ} {at end : ℕ} {l : List ℕ} {s : struct.Book} {c k 
         (run : RunAt (FunctionAt 14) sizeF fs tree (at + 1)) (q : at + (1 + runSize sizeF fs) ≡ end) (bounded : All Bounded fs) (m p u : List ℕ) {κ : Limits}
         {ps : List ℕ} {x : Book} (H : Keeping κ ps (shelf s c k g m p t l u n b e) x) where
       abbrev rows : List Entry
-      rows = numbered (length (x .context .functions)) fs
+      rows = numbered (functionCount (x .context)) fs
 
       compiled : Keeping κ ps (shelf s₁ c₁ k₁ g₁ m p t l u n₁ b₁ e₁) (implementingAll fs x)
       compiled = A .deeds fs run (omega arith) bounded m p t u .meets κ ps x H
@@ -233,15 +234,11 @@ module _ {tree : List ℕ} {at end : ℕ} {l : List ℕ} {s : struct.Book} {c k 
         none-keeping : found ≡ Nothing → Keeping κ ps (shelf s₂ c₁ k₁ g₁ m p t l u n₁ b₁ e₂) (compileImplementDefinition model fs x)
         none-keeping lost = rw (by-parts model fs x, found-none (sought model fs x .place) answer lost) looked-for
 
-        first-is : s .functions ≡ length (x .context .functions)
-        first-is = H .rest live .functions .count ∙ functions-length 0 (x .context .functions)
+        first-is : s .functions ≡ functionCount (x .context)
+        first-is = functions-count (H .rest live)
 
-        most-is : s₂ .functions ≡ length (x .context .functions) + length fs
-        most-is =
-            looked-for .rest z .functions .count
-            ∙ functions-length 0 (sought model fs x .book .context .functions)
-            ∙ ap (λ (y : Context). length (y .functions)) (same-context model (implementingAll fs x))
-            ∙ all-more fs x
+        most-is : s₂ .functions ≡ functionCount (x .context) + length fs
+        most-is = functions-count (looked-for .rest z) ∙ ap functionCount (same-context model (implementingAll fs x)) ∙ all-more fs x
 
         found-keeping : {i : ℕ} → found ≡ At i → {s₃ : struct.Book} {t′ : List ℕ}
             → ImplementsMethods tree (at + 1) end i (s .functions) (s₂ .functions) s₂ t s₃ t′

@@ -10,18 +10,18 @@ use Rattle.words.specs.Areas.{entryField}
 use Rattle.words.specs.Record.{valueAt}
 use Rattle.tree.specs.At.{AliasAt, RunAt, runSize, double}
 use Rattle.definition.specs.Uses.{Limits}
-use Rattle.definition.specs.Book.{Assembly, Book, defineContextLocal, findAssembly, publicOf, includedName, giveValue, compileAlias}
+use Rattle.definition.specs.Book.{Book, defineContextLocal, includedName, giveValue, compileAlias}
 use Rattle.definition.specs.Book.{compileIncludeDefinition}
 use Rattle.building.specs.declared.scopes.Found.{Found}
 use Rattle.building.specs.declared.scopes.Found.the-variants.{At, Nothing}
 use Rattle.building.specs.Found.{foundOf}
 use Rattle.documents.specs.declared.book.Book as struct
 use Rattle.documents.specs.Shelf.{shelf, Keeping, Shelved}
-use Rattle.documents.specs.Deeds.{LocalsSeek, Below, LocalsValue}
+use Rattle.documents.specs.Deeds.{LocalsSeek, AddedLocal, LocalsValue}
 use Rattle.documents.specs.Including.{findBookC, findPairC, publicConstant, includedBy, includedC, LocalsInclude, TakesName, TakesNames}
-use Rattle.documents.proofs.Calm.{calm-local, calm-give, calm-alias}
-use Rattle.documents.proofs.Shelving.{keeping-longer, unfilled}
-use Rattle.documents.proofs.DeedWays.{defined-below}
+use Rattle.documents.proofs.Calm.{calm-local, calm-give, calm-alias, included-calm}
+use Rattle.documents.proofs.Shelving.{keeping-longer, unfilled, shelved-calm}
+use Rattle.documents.proofs.DeedWays.{defined-added}
 use Rattle.documents.proofs.PublicNames.{included-law}
 
 -- `included_name`
@@ -61,7 +61,7 @@ module _ (tree : List ℕ) (at next file : ℕ) (books u : List ℕ) {local : �
     (D : LocalsSeek s l s₁ l₁ found (defineContextLocal local)) where
   -- the local is defined, whatever comes of the public name
   after-local : {l′ : List ℕ}
-      → ((c k f m p t n b e : List ℕ) (κ : Limits) (ps : List ℕ) (x : Book) → Shelved books (x .context .assemblies)
+      → ((c k f m p t n b e : List ℕ) (κ : Limits) (ps : List ℕ) (x : Book) → Shelved books (x .context)
       → Keeping κ ps (shelf s c k f m p t l u n b e) x → Keeping κ ps (shelf s₁ c k f m p t l₁ u n b e) (defineContextLocal local x .book)
       → (let d = defineContextLocal local x in Keeping κ ps (shelf s₁ c k f m p t l′ u n b e)
       (giveValue (d .place) (includedName file (valueAt tree at) (x .context)) (d .book))))
@@ -87,13 +87,12 @@ module _ (tree : List ℕ) (at next file : ℕ) (books u : List ℕ) {local : �
   module _ (z : s₁ .full ≡ 0) {name : ℕ} (hn : name ≡ valueAt tree at) {value : Found}
       (hv : value ≡ foundOf (includedC (s₁ .file) (s₁ .publics) file name books u)) where
     -- the books before are as they were
-    included : (c k f m p t n b e : List ℕ) (κ : Limits) (ps : List ℕ) (x : Book) → Shelved books (x .context .assemblies)
+    included : (c k f m p t n b e : List ℕ) (κ : Limits) (ps : List ℕ) (x : Book) → Shelved books (x .context)
         → Keeping κ ps (shelf s₁ c k f m p t l₁ u n b e) (defineContextLocal local x .book)
         → value ≡ foundOf (includedName file (valueAt tree at) (x .context))
     included c k f m p t n b e κ ps x B H₁ =
-        let kept : defineContextLocal local x .book .context .assemblies ≡ x .context .assemblies = calm-local local x .assemblies in
-        hv ∙ ap foundOf (included-law file name (H₁ .rest z) (rw kept B)
-        ∙ ap (λ (as′ : List Assembly). publicOf (findAssembly file as′) name) kept
+        let kept = calm-local local x in
+        hv ∙ ap foundOf (included-law file name (H₁ .rest z) (shelved-calm kept B) ∙ included-calm file name kept
         ∙ ap (λ (n : ℕ). includedName file n (x .context)) hn)
 
     pub takes-none : value ≡ Nothing → TakesName tree at next file books u s l s₁ l₁
@@ -111,12 +110,12 @@ module _ (tree : List ℕ) (at next file : ℕ) (books u : List ℕ) {local : �
     takes-value {constant} is {l′} L =
         after-local (λ c k f m p t n b e κ ps x B H H₁.
         let d = defineContextLocal local x in
-        let many : x .context .pool .localCount ≡ length (x .context .localNames) = H .rest (unfilled (calm-local local x .uses) H H₁ z) .counted in
-        go c k f m p t n b e κ ps (d .book) (d .place) (D .seeks c k f m p t u n b e .sought κ ps x H z) (defined-below local x many)
+        let many = H .rest (unfilled (calm-local local x .uses) H H₁ z) .counted in
+        go c k f m p t n b e κ ps (d .book) (d .place) (D .seeks c k f m p t u n b e .sought κ ps x H z) (defined-added local x many)
         (includedName file (valueAt tree at) (x .context)) (sym (included c k f m p t n b e κ ps x B H₁) ∙ is) H₁)
       where
         go : (c k f m p t n b e : List ℕ) (κ : Limits) (ps : List ℕ) (x : Book) (p′ : Option ℕ) → found ≡ foundOf p′
-            → Below p′ (length (x .context .localNames)) → (o : Option ℕ) → foundOf o ≡ At constant
+            → AddedLocal p′ (x .context) → (o : Option ℕ) → foundOf o ≡ At constant
             → Keeping κ ps (shelf s₁ c k f m p t l₁ u n b e) x → Keeping κ ps (shelf s₁ c k f m p t l′ u n b e) (giveValue p′ o x)
         go c k f m p t n b e κ ps x p′ r below none q H₁ = absurd (let y : _≡_ {A = ℕ} 0 1 = cc in omega arith)
         go c k f m p t n b e κ ps x p′ r below (some v) q H₁ =
@@ -153,6 +152,6 @@ pairs-more tree i end file {books} {u} {s} {s₁} {s′} {l} {l₁} {l′} h A R
           deeds = λ c k f m p t n b e. record {
             meets = λ κ ps x B H.
                 R .takes as′ (rw (← next) (there .1)) (omega (arith, same)) .deeds c k f m p t n b e .meets κ ps (compileAlias file a x)
-                (rw (calm-alias file a x .assemblies) B) (A .takes a (there .0 .0) (there .0 .1) .deeds c k f m p t n b e .meets κ ps x B H);
+                (shelved-calm (calm-alias file a x) B) (A .takes a (there .0 .0) (there .0 .1) .deeds c k f m p t n b e .meets κ ps x B H);
           };
         }

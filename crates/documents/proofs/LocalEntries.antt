@@ -1,19 +1,20 @@
 -- The entries of area 7: a new local has no value yet, and a value set changes its own entry alone. By induction over the names and over the values.
 -- Assumes nothing.
-use Prim.Native.Nat.{ℕ, zero, suc, _+_, _<_}
-use native.Mathlib.Nat.{zero-add}
+use Prim.Native.Nat.{ℕ, zero, suc, _+_, _-_, _≤_, _<_}
 use native.Mathlib.Omega.{arith}
-use mathlib.Core.Path.{_≡_, refl, sym, ap, _∙_}
+use mathlib.Core.Path.{_≡_, refl, sym, ap, subst, _∙_}
 use mathlib.Core.Bool.{Bool, true, false, cond}
 use mathlib.Core.Option.{Option, none, some}
 use mathlib.Core.List.{List, [], _∷_, _++_}
 use lib.ListN.{length, getD, set, length-append}
+use lib.Seq.{getD-append-add}
 use lib.Dec.{eqb}
 use borrow.Author.Tests.{eqb-true, eq-eqb, ne-eqb}
 use Rattle.definition.specs.FunctionState.{Entry, findName}
 use Rattle.definition.specs.Book.{insertEntry}
 use Rattle.definition.specs.Program.{Entries, entriesFrom, localWords, localEntry}
 use Rattle.definition.specs.Within.{All, none as nil, _&_}
+use Rattle.building.proofs.Filling.{set-append-add}
 use Rattle.building.proofs.PoolLaws.{entries-more}
 
 -- no value, where all are of locals below
@@ -21,19 +22,18 @@ pub no-value : (n : ℕ) {vs : List Entry} → All (λ (e : Entry). e .name < n)
 no-value n nil = refl
 no-value n (_&_ {x = e} {xs = vs} h hs) = rw (ne-eqb (e .name) n (λ q. omega arith), no-value n hs)
 
--- a local more
-pub locals-entries : (vs ns : List Entry) (e : Entry) → All (λ (v : Entry). v .name < length ns) vs
-    → entriesFrom (localEntry vs) 0 (ns ++ (e ∷ [])) ≡ entriesFrom (localEntry vs) 0 ns ++ ((e .index ∷ e .name ∷ 0 ∷ 0 ∷ []) ∷ [])
-locals-entries vs ns e valued =
-    entries-more (localEntry vs) 0 ns e
-    ∙ ap (λ (x : Entries). entriesFrom (localEntry vs) 0 ns ++ x) (rw (zero-add (length ns), no-value (length ns) valued))
+-- a local more, where i stood before
+pub locals-entries : (i : ℕ) (vs ns : List Entry) (e : Entry) → All (λ (v : Entry). v .name < i + length ns) vs
+    → entriesFrom (localEntry vs) i (ns ++ (e ∷ [])) ≡ entriesFrom (localEntry vs) i ns ++ ((e .index ∷ e .name ∷ 0 ∷ 0 ∷ []) ∷ [])
+locals-entries i vs ns e valued =
+    entries-more (localEntry vs) i ns e ∙ ap (λ (x : Entries). entriesFrom (localEntry vs) i ns ++ x) (rw (no-value (i + length ns) valued))
 
-pub valued-longer : (ns : List Entry) (e : Entry) {vs : List Entry} → All (λ (v : Entry). v .name < length ns) vs
-    → All (λ (v : Entry). v .name < length (ns ++ (e ∷ []))) vs
-valued-longer ns e nil = nil
-valued-longer ns e (_&_ {x = v} h hs) =
-    let longer : v .name < length (ns ++ (e ∷ [])) = omega (arith, length-append ns (e ∷ [])) in
-    longer & valued-longer ns e hs
+pub valued-longer : (i : ℕ) (ns : List Entry) (e : Entry) {vs : List Entry} → All (λ (v : Entry). v .name < i + length ns) vs
+    → All (λ (v : Entry). v .name < i + length (ns ++ (e ∷ []))) vs
+valued-longer i ns e nil = nil
+valued-longer i ns e (_&_ {x = v} h hs) =
+    let longer : v .name < i + length (ns ++ (e ∷ [])) = omega (arith, length-append ns (e ∷ [])) in
+    longer & valued-longer i ns e hs
 
 -- a map's insert
 pub insert-found : (e : Entry) (vs : List Entry) → findName (e .name) (insertEntry e vs) ≡ some (e .index)
@@ -84,3 +84,25 @@ values-set vs constant i (suc j) (n ∷ ns) h =
     let next : i + suc j ≡ i + 1 + j = omega arith in
     rw (insert-other (record { name = i + suc j; index = constant }) vs i (λ q. omega arith), next)
     (ap (λ (x : Entries). localWords (findName i vs) (n .index) (n .name) ∷ x) (values-set vs constant (i + 1) j ns (omega arith)))
+
+-- behind those that stood before
+pub table-set : (stood : Entries) (vs ns : List Entry) (constant i : ℕ) → length stood ≤ i → i < length stood + length ns
+    → set (stood ++ entriesFrom (localEntry vs) (length stood) ns) i
+    (set (set (getD (stood ++ entriesFrom (localEntry vs) (length stood) ns) i []) 2 1) 3 constant)
+    ≡ stood ++ entriesFrom (localEntry (insertEntry (record { name = i; index = constant }) vs)) (length stood) ns
+table-set stood vs ns constant i past h = subst Sets there (at (i - length stood) (omega arith))
+  where
+    es : Entries
+    es = entriesFrom (localEntry vs) (length stood) ns
+
+    Sets : ℕ → Type 0
+    Sets n = set (stood ++ es) n (set (set (getD (stood ++ es) n []) 2 1) 3 constant)
+        ≡ stood ++ entriesFrom (localEntry (insertEntry (record { name = n; index = constant }) vs)) (length stood) ns
+
+    there : length stood + (i - length stood) ≡ i
+    there = omega arith
+
+    at : (j : ℕ) → j < length ns → Sets (length stood + j)
+    at j q =
+        rw (getD-append-add stood es j [], set-append-add stood es j (set (set (getD es j []) 2 1) 3 constant))
+        (ap (λ (x : Entries). stood ++ x) (values-set vs constant (length stood) j ns q))

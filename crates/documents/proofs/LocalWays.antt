@@ -19,11 +19,11 @@ use Rattle.building.specs.Found.{foundOf}
 use Rattle.documents.specs.declared.book.Book as struct
 use Rattle.bodies.specs.Meets.{standingOf}
 use Rattle.documents.specs.Shelf.{shelf, Keeping}
-use Rattle.documents.specs.Deeds.{ErrorsDo, ConstantsPlace, LocalsSeek, Below, LocalsValue, LocalsDo, AddsValue, GivesValue, Binds}
+use Rattle.documents.specs.Deeds.{ErrorsDo, ConstantsPlace, LocalsSeek, AddedLocal, LocalsValue, LocalsDo, AddsValue, GivesValue, Binds}
 use Rattle.documents.specs.Deeds.{DefinesLocals}
 use Rattle.documents.proofs.Calm.{calm-constant, calm-local, calm-binding-by}
 use Rattle.documents.proofs.Shelving.{keeping-longer, unfilled, deeds-then}
-use Rattle.documents.proofs.DeedWays.{defined-below}
+use Rattle.documents.proofs.DeedWays.{defined-added}
 
 -- `add_value`
 pub adds-value : {s s′ : struct.Book} {found : Found} (kind value : ℕ) {k l k′ l′ : List ℕ} {place : ℕ}
@@ -132,12 +132,12 @@ module _ (tree : List ℕ) (at next : ℕ) {name : ℕ} (hn : name ≡ valueAt t
   binds-value z hk n₁ {i} is {s′} {k′} {l′} {e′} G =
       after-name (λ c f m p t u n b κ ps y v there H H₁.
       let d = defineContextLocal name y in
-      let many : y .context .pool .localCount ≡ length (y .context .localNames) = H .rest (unfilled (calm-local name y .uses) H H₁ z) .counted in
+      let many = H .rest (unfilled (calm-local name y .uses) H H₁ z) .counted in
       go c f m p t u n b κ ps (d .book) (d .place) v there (λ q. n₁ (hk ∙ q)) (sym is ∙ D .seeks c k f m p t u n b e .sought κ ps y H z)
-      (defined-below name y many) H₁)
+      (defined-added name y many) H₁)
     where
       go : (c f m p t u n b : List ℕ) (κ : Limits) (ps : List ℕ) (y : Book) (o : Option ℕ) (v : Option Token) → ValueAt v tree next
-          → (kindAt tree next ≡ 49 → ⊥) → At i ≡ foundOf o → Below o (length (y .context .localNames))
+          → (kindAt tree next ≡ 49 → ⊥) → At i ≡ foundOf o → AddedLocal o (y .context)
           → Keeping κ ps (shelf s₁ c k f m p t l₁ u n b e) y → Keeping κ ps (shelf s′ c k′ f m p t l′ u n b e′) (compileBindingBy o v y)
       go c f m p t u n b κ ps y none v there n₁ q below H₁ = absurd (let z : _≡_ {A = ℕ} 0 1 = cc in omega arith)
       go c f m p t u n b κ ps y (some j) none there n₁ q below H₁ = absurd (n₁ (there .kind-is))

@@ -1,28 +1,26 @@
 -- A function of a book compiled to its end, and added to the book or dropped: one lemma for each way. By the laws of a function's begin and end, and by
 -- what a function leaves as it was. Assumes nothing.
 use Prim.Native.Nat.{ℕ, suc, _+_, _^_, _<_}
-use native.Mathlib.Nat.{zero-add}
 use native.Mathlib.Omega.{arith}
 use mathlib.Core.Path.{_≡_, refl, sym, ap, _∙_}
 use mathlib.Core.Bool.{Bool, true, false}
-use mathlib.Core.List.{List, [], _∷_, _++_}
-use lib.ListN.{length}
+use mathlib.Core.List.{List, [], _∷_, _++_, append-assoc}
+use lib.ListN.{length, length-append}
 use lib.Dec.{eqb}
 use borrow.Author.Tests.{eqb-true, eqb-false}
 use Rattle.words.specs.Ast.{FunctionDefinition}
 use Rattle.words.specs.Areas.{functionsArea, entriesIn}
 use Rattle.words.specs.Record.{mostRecords}
-use Rattle.definition.specs.FunctionState.{newFunctionState, getLastPosition}
-use Rattle.definition.specs.FunctionState as method
+use Rattle.definition.specs.FunctionState.{newFunctionState}
 use Rattle.definition.specs.Uses.{Limits, total}
 use Rattle.definition.specs.Within.{All, none as nil, _&_}
-use Rattle.definition.specs.Compiler.{Work, doing, withFunction, compileParameters, compileStatements, compileFunctionDefinitionBase}
-use Rattle.definition.specs.Book.{Function, Book, working, codeOf, compileBase, addFunction}
-use Rattle.definition.specs.Program.{Entries, codeEntries, functionCode, functionEntry, functionEntries}
+use Rattle.definition.specs.Compiler.{Work, withFunction, compileFunctionDefinitionBase}
+use Rattle.definition.specs.Book.{Function, Book, working, codeOf, codeCount, functionCount, compileBase, addFunction}
+use Rattle.definition.specs.Program.{Entries, entriesFrom, codeEntries, functionCode, functionEntry, functionEntries, functionTable}
 use Rattle.definition.proofs.Lists.{all-append, all-map}
+use Rattle.definition.proofs.FunctionCode.{functions-length}
 use Rattle.definition.proofs.Limits.{LimitedFunction}
-use Rattle.definition.proofs.Steady.{Longer, same, more, longer-trans, Steady}
-use Rattle.definition.proofs.Steady.{steady-trans, steady-function, steady-return, steady-parameters, steady-statements}
+use Rattle.definition.proofs.Steady.{Longer, same, more, longer-trans, steady-base}
 use Rattle.definition.proofs.Good.{function-moves}
 use Rattle.definition.proofs.Room.{room, room-limited}
 use Rattle.definition.proofs.Operands.{function-kept}
@@ -41,7 +39,7 @@ use Rattle.building.proofs.ContextLaws.{Grown, grown, over, function-words, add
 use Rattle.building.proofs.StateLaws.{touch-law}
 use Rattle.building.proofs.ScopeLaws.{end-law}
 use Rattle.documents.specs.declared.book.Book as struct
-use Rattle.documents.specs.Shelf.{shelf, Stock, Fitted, Keeping}
+use Rattle.documents.specs.Shelf.{Shelf, shelf, Stock, Fitted, Keeping}
 use Rattle.documents.specs.Deeds.{resumedBook}
 use Rattle.documents.specs.Making.{MeetsBase}
 use Rattle.documents.specs.Adding.{Bounded, ended, baseOf, Built, Makes, AddsFunction}
@@ -49,22 +47,12 @@ use Rattle.documents.proofs.Counts.{withFunctionCount}
 use Rattle.documents.proofs.Calm.{Calm}
 use Rattle.documents.proofs.Resuming.{codeSoFar, held-working, named-same}
 
--- what a function leaves as it was
-pub base-steady : (f : FunctionDefinition) (w : Work) → Steady (withFunction newFunctionState w) (compileFunctionDefinitionBase (f .parameters) (f .body) w)
-unfolding compileFunctionDefinitionBase
-base-steady f w =
-    let w₁ = compileParameters (f .parameters) (withFunction newFunctionState w) in
-    let w₂ = doing (λ g. method.withParameters (g .isInstance) (length (f .parameters)) g) w₁ in
-    let w₃ = compileStatements (f .body) w₂ in
-    steady-trans (steady-parameters (f .parameters) (withFunction newFunctionState w)) (steady-trans {b = w₂} (steady-function w₁ _ refl)
-    (steady-trans (steady-statements (f .body) w₂) (steady-return (getLastPosition (w₃ .function)) w₃)))
-
 pub base-longer : (f : FunctionDefinition) (x : Book) → Longer (x .uses) (baseOf f x .uses)
-base-longer f x = longer-trans (more (more (more same))) (base-steady f (working x) .uses)
+base-longer f x = longer-trans (more (more (more same))) (steady-base f (working x) .uses)
 
 pub calm-base : (f : FunctionDefinition) (x : Book) → Calm x (compileBase f x .book)
 unfolding compileBase
-calm-base f x = record { uses = base-longer f x; assemblies = refl; filename = refl; index = refl }
+calm-base f x = record { uses = base-longer f x; prior = refl; assemblies = refl; filename = refl; index = refl }
 
 -- no break is left
 pub base-breaks : (f : FunctionDefinition) (w : Work) → compileFunctionDefinitionBase (f .parameters) (f .body) w .function .breakScopes ≡ []
@@ -113,9 +101,11 @@ entries-of start (g ∷ fs) f =
     let next : start + (n + codeOf fs) ≡ start + n + codeOf fs = omega arith in
     rw next (ap (λ (es : Entries). functionEntry start g ∷ es) (entries-of (start + n) fs f))
 
-pub functions-length : (start : ℕ) (fs : List Function) → length (functionEntries start fs) ≡ length fs
-functions-length start [] = refl
-functions-length start (f ∷ fs) = ap suc (functions-length (start + length (f .state .instructions)) fs)
+pub functions-count : {ps : List ℕ} {m : Shelf} {x : Book} → Stock ps m x → m .book .functions ≡ functionCount (x .context)
+functions-count {x = x} S =
+    let start = length (x .context .prior .code) in
+    S .functions .count ∙ length-append (x .context .prior .functions) (functionEntries start (x .context .functions))
+    ∙ ap (λ (n : ℕ). length (x .context .prior .functions) + n) (functions-length start (x .context .functions))
 
 module _ {κ : Limits} {ps : List ℕ} {s : struct.Book} {c₀ k₀ n₀ b₀ e₀ c k n b e g m p t l u : List ℕ} {r : FunctionState} {x : Book} {f : FunctionDefinition}
     (B : Built κ ps (shelf s c₀ k₀ g m p t l u n₀ b₀ e₀) x f (machine r c k n b e)) where
@@ -151,14 +141,14 @@ module _ {κ : Limits} {ps : List ℕ} {s : struct.Book} {c₀ k₀ n₀ b₀ e�
 
   module _ (l′ : Bounded f) (name : ℕ) where
     -- the entry is the definition's
-    added-words : r .full ≡ 0 → functionWords r (s .file) name ≡ functionEntry (codeOf (x .context .functions)) (made name)
+    added-words : r .full ≡ 0 → functionWords r (s .file) name ≡ functionEntry (codeCount (x .context)) (made name)
     added-words z =
         let C = B .function .rest z in
-        let start : length (codeSoFar x) ≡ codeOf (x .context .functions) = sym (C .before) ∙ base-steady f (working x) .before in
+        let start : length (codeSoFar x) ≡ codeCount (x .context) = sym (C .before) ∙ steady-base f (working x) .before in
         function-words C (few-locals f l′ (working x)) (s .file) name ∙ rw (start, B .book .rest (built-back z) .file)
 
     added-stock : r .full ≡ 0 → {g′ : List ℕ}
-        → Filled 8 g′ (functionEntries 0 (x .context .functions) ++ (functionWords r (s .file) name ∷ [])) (s .functions + 1)
+        → Filled 8 g′ (functionTable (x .context) ++ (functionWords r (s .file) name ∷ [])) (s .functions + 1)
         → Stock ps (shelf (withFunctionCount (taken 0 (s .functions + 1)) (resumedBook s r)) c k g′ m p t l u n b e)
         (addFunction (compileBase f x .state) name (compileBase f x .book))
     unfolding compileBase
@@ -167,22 +157,31 @@ module _ {κ : Limits} {ps : List ℕ} {s : struct.Book} {c₀ k₀ n₀ b₀ e�
         let C = B .function .rest z in
         let A = built-between z in
         let fs = x .context .functions in
-        let first : 0 + codeOf fs ≡ codeOf fs = zero-add (codeOf fs) in
+        let p₀ = x .context .prior in
         record {
-          code = rw (entries-more functionCode 0 fs (made name)) (A .filled-code);
+          code = rw (
+            entries-more functionCode 0 fs (made name),
+            ← append-assoc (p₀ .code) (entriesFrom functionCode 0 fs) (codeEntries (made name .state .instructions) (made name .state .positions)),
+          ) (A .filled-code);
           sized = all-append (S .sized) (C .sized & nil);
           constants = A .filled-constants;
           marks = A .marks;
-          functions = rw (entries-of 0 fs (made name), first, ← added-words z) F;
+          functions = rw (
+            entries-of (length (p₀ .code)) fs (made name),
+            ← append-assoc (p₀ .functions) (functionEntries (length (p₀ .code)) fs) (functionEntry (codeCount (x .context)) (made name) ∷ []),
+            ← added-words z,
+          ) F;
           models = S .models;
           properties = S .properties;
           methods = S .methods;
           locals = S .locals;
           counted = function-moves (f .parameters) (f .body) (working x) .context ∙ S .counted;
           valued = S .valued;
-          named = named-same (base-steady f (working x) .locals) (S .named);
+          first-local = S .first-local;
+          named = named-same (steady-base f (working x) .locals) (S .named);
           publics = S .publics;
           first-public = S .first-public;
+          prior = S .prior;
           file = S .file;
           last-index = S .last-index;
           indexed = S .indexed;
@@ -193,21 +192,19 @@ module _ {κ : Limits} {ps : List ℕ} {s : struct.Book} {c₀ k₀ n₀ b₀ e�
         }
 
     added-grown : r .full ≡ 0 → {T : Taken} {g′ : List ℕ}
-        → Grown functionsArea (s .functions) (functionWords r (s .file) name) g (functionEntries 0 (x .context .functions)) T g′
+        → Grown functionsArea (s .functions) (functionWords r (s .file) name) g (functionTable (x .context)) T g′
         → Keeping κ ps (shelf (withFunctionCount T (resumedBook s r)) c k g′ m p t l u n b e)
         (addFunction (compileBase f x .state) name (compileBase f x .book))
     unfolding compileBase
     added-grown z (grown room filled long) =
-        let many : s .functions ≡ length (x .context .functions) =
-        B .book .rest (built-back z) .functions .count ∙ functions-length 0 (x .context .functions) in
+        let many : s .functions ≡ functionCount (x .context) = functions-count (B .book .rest (built-back z)) in
         record {
           fitted = added-fitted long;
           full = over-fits κ _ _ (rw z at (B .function .full)) refl (omega (arith, room, B .book .fitted .functions, many));
           rest = λ _. added-stock z filled;
         }
     added-grown z (over none-left) =
-        let many : s .functions ≡ length (x .context .functions) =
-        B .book .rest (built-back z) .functions .count ∙ functions-length 0 (x .context .functions) in
+        let many : s .functions ≡ functionCount (x .context) = functions-count (B .book .rest (built-back z)) in
         record {
           fitted = added-fitted refl;
           full = over-here κ _ _ (B .function .full) z (omega (arith, none-left, B .book .fitted .functions, many)) (omega arith);

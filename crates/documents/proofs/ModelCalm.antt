@@ -11,25 +11,25 @@ use Rattle.words.specs.Object.{constantOf, modelKind}
 use Rattle.definition.specs.FunctionState.{Entry, findName}
 use Rattle.definition.specs.Book.{Placed, hasText, pushBookError, addBookConstant, defineContextLocal, addMethods, publish, addProperty}
 use Rattle.definition.specs.Book.{compileProperties, addModel, compileModelDefinition, modelOf, getLocalValue, findModelBy, findModelIn}
-use Rattle.definition.specs.Book.{findModelIndexByLocalName, methodsOf, compileApplyDefinition, Properties, propertiesOf, noted}
+use Rattle.definition.specs.Book.{findModelIndexByLocalName, methodsOf, compileApplyDefinition, Properties, modelCount, propertyCount, noted}
 use Rattle.definition.proofs.Steady.{same, more}
 use Rattle.documents.specs.Modelling.{placeModel}
 use Rattle.documents.proofs.Calm.{Calm, Calms, calm-refl, calm-trans, calm-error, calm-constant, calm-local, calm-value}
 
 pub calm-methods : (o : Option ℕ) (es : List Entry) → Calms (addMethods o es)
 calm-methods none es b = calm-refl b
-calm-methods (some m) es b = record { uses = more same; assemblies = refl; filename = refl; index = refl }
+calm-methods (some m) es b = record { uses = more same; prior = refl; assemblies = refl; filename = refl; index = refl }
 
 pub calm-publish : (name : ℕ) (p : Placed) → Calm (p .book) (publish name p)
-calm-publish name p = record { uses = more same; assemblies = refl; filename = refl; index = refl }
+calm-publish name p = record { uses = more same; prior = refl; assemblies = refl; filename = refl; index = refl }
 
 pub calm-property : (t : Token) (ps : List ℕ) → Calms (λ b. addProperty t ps b .book)
 calm-property t ps b = go (hasText (t .value) ps)
   where
     go : (x : Bool) → Calm b (cond {A = Properties} x (record { texts = ps; book = pushBookError 6 t b })
-        (record { texts = ps ++ (t .value ∷ []); book = noted propertiesArea (propertiesOf (b .context .models) + length ps + 1) b }) .book)
+        (record { texts = ps ++ (t .value ∷ []); book = noted propertiesArea (propertyCount (b .context) + length ps + 1) b }) .book)
     go true = calm-error 6 t b
-    go false = record { uses = more same; assemblies = refl; filename = refl; index = refl }
+    go false = record { uses = more same; prior = refl; assemblies = refl; filename = refl; index = refl }
 
 pub calm-properties : (ts : List Token) (ps : List ℕ) → Calms (λ b. compileProperties ts ps b .book)
 unfolding compileProperties
@@ -38,12 +38,12 @@ calm-properties (t ∷ ts) ps b =
     let a = addProperty t ps b in calm-trans (calm-property t ps b) (calm-properties ts (a .texts) (a .book))
 
 pub calm-model : (ps : List ℕ) (name : ℕ) → Calms (addModel ps name)
-calm-model ps name b = record { uses = more same; assemblies = refl; filename = refl; index = refl }
+calm-model ps name b = record { uses = more same; prior = refl; assemblies = refl; filename = refl; index = refl }
 
 pub calm-place-model : (ps : List ℕ) (name : ℕ) → Calms (λ b. placeModel ps name b .book)
 calm-place-model ps name b =
     let b₂ = addModel ps name b in
-    let constant = constantOf modelKind (length (b .context .models)) in
+    let constant = constantOf modelKind (modelCount (b .context)) in
     let a = addBookConstant constant b₂ in
     let d = defineContextLocal name (a .book) in
     calm-trans (calm-model ps name b)

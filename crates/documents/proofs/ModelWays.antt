@@ -1,18 +1,18 @@
 -- One lemma for each way through `place_model` and `model_definition`, over what their calls ensure; and what stands between definitions. Assumes
 -- nothing.
 use Prim.Native.Nat.{ℕ, _+_, _-_, _≤_}
-use native.Mathlib.Nat.{zero-add}
 use native.Mathlib.Omega.{arith}
 use mathlib.Core.Path.{_≡_, refl, sym, ap, _∙_}
-use mathlib.Core.List.{List, [], _∷_, _++_, append-nil}
+use mathlib.Core.List.{List, [], _∷_, _++_, append-nil, append-assoc}
 use lib.ListN.{length}
 use Rattle.words.specs.Ast.{Token}
 use Rattle.words.specs.Areas.{modelsArea}
 use Rattle.words.specs.Object.{constantOf, modelKind}
 use Rattle.words.specs.Record.{valueAt}
 use Rattle.definition.specs.Uses.{Limits}
-use Rattle.definition.specs.Book.{Book, Placed, Deed, Model, compileProperties, addModel, addBookConstant, defineContextLocal, compileModelDefinition, publish}
-use Rattle.definition.specs.Program.{entriesFrom, modelEntry, modelProperties, propertyEntries}
+use Rattle.definition.specs.Book.{Context, Book, Placed, Deed, Model, modelCount, withModels, compileProperties, addModel, addBookConstant}
+use Rattle.definition.specs.Book.{defineContextLocal, compileModelDefinition, publish}
+use Rattle.definition.specs.Program.{Entries, entriesFrom, modelEntry, modelProperties, propertyEntries, modelTable, propertyTable}
 use Rattle.building.specs.declared.scopes.Found.{Found}
 use Rattle.building.specs.declared.taking.Taken.{Taken}
 use Rattle.building.specs.Taking.{Took}
@@ -26,7 +26,7 @@ use Rattle.documents.proofs.Counts.{withModelCount}
 use Rattle.documents.proofs.Calm.{calm-local}
 use Rattle.documents.proofs.ModelCalm.{calm-place-model}
 use Rattle.documents.proofs.Shelving.{keeping-longer, unfilled}
-use Rattle.documents.proofs.DeedWays.{defined-below}
+use Rattle.documents.proofs.DeedWays.{defined-added}
 use Rattle.documents.proofs.Stocking.{keeping-grown, stock-models, fitted-models}
 use Rattle.documents.proofs.PropertyWays.{models-count}
 
@@ -51,12 +51,15 @@ alone-publish {c = c} {k = k} {f = f} {m = m} {p = p} {t = t} {l = l} {n = n} {b
     record { meets = λ κ w H. B .meets c k f m p t l n b e κ [] (deed w) (A .meets κ w H) (A .placed κ w H) }
 
 -- the properties that were taken for a model are its own
-own-properties : (ms : List Model) (x : Model)
-    → entriesFrom modelProperties 0 ms ++ propertyEntries (length ms) (x .properties)
-    ≡ entriesFrom modelProperties 0 (ms ++ (x ∷ [])) ++ propertyEntries (length (ms ++ (x ∷ []))) []
-own-properties ms x =
-    sym (append-nil (entriesFrom modelProperties 0 (ms ++ (x ∷ []))) ∙ entries-more modelProperties 0 ms x
-    ∙ ap (λ (i : ℕ). entriesFrom modelProperties 0 ms ++ propertyEntries i (x .properties)) (zero-add (length ms)))
+own-properties : (c : Context) (x : Model)
+    → propertyTable c ++ propertyEntries (modelCount c) (x .properties)
+    ≡ propertyTable (withModels (c .models ++ (x ∷ [])) c) ++ propertyEntries (modelCount (withModels (c .models ++ (x ∷ [])) c)) []
+own-properties c x =
+    let first = length (c .prior .models) in
+    let before = entriesFrom modelProperties first (c .models) in
+    append-assoc (c .prior .properties) before (propertyEntries (modelCount c) (x .properties))
+    ∙ sym (append-nil (propertyTable (withModels (c .models ++ (x ∷ [])) c))
+    ∙ ap (λ (es : Entries). c .prior .properties ++ es) (entries-more modelProperties first (c .models) x))
 
 -- a model more
 model-taken : {s : struct.Book} {c k f m p t l u n b e m′ : List ℕ} {κ : Limits} {ps : List ℕ} {w : Book} (name : ℕ) {r : Taken} → s .full ≡ 0
@@ -67,15 +70,17 @@ model-taken {s} {m = m} {ps = ps} {w = w} name {r} z T H =
     let ms = w .context .models in
     let x : Model = record { properties = ps; name = name; file = w .assembly .index } in
     let file : s .file ≡ w .assembly .index = S .file in
-    let entries : entriesFrom modelEntry 0 ms ++ ((s .file ∷ name ∷ []) ∷ []) ≡ entriesFrom modelEntry 0 (ms ++ (x ∷ [])) =
-    rw file (sym (entries-more modelEntry 0 ms x)) in
-    keeping-grown H z modelsArea (length ms + 1) _ refl (took-law T z (S .models)) (omega arith) refl (H .fitted .models)
+    let stood = w .context .prior .models in
+    let entries : modelTable (w .context) ++ ((s .file ∷ name ∷ []) ∷ []) ≡ modelTable (withModels (ms ++ (x ∷ [])) (w .context)) =
+    rw file (append-assoc stood (entriesFrom modelEntry 0 ms) ((w .assembly .index ∷ name ∷ []) ∷ [])
+    ∙ ap (λ (es : Entries). stood ++ es) (sym (entries-more modelEntry 0 ms x))) in
+    keeping-grown H z modelsArea (modelCount (w .context) + 1) _ refl (took-law T z (S .models)) (omega arith) refl (H .fitted .models)
     (omega (arith, models-count S)) refl (λ e. fitted-models e (H .fitted))
-    (λ f q. rw q (stock-models S (rw (← entries) f) (own-properties ms x)))
+    (λ f q. rw q (stock-models S (rw (← entries) f) (own-properties (w .context) x)))
 
 -- its constant
 abbrev modelConstant : List ℕ → ℕ → Book → Placed
-modelConstant ps name w = addBookConstant (constantOf modelKind (length (w .context .models))) (addModel ps name w)
+modelConstant ps name w = addBookConstant (constantOf modelKind (modelCount (w .context))) (addModel ps name w)
 
 -- `place_model`
 module _ {name : ℕ} {s : struct.Book} {k m l : List ℕ} where
@@ -89,7 +94,7 @@ module _ {name : ℕ} {s : struct.Book} {k m l : List ℕ} where
       {s₂ : struct.Book} {k′ : List ℕ} (A : ConstantsPlace (withModelCount r s) k s₂ k′ place (addBookConstant (constantOf modelKind (s .models))))
       {found : Found} {s₃ : struct.Book} {l₃ : List ℕ} (D : LocalsSeek s₂ l s₃ l₃ found (defineContextLocal name)) where
     module _ (c f p t u n b e : List ℕ) (κ : Limits) (ps : List ℕ) (w : Book) (H : Keeping κ ps (shelf s c k f m p t l u n b e) w) where
-      index : s .models ≡ length (w .context .models)
+      index : s .models ≡ modelCount (w .context)
       index = models-count (H .rest z)
 
       H₁ : Keeping κ [] (shelf (withModelCount r s) c k f m′ p t l u n b e) (addModel ps name w)
@@ -113,7 +118,7 @@ module _ {name : ℕ} {s : struct.Book} {k m l : List ℕ} where
         agrees = λ z₃. (
           D .seeks c k′ f m′ p t u n b e .sought κ [] (modelConstant ps name w .book) H₂ z₃,
           place₂ (before z₃),
-          defined-below name (modelConstant ps name w .book) (H₂ .rest (before z₃) .counted),
+          defined-added name (modelConstant ps name w .book) (H₂ .rest (before z₃) .counted),
         );
       }
 

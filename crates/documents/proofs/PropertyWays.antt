@@ -5,15 +5,15 @@ use mathlib.Core.Path.{_≡_, refl, sym, ap, _∙_}
 use mathlib.Core.Bool.{Bool, true, false, cond}
 use mathlib.Core.Option.{Option, none, some}
 use mathlib.Core.List.{List, [], _∷_, _++_, append-assoc}
-use lib.ListN.{length, getD}
+use lib.ListN.{length, getD, length-append}
 use lib.Dec.{eqb}
 use borrow.Author.Tests.{eq-eqb}
 use Rattle.words.specs.Ast.{Token}
 use Rattle.words.specs.Record.{tokenAt, valueAt}
 use Rattle.words.specs.Areas.{propertiesArea}
 use Rattle.definition.specs.Uses.{Limits}
-use Rattle.definition.specs.Book.{Book, Context, Model, Properties, noted, hasText, propertiesOf, pushBookError, addProperty, compileProperties}
-use Rattle.definition.specs.Program.{Entries, entriesFrom, propertyEntries, modelProperties}
+use Rattle.definition.specs.Book.{Book, Context, Properties, noted, hasText, modelCount, propertyCount, pushBookError, addProperty, compileProperties}
+use Rattle.definition.specs.Program.{Entries, entriesFrom, propertyEntries, modelProperties, propertyTable}
 use Rattle.definition.proofs.Cells.{all-any, entries-length, single-length}
 use Rattle.tree.specs.At.{RunAt, runSize, NameAt, single}
 use Rattle.building.specs.declared.scopes.Found.{Found}
@@ -37,7 +37,7 @@ use Rattle.documents.proofs.Stocking.{keeping-grown, stock-properties, 
 -- the loop over a model's properties
 pub record AddsProperties (tree : List ℕ) (at end first : ℕ) (s : struct.Book) (p e : List ℕ) (s′ : struct.Book) (p′ e′ : List ℕ) : Type 0 where
   pub meets : (c k f m t l u n b : List ℕ) (κ : Limits) (ps : List ℕ) (w : Book) (ts : List Token) → RunAt NameAt single ts tree at
-      → at + runSize single ts ≡ end → (s .full ≡ 0 → first ≡ propertiesOf (w .context .models)) → Keeping κ ps (shelf s c k f m p t l u n b e) w
+      → at + runSize single ts ≡ end → (s .full ≡ 0 → first ≡ propertyCount (w .context)) → Keeping κ ps (shelf s c k f m p t l u n b e) w
       → Keeping κ (compileProperties ts ps w .texts) (shelf s′ c k f m p′ t l u n b e′) (compileProperties ts ps w .book)
 
 abbrev propertyWords : ℕ → ℕ → List ℕ
@@ -51,8 +51,12 @@ property-length : (i : ℕ) (ns : List ℕ) → length (propertyEntries i ns) �
 property-length i [] = refl
 property-length i (n ∷ ns) = ap suc (property-length i ns)
 
-pub before-length : (ms : List Model) → length (entriesFrom modelProperties 0 ms) ≡ propertiesOf ms
-before-length ms = entries-length modelProperties (λ m. length (m .properties)) 0 (λ j m u. property-length j (m .properties)) (all-any ms)
+before-length : (c : Context) → length (propertyTable c) ≡ propertyCount c
+before-length c =
+    let first = length (c .prior .models) in
+    length-append (c .prior .properties) (entriesFrom modelProperties first (c .models))
+    ∙ ap (λ (n : ℕ). length (c .prior .properties) + n)
+    (entries-length modelProperties (λ m. length (m .properties)) first (λ j m u. property-length j (m .properties)) (all-any (c .models)))
 
 -- a search, by the texts that are there
 isThere : Option ℕ → Bool
@@ -98,18 +102,20 @@ more-in i name front ps =
     ∙ sym (rows-more (propertyWords i) 0 ps name) ∙ sym (property-rows i 0 (ps ++ (name ∷ []))))
 
 -- the count of models is the next model's number
-pub models-count : {ps : List ℕ} {m : Shelf} {w : Book} → Stock ps m w → m .book .models ≡ length (w .context .models)
-models-count {w = w} S = S .models .count ∙ single-length (λ _ x. x .file ∷ x .name ∷ []) 0 (w .context .models)
+pub models-count : {ps : List ℕ} {m : Shelf} {w : Book} → Stock ps m w → m .book .models ≡ modelCount (w .context)
+models-count {w = w} S =
+    let stood = w .context .prior .models in
+    S .models .count ∙ length-append stood _
+    ∙ ap (λ (n : ℕ). length stood + n) (single-length (λ _ x. x .file ∷ x .name ∷ []) 0 (w .context .models))
 
 -- whether the search finds the name
 there-by : {first : ℕ} {s : struct.Book} {p e : List ℕ} (name : ℕ) → s .full ≡ 0 → (c k f m t l u n b : List ℕ) (κ : Limits) (ps : List ℕ) (w : Book)
-    → first ≡ propertiesOf (w .context .models) → Keeping κ ps (shelf s c k f m p t l u n b e) w
+    → first ≡ propertyCount (w .context) → Keeping κ ps (shelf s c k f m p t l u n b e) w
     → hasText name ps ≡ isThere (findPairC 2 first (s .properties) (s .models) name p)
 there-by {s = s} name z c k f m t l u n b κ ps w start H =
     let S = H .rest z in
-    let models : s .models ≡ length (w .context .models) = models-count S in
-    rw models (has-in (length (w .context .models)) name (entriesFrom modelProperties 0 (w .context .models)) ps (S .properties)
-    (start ∙ sym (before-length (w .context .models))))
+    let models : s .models ≡ modelCount (w .context) = models-count S in
+    rw models (has-in (modelCount (w .context)) name (propertyTable (w .context)) ps (S .properties) (start ∙ sym (before-length (w .context))))
 
 -- `add_property`
 module _ {tree : List ℕ} {at first : ℕ} {s : struct.Book} {p e : List ℕ} where
@@ -140,19 +146,19 @@ module _ {tree : List ℕ} {at first : ℕ} {s : struct.Book} {p e : List ℕ} w
         rw has (go c k f m t l u n b κ ps w (start z) H (H .rest z));
   }
     where
-      go : (c k f m t l u n b : List ℕ) (κ : Limits) (ps : List ℕ) (w : Book) → first ≡ propertiesOf (w .context .models)
+      go : (c k f m t l u n b : List ℕ) (κ : Limits) (ps : List ℕ) (w : Book) → first ≡ propertyCount (w .context)
           → Keeping κ ps (shelf s c k f m p t l u n b e) w → Stock ps (shelf s c k f m p t l u n b e) w
           → Keeping κ (ps ++ (valueAt tree at ∷ [])) (shelf (withPropertyCount r s) c k f m p′ t l u n b e)
-          (noted propertiesArea (propertiesOf (w .context .models) + length ps + 1) w)
+          (noted propertiesArea (propertyCount (w .context) + length ps + 1) w)
       go c k f m t l u n b κ ps w start H S =
-          let index = length (w .context .models) in
-          let front = entriesFrom modelProperties 0 (w .context .models) in
+          let index = modelCount (w .context) in
+          let front = propertyTable (w .context) in
           let models : s .models ≡ index = models-count S in
           let count = property-count index name front ps (S .properties) in
           let entries : (front ++ propertyEntries index ps) ++ ((s .models ∷ name ∷ []) ∷ []) ≡ front ++ propertyEntries index (ps ++ (valueAt tree at ∷ [])) =
           rw (models, value) (more-in index (valueAt tree at) front ps) in
-          keeping-grown H z propertiesArea (propertiesOf (w .context .models) + length ps + 1) _ refl
-          (took-law T z (S .properties)) (omega arith) refl (H .fitted .properties) (omega (arith, before-length (w .context .models))) refl
+          keeping-grown H z propertiesArea (propertyCount (w .context) + length ps + 1) _ refl
+          (took-law T z (S .properties)) (omega arith) refl (H .fitted .properties) (omega (arith, before-length (w .context))) refl
           (λ e. fitted-properties e (H .fitted)) (λ f q. rw q (stock-properties S (rw (← entries) f)))
 
 -- the loop
@@ -162,7 +168,7 @@ module _ (tree : List ℕ) (end first : ℕ) where
   properties-end i {s} {p} {e} past = record { meets = λ c k f m t l u n b κ ps w ts. go c k f m t l u n b κ ps w ts }
     where
       go : (c k f m t l u n b : List ℕ) (κ : Limits) (ps : List ℕ) (w : Book) (ts : List Token) → RunAt NameAt single ts tree i
-          → i + runSize single ts ≡ end → (s .full ≡ 0 → first ≡ propertiesOf (w .context .models)) → Keeping κ ps (shelf s c k f m p t l u n b e) w
+          → i + runSize single ts ≡ end → (s .full ≡ 0 → first ≡ propertyCount (w .context)) → Keeping κ ps (shelf s c k f m p t l u n b e) w
           → Keeping κ (compileProperties ts ps w .texts) (shelf s c k f m p t l u n b e) (compileProperties ts ps w .book)
       go c k f m t l u n b κ ps w [] run q start H = H
       go c k f m t l u n b κ ps w (x ∷ ts) run q start H = absurd (omega arith)
@@ -171,7 +177,7 @@ module _ (tree : List ℕ) (end first : ℕ) where
   same-models t ps w = go (hasText (t .value) ps)
     where
       go : (x : Bool) → cond {A = Properties} x (record { texts = ps; book = pushBookError 6 t w })
-          (record { texts = ps ++ (t .value ∷ []); book = noted propertiesArea (propertiesOf (w .context .models) + length ps + 1) w }) .book .context
+          (record { texts = ps ++ (t .value ∷ []); book = noted propertiesArea (propertyCount (w .context) + length ps + 1) w }) .book .context
           ≡ w .context
       go true = refl
       go false = refl
@@ -183,7 +189,7 @@ module _ (tree : List ℕ) (end first : ℕ) where
       record { meets = λ c k f m t l u n b κ ps w ts. go c k f m t l u n b κ ps w ts }
     where
       go : (c k f m t l u n b : List ℕ) (κ : Limits) (ps : List ℕ) (w : Book) (ts : List Token) → RunAt NameAt single ts tree i
-          → i + runSize single ts ≡ end → (s .full ≡ 0 → first ≡ propertiesOf (w .context .models)) → Keeping κ ps (shelf s c k f m p t l u n b e) w
+          → i + runSize single ts ≡ end → (s .full ≡ 0 → first ≡ propertyCount (w .context)) → Keeping κ ps (shelf s c k f m p t l u n b e) w
           → Keeping κ (compileProperties ts ps w .texts) (shelf s′ c k f m p′ t l u n b e′) (compileProperties ts ps w .book)
       go c k f m t l u n b κ ps w [] run q start H = absurd (omega arith)
       go c k f m t l u n b κ ps w (x ∷ ts) run q start H =
@@ -192,12 +198,12 @@ module _ (tree : List ℕ) (end first : ℕ) where
           let w₁ = addProperty (tokenAt tree i) ps w in
           rw token (B .meets c k f m t l u n b κ (w₁ .texts) (w₁ .book) ts (run .1) (omega arith)
           (λ z. start (unfilled (calm-property (tokenAt tree i) ps w .uses) H H₁ z)
-          ∙ ap (λ (x : Context). propertiesOf (x .models)) (sym (same-models (tokenAt tree i) ps w))) H₁)
+          ∙ ap propertyCount (sym (same-models (tokenAt tree i) ps w))) H₁)
 
   pub properties-done : (at : ℕ) {s s′ : struct.Book} {p e p′ e′ : List ℕ} → first ≡ s .properties → AddsProperties tree at end first s p e s′ p′ e′
       → ModelsProperties tree at end s p e s′ p′ e′
   properties-done at {s} q A = record {
     meets = λ c k f m t l u n b κ w ts run size H. A .meets c k f m t l u n b κ [] w ts run size
-        (λ z. q ∙ property-count (length (w .context .models)) 0 (entriesFrom modelProperties 0 (w .context .models)) [] (H .rest z .properties)
-        ∙ omega (arith, before-length (w .context .models))) H;
+        (λ z. q ∙ property-count (modelCount (w .context)) 0 (propertyTable (w .context)) [] (H .rest z .properties)
+        ∙ omega (arith, before-length (w .context))) H;
   }

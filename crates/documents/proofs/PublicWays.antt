@@ -11,8 +11,8 @@ use borrow.Author.Tests.{eqb-true, eq-eqb}
 use Rattle.words.specs.Areas.{publicNamesArea, Patched}
 use Rattle.definition.specs.FunctionState.{Entry}
 use Rattle.definition.specs.Uses.{Limits}
-use Rattle.definition.specs.Book.{Assembly, Book, Placed, insertEntry, publicsOf, publish}
-use Rattle.definition.specs.Program.{Entries, entriesFrom, publicEntries, assemblyPublics}
+use Rattle.definition.specs.Book.{Context, Book, Placed, insertEntry, publicCount, publish}
+use Rattle.definition.specs.Program.{Entries, entriesFrom, publicEntries, assemblyPublics, publicTable}
 use Rattle.definition.proofs.Cells.{all-any, entries-length}
 use Rattle.building.specs.declared.scopes.Found.{Found}
 use Rattle.building.specs.declared.scopes.Found.the-variants.{At, Nothing}
@@ -54,8 +54,11 @@ public-length : (file : ℕ) (es : List Entry) → length (publicEntries file es
 public-length file [] = refl
 public-length file (e ∷ es) = ap suc (public-length file es)
 
-before-length : (as′ : List Assembly) → length (entriesFrom assemblyPublics 0 as′) ≡ publicsOf as′
-before-length as′ = entries-length assemblyPublics (λ a. length (a .publics)) 0 (λ j a u. public-length (a .index) (a .publics)) (all-any as′)
+pub before-length : (c : Context) → length (publicTable c) ≡ publicCount c
+before-length c =
+    length-append (c .prior .publics) (entriesFrom assemblyPublics 0 (c .assemblies))
+    ∙ ap (λ (n : ℕ). length (c .prior .publics) + n)
+    (entries-length assemblyPublics (λ a. length (a .publics)) 0 (λ j a u. public-length (a .index) (a .publics)) (all-any (c .assemblies)))
 
 -- what the search finds, by the names that are there; what is set and what is taken, by the insert
 module _ (file name place : ℕ) (front : Entries) (xs : List Entry) {u : List ℕ} {n : ℕ} (filled : Filled 3 u (front ++ publicEntries file xs) n) where
@@ -103,29 +106,29 @@ module _ {place name : ℕ} {s : struct.Book} {u : List ℕ} where
     meets = λ c k f m p t l n b e κ ps q H same.
         let S = H .rest z in
         let file : s .file ≡ q .book .assembly .index = S .file in
-        let from : s .«first_public» ≡ length (entriesFrom assemblyPublics 0 (q .book .context .assemblies)) =
-        S .first-public ∙ sym (before-length (q .book .context .assemblies)) in
+        let from : s .«first_public» ≡ length (publicTable (q .book .context)) =
+        S .first-public ∙ sym (before-length (q .book .context)) in
         let found : findPairC 3 (s .«first_public») (s .publics) (q .book .assembly .index) name u ≡ some i =
         rw file at (found-at (findPairC 3 (s .«first_public») (s .publics) (s .file) name u) searched at) in
         go c k f m p t l n b e κ ps q H (same z) S from
-        (rw found at (found-in (q .book .assembly .index) name (q .place) (entriesFrom assemblyPublics 0 (q .book .context .assemblies))
+        (rw found at (found-in (q .book .assembly .index) name (q .place) (publicTable (q .book .context))
         (q .book .assembly .publics) (S .publics) from));
   }
     where
       go : (c k f m p t l n b e : List ℕ) (κ : Limits) (ps : List ℕ) (q : Placed) → Keeping κ ps (shelf s c k f m p t l u n b e) (q .book)
           → place ≡ q .place → Stock ps (shelf s c k f m p t l u n b e) (q .book)
-          → s .«first_public» ≡ length (entriesFrom assemblyPublics 0 (q .book .context .assemblies))
+          → s .«first_public» ≡ length (publicTable (q .book .context))
           → Inserting noEntry (λ x. eqb (x .name) name) (entryOf name (q .place)) (q .book .assembly .publics) (s .«first_public») (some i)
           → Keeping κ ps (shelf s c k f m p t l u′ n b e) (publish name q)
       go c k f m p t l n b e κ ps q H same S from (there j at h r set-is first) =
           let xs = q .book .assembly .publics in
           let file = q .book .assembly .index in
-          let front = entriesFrom assemblyPublics 0 (q .book .context .assemblies) in
+          let front = publicTable (q .book .context) in
           let count = public-count file name (q .place) front xs (S .publics) in
           let words : u′ ≡ set u (i * 3 + 2) place = patch-there i 2 place (omega arith) (omega arith) (omega arith) (S .publics) P in
           let where′ : i ≡ length front + j = omega arith in
           let filled = set-in file name (q .place) front xs (S .publics) j h r set-is (words ∙ rw (where′, same)) in
-          keeping-fits H z publicNamesArea (publicsOf (q .book .context .assemblies) + length (insertEntry (entryOf name (q .place)) xs)) _ refl
+          keeping-fits H z publicNamesArea (publicCount (q .book .context) + length (insertEntry (entryOf name (q .place)) xs)) _ refl
           (fitted-publics (ap length words ∙ simp length-set) (H .fitted)) z
           (omega (
             arith,
@@ -144,24 +147,24 @@ module _ {place name : ℕ} {s : struct.Book} {u : List ℕ} where
     meets = λ c k f m p t l n b e κ ps q H same.
         let S = H .rest z in
         let file : s .file ≡ q .book .assembly .index = S .file in
-        let from : s .«first_public» ≡ length (entriesFrom assemblyPublics 0 (q .book .context .assemblies)) =
-        S .first-public ∙ sym (before-length (q .book .context .assemblies)) in
+        let from : s .«first_public» ≡ length (publicTable (q .book .context)) =
+        S .first-public ∙ sym (before-length (q .book .context)) in
         let found : findPairC 3 (s .«first_public») (s .publics) (q .book .assembly .index) name u ≡ none =
         rw file at (found-none (findPairC 3 (s .«first_public») (s .publics) (s .file) name u) searched lost) in
         go c k f m p t l n b e κ ps q H (same z) S from
-        (rw found at (found-in (q .book .assembly .index) name (q .place) (entriesFrom assemblyPublics 0 (q .book .context .assemblies))
+        (rw found at (found-in (q .book .assembly .index) name (q .place) (publicTable (q .book .context))
         (q .book .assembly .publics) (S .publics) from));
   }
     where
       go : (c k f m p t l n b e : List ℕ) (κ : Limits) (ps : List ℕ) (q : Placed) → Keeping κ ps (shelf s c k f m p t l u n b e) (q .book)
           → place ≡ q .place → Stock ps (shelf s c k f m p t l u n b e) (q .book)
-          → s .«first_public» ≡ length (entriesFrom assemblyPublics 0 (q .book .context .assemblies))
+          → s .«first_public» ≡ length (publicTable (q .book .context))
           → Inserting noEntry (λ x. eqb (x .name) name) (entryOf name (q .place)) (q .book .assembly .publics) (s .«first_public») none
           → Keeping κ ps (shelf (withPublicCount r s) c k f m p t l u′ n b e) (publish name q)
       go c k f m p t l n b e κ ps q H same S from (new more-is) =
           let xs = q .book .assembly .publics in
           let index = q .book .assembly .index in
-          let front = entriesFrom assemblyPublics 0 (q .book .context .assemblies) in
+          let front = publicTable (q .book .context) in
           let count = public-count index name (q .place) front xs (S .publics) in
           let is : insertEntry (entryOf name (q .place)) xs ≡ xs ++ (entryOf name (q .place) ∷ []) = insert-by (entryOf name (q .place)) xs ∙ more-is in
           let file : s .file ≡ index = S .file in
@@ -169,7 +172,7 @@ module _ {place name : ℕ} {s : struct.Book} {u : List ℕ} where
           let entries : (front ++ publicEntries index xs) ++ ((s .file ∷ name ∷ place ∷ []) ∷ [])
           ≡ front ++ publicEntries index (insertEntry (entryOf name (q .place)) xs) =
           ap (λ (y : List ℕ). (front ++ publicEntries index xs) ++ (y ∷ [])) entry ∙ more-in index (entryOf name (q .place)) front xs is in
-          keeping-grown H z publicNamesArea (publicsOf (q .book .context .assemblies) + length (insertEntry (entryOf name (q .place)) xs)) _ refl
+          keeping-grown H z publicNamesArea (publicCount (q .book .context) + length (insertEntry (entryOf name (q .place)) xs)) _ refl
           (took-law T z (S .publics)) (omega arith) refl (H .fitted .publics)
           (omega (arith, ap length is, length-append xs (entryOf name (q .place) ∷ []), S .first-public)) refl (λ e. fitted-publics e (H .fitted))
           (λ f q. rw q (stock-publics S (rw (← entries) f)))

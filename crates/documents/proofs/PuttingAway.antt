@@ -1,23 +1,21 @@
 -- A book opened, compiled and put away: the areas that are ready for a book stand for it before its first definition, and after its last they are ready
 -- for the next one, if no error was found. By the entries of the areas. Assumes nothing.
-use Prim.Native.Nat.{ℕ, suc, _+_, _≤_, _<_}
+use Prim.Native.Nat.{ℕ, _+_, _≤_, _<_}
 use native.Mathlib.Omega.{arith}
 use native.Mathlib.Decide.{decLt}
 use mathlib.Core.Path.{_≡_, refl, sym, ap, subst, _∙_}
-use mathlib.Core.List.{List, [], _∷_, _++_, append-nil}
+use mathlib.Core.List.{List, [], _∷_, _++_, append-nil, append-assoc}
 use lib.ListN.{length, getD, length-append, List·getD-append}
 use lib.Seq.{getD-at}
 use Rattle.words.specs.Ast.{Definition, Document}
 use Rattle.tree.specs.At.{DocumentAt, sizeDoc, RunAt, runSize, DefinitionAt, sizeD}
 use Rattle.tree.proofs.View.{headD, sizeD-pos}
-use Rattle.definition.specs.FunctionState.{Entry}
-use Rattle.definition.specs.Uses.{Use, Limits, sumOf}
+use Rattle.definition.specs.Uses.{Use, Limits}
 use Rattle.definition.specs.Compiler.{Error}
-use Rattle.definition.specs.Book.{Assembly, Context, Book, opened, withContext, withAssemblies, publicsOf, compileDefinition, compileDefinitions}
-use Rattle.definition.specs.Program.{Entries, entriesFrom, assemblyPublics, publicEntries, errorEntry}
+use Rattle.definition.specs.Book.{Assembly, Context, Book, opened, withContext, withAssemblies, compileDefinition, compileDefinitions}
+use Rattle.definition.specs.Program.{Entries, entriesFrom, assemblyPublics, publicEntries, errorEntry, publicTable}
 use Rattle.definition.specs.Within.{All, _&_}
 use Rattle.definition.proofs.Limits.{LimitedDocument, LimitedFunction, functionsIn}
-use Rattle.definition.proofs.Cells.{entries-length, all-any}
 use Rattle.building.specs.Held.{Filled}
 use Rattle.building.proofs.PoolLaws.{entries-more}
 use Rattle.documents.specs.declared.book.Book as struct
@@ -25,6 +23,9 @@ use Rattle.bodies.specs.Meets.{skipC}
 use Rattle.documents.specs.Shelf.{Shelf, shelf, Stock, Keeping, Shelved}
 use Rattle.documents.specs.Documents.{MeetsDefinition, MeetsDefinitions, nobody, openedBook, Resting, MeetsDocument}
 use Rattle.documents.proofs.Calm.{Calms}
+use Rattle.documents.proofs.Shelving.{shelved-calm}
+use Rattle.documents.proofs.DeedWays.{names-count}
+use Rattle.documents.proofs.PublicWays.{before-length}
 use Rattle.bodies.proofs.Tokens.{skip-law}
 
 -- a book's own name stands nowhere in the areas yet
@@ -46,9 +47,11 @@ named d H = record {
         locals = S .locals;
         counted = S .counted;
         valued = S .valued;
+        first-local = S .first-local;
         named = S .named;
         publics = S .publics;
         first-public = S .first-public;
+        prior = S .prior;
         file = S .file;
         last-index = S .last-index;
         indexed = S .indexed;
@@ -72,32 +75,20 @@ pub document-past : {tree : List ℕ} {at end index : ℕ} {books : List ℕ} {s
     → MeetsDocument tree at end index books s c k f m p t l u n b e m′
 document-past past = record { meets = λ d h q limited κ context uses i shelved R. absurd (omega arith) }
 
--- public names are as many as their entries
-publics-length : (file : ℕ) (es : List Entry) → length (publicEntries file es) ≡ length es
-publics-length file [] = refl
-publics-length file (e ∷ es) = ap suc (publics-length file es)
-
-assemblies-length : (as′ : List Assembly) → length (entriesFrom assemblyPublics 0 as′) ≡ publicsOf as′
-assemblies-length as′ = entries-length assemblyPublics (λ a. length (a .publics)) 0 (λ j a h. publics-length (a .index) (a .publics)) (all-any as′)
-
-publics-sum : (as′ : List Assembly) (a : Assembly) → publicsOf (as′ ++ (a ∷ [])) ≡ publicsOf as′ + length (a .publics)
-publics-sum [] a = omega arith
-publics-sum (x ∷ as′) a = omega (arith, publics-sum as′ a)
-
 abbrev unknown : Assembly
 unknown = record { filename = 0; index = 0; publics = [] }
 
--- a book put away with its index
-module _ (as′ : List Assembly) (a : Assembly) (last : a .index ≡ length as′) where
-  indexed-more : ((i : ℕ) → i < length as′ → getD as′ i unknown .index ≡ i) → (i : ℕ) → i < length (as′ ++ (a ∷ []))
-      → getD (as′ ++ (a ∷ [])) i unknown .index ≡ i
+-- a book put away with its index, where n stood before
+module _ (n : ℕ) (as′ : List Assembly) (a : Assembly) (last : a .index ≡ n + length as′) where
+  indexed-more : ((i : ℕ) → i < length as′ → getD as′ i unknown .index ≡ n + i) → (i : ℕ) → i < length (as′ ++ (a ∷ []))
+      → getD (as′ ++ (a ∷ [])) i unknown .index ≡ n + i
   indexed-more before i h = go (decLt i (length as′))
     where
-      go : Dec (i < length as′) → getD (as′ ++ (a ∷ [])) i unknown .index ≡ i
+      go : Dec (i < length as′) → getD (as′ ++ (a ∷ [])) i unknown .index ≡ n + i
       go (yes q) = ap (λ (x : Assembly). x .index) (List·getD-append as′ (a ∷ []) unknown i q) ∙ before i q
       go (no q) =
           let here : length as′ ≡ i = omega (arith, h, length-append as′ (a ∷ [])) in
-          ap (λ (x : Assembly). x .index) (getD-at as′ a [] unknown i here) ∙ last ∙ here
+          ap (λ (x : Assembly). x .index) (getD-at as′ a [] unknown i here) ∙ last ∙ ap (λ (k : ℕ). n + k) here
 
 -- the book is put away
 abbrev pub putAway : Book → Context
@@ -125,8 +116,9 @@ put-away {x = x} clean H = record {
         let S = H .rest z in
         let as′ = x .context .assemblies in
         let a = x .assembly in
-        let entries : entriesFrom assemblyPublics 0 (as′ ++ (a ∷ [])) ≡ entriesFrom assemblyPublics 0 as′ ++ publicEntries (a .index) (a .publics) =
-        entries-more assemblyPublics 0 as′ a in
+        let entries : publicTable (putAway x) ≡ publicTable (x .context) ++ publicEntries (a .index) (a .publics) =
+        ap (λ (es : Entries). x .context .prior .publics ++ es) (entries-more assemblyPublics 0 as′ a)
+        ∙ sym (append-assoc (x .context .prior .publics) (entriesFrom assemblyPublics 0 as′) (publicEntries (a .index) (a .publics))) in
         record {
           code = S .code;
           sized = S .sized;
@@ -139,13 +131,14 @@ put-away {x = x} clean H = record {
           locals = S .locals;
           counted = S .counted;
           valued = S .valued;
+          first-local = omega (arith, names-count S);
           named = record { up-to = omega arith; each = λ i h. absurd (omega arith) };
-          publics = rw (append-nil (entriesFrom assemblyPublics 0 (as′ ++ (a ∷ []))), entries) (S .publics);
-          first-public = S .publics .count ∙ length-append (entriesFrom assemblyPublics 0 as′) (publicEntries (a .index) (a .publics))
-              ∙ rw (assemblies-length as′, publics-length (a .index) (a .publics)) (sym (publics-sum as′ a));
+          publics = rw (append-nil (publicTable (putAway x)), entries) (S .publics);
+          first-public = S .publics .count ∙ ap length (sym entries) ∙ before-length (putAway x);
+          prior = S .prior;
           file = refl;
           last-index = refl;
-          indexed = indexed-more as′ a (S .last-index) (S .indexed);
+          indexed = indexed-more (length (x .context .prior .books)) as′ a (S .last-index) (S .indexed);
           entry = S .entry;
           names = S .names;
           breaks = S .breaks;
@@ -161,7 +154,7 @@ module _ (calm : (d : Definition) → Calms (compileDefinition d)) {tree : List 
   definitions-end {m} past = record { meets = go }
     where
       go : (ds : List Definition) → RunAt DefinitionAt sizeD ds tree at → at + runSize sizeD ds ≡ end
-          → All (λ (d : Definition). All LimitedFunction (functionsIn d)) ds → (κ : Limits) (b : Book) → Shelved books (b .context .assemblies)
+          → All (λ (d : Definition). All LimitedFunction (functionsIn d)) ds → (κ : Limits) (b : Book) → Shelved books (b .context)
           → Keeping κ [] m b → Keeping κ [] m (compileDefinitions ds b)
       go [] h q l κ b s H = H
       go (d ∷ ds) h q l κ b s H = absurd (omega (arith, sizeD-pos d))
@@ -172,13 +165,13 @@ module _ (calm : (d : Definition) → Calms (compileDefinition d)) {tree : List 
   definitions-more {next} {m} {m₁} {m′} inside skipped A B = record { meets = go }
     where
       go : (ds : List Definition) → RunAt DefinitionAt sizeD ds tree at → at + runSize sizeD ds ≡ end
-          → All (λ (d : Definition). All LimitedFunction (functionsIn d)) ds → (κ : Limits) (b : Book) → Shelved books (b .context .assemblies)
+          → All (λ (d : Definition). All LimitedFunction (functionsIn d)) ds → (κ : Limits) (b : Book) → Shelved books (b .context)
           → Keeping κ [] m b → Keeping κ [] m′ (compileDefinitions ds b)
       go [] h q l κ b s H = absurd (omega arith)
       go (d ∷ ds) h q (l & ls) κ b s H =
           let mid : next ≡ at + sizeD d = skipped ∙ skip-law tree at end (headD d (h .0)) (sizeD-pos d) (omega arith) in
           B .meets ds (rw mid (h .1)) (omega arith) ls κ (compileDefinition d b)
-          (subst (λ (as′ : List Assembly). Shelved books as′) (sym (calm d b .assemblies)) s) (A .meets d (h .0) (sym mid) l κ b s H)
+          (shelved-calm (calm d b) s) (A .meets d (h .0) (sym mid) l κ b s H)
 
   pub definition-past : {m m′ : Shelf} → end ≤ at → MeetsDefinition tree at end books m m′
   definition-past past = record { meets = λ d h q l κ b s H. absurd (omega (arith, sizeD-pos d)) }

@@ -2,14 +2,14 @@
 -- such a step does not have stay. Assumes nothing.
 use Prim.Native.Nat.{ℕ}
 use native.Mathlib.Omega.{arith}
-use mathlib.Core.Path.{_≡_, refl, sym, _∙_}
+use mathlib.Core.Path.{_≡_, refl, _∙_}
 use mathlib.Core.List.{List, [], append-nil}
-use lib.ListN.{length}
+use lib.ListN.{length, length-append}
 use Rattle.definition.specs.FunctionState.{newFunctionState}
 use Rattle.definition.specs.Uses.{Limits, firstOver}
 use Rattle.definition.specs.Compiler.{Work, CompilerState}
-use Rattle.definition.specs.Book.{Function, Book, working, resumed, codeOf}
-use Rattle.definition.specs.Program.{Entries, entriesFrom, functionCode}
+use Rattle.definition.specs.Book.{Function, Context, Book, working, resumed, codeCount}
+use Rattle.definition.specs.Program.{Entries, entriesFrom, functionCode, codeTable}
 use Rattle.definition.specs.Within.{All}
 use Rattle.definition.proofs.Cells.{entries-length}
 use Rattle.definition.proofs.Steady.{Longer}
@@ -23,14 +23,18 @@ use Rattle.documents.specs.declared.book.Book as struct
 use Rattle.documents.specs.Shelf.{shelf, Keeping}
 use Rattle.documents.specs.Deeds.{resumedBook}
 
--- the code of the functions so far
+-- the code so far
 abbrev pub codeSoFar : Book → Entries
-codeSoFar x = entriesFrom functionCode 0 (x .context .functions)
+codeSoFar x = codeTable (x .context)
 
-code-so-far : (fs : List Function) → All (λ (f : Function). length (f .state .positions) ≡ length (f .state .instructions)) fs
-    → codeOf fs ≡ length (entriesFrom functionCode 0 fs)
-code-so-far fs sized =
-    sym (entries-length functionCode (λ f. length (f .state .instructions)) 0 (λ j f s. code-length (f .state .instructions) (f .state .positions) s) sized)
+code-so-far : (c : Context) → All (λ (f : Function). length (f .state .positions) ≡ length (f .state .instructions)) (c .functions)
+    → codeCount c ≡ length (codeTable c)
+code-so-far c sized =
+    omega (
+      arith,
+      length-append (c .prior .code) (entriesFrom functionCode 0 (c .functions)),
+      entries-length functionCode (λ f. length (f .state .instructions)) 0 (λ j f s. code-length (f .state .instructions) (f .state .positions) s) sized,
+    )
 
 -- an area without entries
 pub nothing-left : {width : ℕ} {l : List ℕ} {n : ℕ} → Filled width l [] n → Filled width l [] 0
@@ -52,7 +56,7 @@ module _ {κ : Limits} {ps : List ℕ} {s : struct.Book} {c k f m p t l u n b e 
       }) (H .full) (λ z.
       let S = H .rest z in
       record {
-        before = code-so-far (x .context .functions) (S .sized);
+        before = code-so-far (x .context) (S .sized);
         filled-code = S .code;
         filled-constants = S .constants;
         marks = S .marks;
@@ -97,9 +101,11 @@ module _ {κ : Limits} {ps : List ℕ} {s : struct.Book} {c k f m p t l u n b e 
             locals = S .locals;
             counted = many ∙ S .counted;
             valued = S .valued;
+            first-local = S .first-local;
             named = named-same names (S .named);
             publics = S .publics;
             first-public = S .first-public;
+            prior = S .prior;
             file = S .file;
             last-index = S .last-index;
             indexed = S .indexed;

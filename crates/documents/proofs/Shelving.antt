@@ -10,8 +10,8 @@ use Rattle.definition.specs.Uses.{Limits}
 use Rattle.definition.specs.Book.{Book, Deed}
 use Rattle.definition.proofs.Steady.{Longer}
 use Rattle.building.proofs.Notes.{marks-same, over-longer}
-use Rattle.documents.specs.Shelf.{Shelf, Keeping, Deeds}
-use Rattle.documents.proofs.Calm.{Calms}
+use Rattle.documents.specs.Shelf.{Shelf, Keeping, Shelved, Deeds}
+use Rattle.documents.proofs.Calm.{Calm, Calms}
 
 pub keeping-longer : {κ : Limits} {ps ps′ : List ℕ} {m : Shelf} {b b′ : Book} → Longer (b .uses) (b′ .uses) → (m .book .full ≡ 0 → ⊥)
     → Keeping κ ps m b → Keeping κ ps′ m b′
@@ -32,3 +32,7 @@ full-deeds C ne = record { meets = λ κ ps b H. keeping-longer (C b .uses) ne H
 module _ {m m₁ m′ : Shelf} {d e : Deed} where
   pub deeds-then : Deeds m m₁ d → Deeds m₁ m′ e → Deeds m m′ (λ b. e (d b))
   deeds-then A B = record { meets = λ κ ps b H. B .meets κ ps (d b) (A .meets κ ps b H) }
+
+-- area 12 names the books that it named before
+pub shelved-calm : {books : List ℕ} {b b′ : Book} → Calm b b′ → Shelved books (b .context) → Shelved books (b′ .context)
+shelved-calm c B = record { stood = rw (c .prior) (B .stood); each = rw (c .prior, c .assemblies) (B .each) }

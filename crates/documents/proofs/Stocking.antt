@@ -7,8 +7,8 @@ use lib.ListN.{length}
 use Rattle.words.specs.Areas.{widthOf, entriesIn}
 use Rattle.definition.specs.Uses.{Use, using′, Limits, limitOf}
 use Rattle.definition.specs.FunctionState.{Entry}
-use Rattle.definition.specs.Book.{Model, Method, Book, noted, withModels, withMethods}
-use Rattle.definition.specs.Program.{Entries, entriesFrom, modelEntry, modelProperties, propertyEntries, methodEntry, assemblyPublics, publicEntries}
+use Rattle.definition.specs.Book.{Model, Method, Book, noted, modelCount, withModels, withMethods}
+use Rattle.definition.specs.Program.{Entries, entriesFrom, propertyEntries, methodEntry, publicEntries, modelTable, propertyTable, publicTable}
 use Rattle.building.specs.declared.taking.Taken.{Taken}
 use Rattle.building.specs.Taking.{taken}
 use Rattle.building.specs.Held.{Filled, Sized}
@@ -66,9 +66,11 @@ stock-methods S f = record {
   locals = S .locals;
   counted = S .counted;
   valued = S .valued;
+  first-local = S .first-local;
   named = S .named;
   publics = S .publics;
   first-public = S .first-public;
+  prior = S .prior;
   file = S .file;
   last-index = S .last-index;
   indexed = S .indexed;
@@ -96,7 +98,7 @@ fitted-methods e F = record {
 
 -- area 8
 pub stock-publics : {ps : List ℕ} {m : Shelf} {b : Book} {l : List Entry} {us : List Use} {u′ : List ℕ} {full n : ℕ} → Stock ps m b
-    → Filled 3 u′ (entriesFrom assemblyPublics 0 (b .context .assemblies) ++ publicEntries (b .assembly .index) l) n
+    → Filled 3 u′ (publicTable (b .context) ++ publicEntries (b .assembly .index) l) n
     → Stock ps (shelf (withPublicCount (taken full n) (m .book)) (m .code) (m .constants) (m .functions) (m .models) (m .properties) (m .methods)
     (m .locals) u′ (m .names) (m .breaks) (m .errors))
     (record {
@@ -117,9 +119,11 @@ stock-publics S f = record {
   locals = S .locals;
   counted = S .counted;
   valued = S .valued;
+  first-local = S .first-local;
   named = S .named;
   publics = f;
   first-public = S .first-public;
+  prior = S .prior;
   file = S .file;
   last-index = S .last-index;
   indexed = S .indexed;
@@ -147,7 +151,7 @@ fitted-publics e F = record {
 
 -- area 5: a property more of the model that is not there yet
 pub stock-properties : {ps ps′ : List ℕ} {m : Shelf} {b : Book} {us : List Use} {p′ : List ℕ} {full n : ℕ} → Stock ps m b
-    → Filled 2 p′ (entriesFrom modelProperties 0 (b .context .models) ++ propertyEntries (length (b .context .models)) ps′) n
+    → Filled 2 p′ (propertyTable (b .context) ++ propertyEntries (modelCount (b .context)) ps′) n
     → Stock ps′ (shelf (withPropertyCount (taken full n) (m .book)) (m .code) (m .constants) (m .functions) (m .models) p′ (m .methods)
     (m .locals) (m .publics) (m .names) (m .breaks) (m .errors))
     (record { compiler = b .compiler; assembly = b .assembly; context = b .context; uses = us })
@@ -163,9 +167,11 @@ stock-properties S f = record {
   locals = S .locals;
   counted = S .counted;
   valued = S .valued;
+  first-local = S .first-local;
   named = S .named;
   publics = S .publics;
   first-public = S .first-public;
+  prior = S .prior;
   file = S .file;
   last-index = S .last-index;
   indexed = S .indexed;
@@ -193,9 +199,9 @@ fitted-properties e F = record {
 
 -- area 4: a model with the properties that were taken for it
 pub stock-models : {ps : List ℕ} {m : Shelf} {b : Book} {l : List Model} {us : List Use} {m′ : List ℕ} {full n : ℕ} → Stock ps m b
-    → Filled 2 m′ (entriesFrom modelEntry 0 l) n
-    → entriesFrom modelProperties 0 (b .context .models) ++ propertyEntries (length (b .context .models)) ps
-    ≡ entriesFrom modelProperties 0 l ++ propertyEntries (length l) []
+    → Filled 2 m′ (modelTable (withModels l (b .context))) n
+    → propertyTable (b .context) ++ propertyEntries (modelCount (b .context)) ps
+    ≡ propertyTable (withModels l (b .context)) ++ propertyEntries (modelCount (withModels l (b .context))) []
     → Stock [] (shelf (withModelCount (taken full n) (m .book)) (m .code) (m .constants) (m .functions) m′ (m .properties) (m .methods)
     (m .locals) (m .publics) (m .names) (m .breaks) (m .errors))
     (record { compiler = b .compiler; assembly = b .assembly; context = withModels l (b .context); uses = us })
@@ -211,9 +217,11 @@ stock-models S f e = record {
   locals = S .locals;
   counted = S .counted;
   valued = S .valued;
+  first-local = S .first-local;
   named = S .named;
   publics = S .publics;
   first-public = S .first-public;
+  prior = S .prior;
   file = S .file;
   last-index = S .last-index;
   indexed = S .indexed;

@@ -11,14 +11,14 @@ use Rattle.definition.specs.FunctionState as Emission
 use Rattle.definition.specs.Uses.{Limits}
 use Rattle.definition.specs.Compiler.{Work, compileFunctionDefinitionBase}
 use Rattle.definition.specs.Book.{Book, working, pushBookError, compileBase, addFunction, addPlainFunction, compileFunctionDefinition}
-use Rattle.definition.specs.Program.{entriesFrom, functionCode}
+use Rattle.definition.specs.Program.{codeTable}
 use Rattle.building.specs.declared.function_state.FunctionState.{FunctionState}
 use Rattle.building.specs.declared.scopes.Found.{Found}
 use Rattle.building.specs.Found.{foundOf}
 use Rattle.building.specs.Held.{Machine, machine, Held}
 use Rattle.documents.specs.declared.book.Book as struct
 use Rattle.documents.specs.Shelf.{Shelf, shelf, Keeping, Places}
-use Rattle.documents.specs.Deeds.{Below}
+use Rattle.documents.specs.Deeds.{AddedLocal}
 
 -- within the limits on records and levels: its locals' number stands in 64 bits
 pub record Bounded (f : FunctionDefinition) : Type 0 where
@@ -42,7 +42,7 @@ baseOf f x = compileFunctionDefinitionBase (f .parameters) (f .body) (working x)
 -- the counts and areas stood for a book, and the state and the areas that functions are built in then hold a function of it, at its end
 pub record Built (κ : Limits) (ps : List ℕ) (m : Shelf) (x : Book) (f : FunctionDefinition) (a : Machine) : Type 0 where
   pub book : Keeping κ ps m x
-  pub function : Held κ (entriesFrom functionCode 0 (x .context .functions)) a (ended (baseOf f x))
+  pub function : Held κ (codeTable (x .context)) a (ended (baseOf f x))
 
 -- `make`
 pub record Makes (tree : List ℕ) (at end : ℕ) (s : struct.Book) (l c k n b e : List ℕ) (r : FunctionState) (c′ k′ n′ b′ e′ : List ℕ) : Type 0 where
@@ -65,7 +65,7 @@ pub record DropsFunction (tree : List ℕ) (at : ℕ) (s : struct.Book) (r : Fun
 pub record AddsPlain (name : ℕ) (found : Found) (s : struct.Book) (r : FunctionState) (k g l : List ℕ) (s′ : struct.Book) (k′ g′ l′ : List ℕ) (place : ℕ)
     : Type 0 where
   pub adds : r .full ≡ 0 → (f : FunctionDefinition) → Bounded f → (c₀ k₀ n₀ b₀ e₀ c n b e m p t u : List ℕ) (κ : Limits) (ps : List ℕ) (x : Book)
-      (o : Option ℕ) → found ≡ foundOf o → Below o (length (x .context .localNames))
+      (o : Option ℕ) → found ≡ foundOf o → AddedLocal o (x .context)
       → Built κ ps (shelf s c₀ k₀ g m p t l u n₀ b₀ e₀) x f (machine r c k n b e)
       → Keeping κ ps (shelf s′ c k′ g′ m p t l′ u n b e) (addPlainFunction o (compileBase f x .state) name (compileBase f x .book) .book)
       × (s′ .full ≡ 0 → place ≡ addPlainFunction o (compileBase f x .state) name (compileBase f x .book) .place)

@@ -1,6 +1,6 @@
 -- What the routines of `documents.rt` promise up to the local definition: each has some of the areas, and whatever the others hold, counts and areas
 -- then stand for the deed's book
-use Prim.Native.Nat.{ℕ, _+_, _<_}
+use Prim.Native.Nat.{ℕ, _+_, _≤_, _<_}
 use mathlib.Core.Path.{_≡_}
 use mathlib.Core.Option.{Option, none, some}
 use mathlib.Core.List.{List}
@@ -9,7 +9,7 @@ use Rattle.words.specs.Ast.{Token, Binding}
 use Rattle.words.specs.Object.{constantOf}
 use Rattle.tree.specs.At.{Leaf, ValueAt, BindingAt, RunAt, runSize, double}
 use Rattle.definition.specs.Uses.{Limits}
-use Rattle.definition.specs.Book.{Book, Deed, Placed, MaybePlaced, setLocalValue, addBookConstant, valueOf, compileValue, compileBinding}
+use Rattle.definition.specs.Book.{Context, Book, Deed, Placed, MaybePlaced, setLocalValue, addBookConstant, valueOf, compileValue, compileBinding}
 use Rattle.definition.specs.Book.{compileLocalDefinition}
 use Rattle.building.specs.declared.function_state.FunctionState.{FunctionState}
 use Rattle.building.specs.declared.scopes.Found.{Found}
@@ -48,14 +48,18 @@ pub record ConstantsPlace (s : struct.Book) (k : List ℕ) (s′ : struct.Book) 
 pub record LocalsSeek (s : struct.Book) (l : List ℕ) (s′ : struct.Book) (l′ : List ℕ) (found : Found) (deed : Book → MaybePlaced) : Type 0 where
   pub seeks : (c k f m p t u n b e : List ℕ) → Seeks (shelf s c k f m p t l u n b e) (shelf s′ c k f m p t l′ u n b e) found deed
 
--- a local that may be there is one of so many
-abbrev pub Below : Option ℕ → ℕ → Type 0
-Below none n = Unit {0}
-Below (some i) n = i < n
+-- a number that may be there is one of n from the first on
+abbrev pub OneOf : Option ℕ → ℕ → ℕ → Type 0
+OneOf none first n = Unit {0}
+OneOf (some i) first n = (first ≤ i) × (i < first + n)
+
+-- a context local that may be there is one of those added
+abbrev pub AddedLocal : Option ℕ → Context → Type 0
+AddedLocal o c = OneOf o (length (c .prior .locals)) (length (c .localNames))
 
 -- the local and the constant are the definition's, where nothing is full, and the local is one of the book's context
 pub record Valuable (s : struct.Book) (found : Found) (constant : ℕ) (o : Option ℕ) (v : ℕ) (x : Book) : Type 0 where
-  pub agrees : s .full ≡ 0 → (found ≡ foundOf o) × (constant ≡ v) × Below o (length (x .context .localNames))
+  pub agrees : s .full ≡ 0 → (found ≡ foundOf o) × (constant ≡ v) × AddedLocal o (x .context)
 
 -- `set_value`: the context locals, of a local and a constant as above
 pub record LocalsValue (s : struct.Book) (l l′ : List ℕ) (found : Found) (constant : ℕ) : Type 0 where
@@ -68,7 +72,7 @@ pub record LocalsDo (s : struct.Book) (k l e : List ℕ) (s′ : struct.Book) (k
 
 -- the local is the definition's, where nothing is full, and one of the book's context
 pub record Located (s : struct.Book) (found : Found) (o : Option ℕ) (x : Book) : Type 0 where
-  pub agrees : s .full ≡ 0 → (found ≡ foundOf o) × Below o (length (x .context .localNames))
+  pub agrees : s .full ≡ 0 → (found ≡ foundOf o) × AddedLocal o (x .context)
 
 -- `add_value`: a constant, which is the value of a local
 pub record AddsValue (s : struct.Book) (found : Found) (kind value : ℕ) (k l : List ℕ) (s′ : struct.Book) (k′ l′ : List ℕ) : Type 0 where

@@ -44,7 +44,7 @@ includedC many count file name books w = includedBy (findBookC many file books) 
 
 -- a deed among the books before, which area 12 names
 pub record DeedsAmong (books : List ℕ) (m m′ : Shelf) (deed : Deed) : Type 0 where
-  pub meets : (κ : Limits) (ps : List ℕ) (b : Book) → Shelved books (b .context .assemblies) → Keeping κ ps m b → Keeping κ ps m′ (deed b)
+  pub meets : (κ : Limits) (ps : List ℕ) (b : Book) → Shelved books (b .context) → Keeping κ ps m b → Keeping κ ps m′ (deed b)
 
 -- of a routine that changes the context locals
 pub record LocalsInclude (books u : List ℕ) (s : struct.Book) (l : List ℕ) (s′ : struct.Book) (l′ : List ℕ) (deed : Deed) : Type 0 where

@@ -12,7 +12,7 @@ use Rattle.words.specs.Record.{tokenAt}
 use Rattle.words.specs.Areas.{entryField}
 use Rattle.definition.specs.Uses.{Limits}
 use Rattle.definition.specs.Book as book
-use Rattle.definition.specs.Book.{Placed, addMethods, publish, propertiesOf, addProperty, compileProperties}
+use Rattle.definition.specs.Book.{Placed, addMethods, publish, modelCount, propertyCount, addProperty, compileProperties}
 use Rattle.definition.specs.FunctionState.{Entry}
 use Rattle.definition.specs.Book.{Method, findModelIndexByLocalName, methodsIn, compileApplyDefinition}
 use Rattle.definition.specs.Book.{addBookConstant, addModel, defineContextLocal, setLocalValue, compileModelDefinition}
@@ -33,7 +33,7 @@ pub record Publishes (place name : ℕ) (s : Book) (u : List ℕ) (s′ : Book) 
 
 -- `add_property`: areas 5 and 11; the properties of the model that is not there yet start at entry `first`
 pub record AddsProperty (tree : List ℕ) (at first : ℕ) (s : Book) (p e : List ℕ) (s′ : Book) (p′ e′ : List ℕ) : Type 0 where
-  pub meets : (c k f m t l u n b : List ℕ) (κ : Limits) (ps : List ℕ) (w : book.Book) → (s .full ≡ 0 → first ≡ propertiesOf (w .context .models))
+  pub meets : (c k f m t l u n b : List ℕ) (κ : Limits) (ps : List ℕ) (w : book.Book) → (s .full ≡ 0 → first ≡ propertyCount (w .context))
       → Keeping κ ps (shelf s c k f m p t l u n b e) w
       → Keeping κ (addProperty (tokenAt tree at) ps w .texts) (shelf s′ c k f m p′ t l u n b e′) (addProperty (tokenAt tree at) ps w .book)
 
@@ -89,7 +89,7 @@ pub record PlacesAlone (m m′ : Shelf) (place : ℕ) (deed : book.Book → Plac
 -- the rest of `compile_model_definition`, after the properties
 abbrev pub placeModel : List ℕ → ℕ → book.Book → Placed
 placeModel properties name w =
-    let modelIndex = length (w .context .models) in
+    let modelIndex = modelCount (w .context) in
     let a = addBookConstant (constantOf modelKind modelIndex) (addModel properties name w) in
     let d = defineContextLocal name (a .book) in
     record { place = a .place; book = setLocalValue (d .place) (a .place) (d .book) }

@@ -1,15 +1,16 @@
 -- The relation between memory and the definition's `Book`: what the counts and the areas hold of a book under compilation, between its definitions
-use Prim.Native.Nat.{ℕ, _<_}
+use Prim.Native.Nat.{ℕ, _+_, _≤_, _<_}
 use mathlib.Core.Path.{_≡_}
 use mathlib.Core.List.{List, [], _++_}
 use lib.ListN.{length, getD}
 use Rattle.words.specs.Areas.{codeArea, constantsArea, functionsArea, modelsArea, propertiesArea, methodsArea, contextLocalsArea, publicNamesArea}
 use Rattle.words.specs.Areas.{scopeNamesArea, breaksArea, errorsArea, entryWord}
 use Rattle.definition.specs.FunctionState.{Entry}
+use Rattle.definition.specs.Prior.{Prior}
 use Rattle.definition.specs.Uses.{Limits, firstOver}
-use Rattle.definition.specs.Book.{Function, Assembly, Book, Deed, Placed, MaybePlaced, publicsOf}
-use Rattle.definition.specs.Program.{entriesFrom, functionCode, constantEntry, functionEntries, modelEntry, propertyEntries, modelProperties}
-use Rattle.definition.specs.Program.{methodEntry, localEntry, publicEntries, assemblyPublics, errorEntry}
+use Rattle.definition.specs.Book.{Function, Context, Book, Deed, Placed, MaybePlaced, modelCount, publicCount, bookCount}
+use Rattle.definition.specs.Program.{entriesFrom, propertyEntries, publicEntries, errorEntry, codeTable, constantTable, functionTable, modelTable}
+use Rattle.definition.specs.Program.{propertyTable, methodTable, localTable, publicTable}
 use Rattle.definition.specs.Within.{All}
 use Rattle.building.specs.declared.scopes.Found.{Found}
 use Rattle.building.specs.Found.{foundOf}
@@ -47,31 +48,37 @@ shelf s c k f m p t l u n b e = record {
   errors = e;
 }
 
+-- what stood before: a book's entry is a word, and a public name is that of one of the books
+pub record PriorBooks (p : Prior) : Type 0 where
+  pub books : All (λ (e : List ℕ). length e ≡ 1) (p .books)
+  pub publics : All (λ (e : List ℕ). getD e 0 0 < length (p .books)) (p .publics)
+
 -- where nothing is full; `ps`: the properties of a model that is not there yet
 pub record Stock (ps : List ℕ) (m : Shelf) (b : Book) : Type 0 where
-  pub code : Filled 2 (m .code) (entriesFrom functionCode 0 (b .context .functions)) (m .book .code)
+  pub code : Filled 2 (m .code) (codeTable (b .context)) (m .book .code)
   -- one position for each instruction
   pub sized : All (λ (f : Function). length (f .state .positions) ≡ length (f .state .instructions)) (b .context .functions)
-  pub constants : Filled 3 (m .constants) (entriesFrom (constantEntry (b .context .pool .globals)) 0 (b .context .pool .constants)) (m .book .constants)
+  pub constants : Filled 3 (m .constants) (constantTable (b .context)) (m .book .constants)
   pub marks : All (λ (n : ℕ). n < length (b .context .pool .constants)) (b .context .pool .globals)
-  pub functions : Filled 8 (m .functions) (functionEntries 0 (b .context .functions)) (m .book .functions)
-  pub models : Filled 2 (m .models) (entriesFrom modelEntry 0 (b .context .models)) (m .book .models)
-  pub properties : Filled 2 (m .properties)
-      (entriesFrom modelProperties 0 (b .context .models) ++ propertyEntries (length (b .context .models)) ps) (m .book .properties)
-  pub methods : Filled 3 (m .methods) (entriesFrom methodEntry 0 (b .context .methods)) (m .book .methods)
-  pub locals : Filled 4 (m .locals) (entriesFrom (localEntry (b .context .localValues)) 0 (b .context .localNames)) (m .book .locals)
-  pub counted : b .context .pool .localCount ≡ length (b .context .localNames)
+  pub functions : Filled 8 (m .functions) (functionTable (b .context)) (m .book .functions)
+  pub models : Filled 2 (m .models) (modelTable (b .context)) (m .book .models)
+  pub properties : Filled 2 (m .properties) (propertyTable (b .context) ++ propertyEntries (modelCount (b .context)) ps) (m .book .properties)
+  pub methods : Filled 3 (m .methods) (methodTable (b .context)) (m .book .methods)
+  pub locals : Filled 4 (m .locals) (localTable (b .context)) (m .book .locals)
+  pub counted : b .context .pool .localCount ≡ length (b .context .prior .locals) + length (b .context .localNames)
   -- a value is that of a context local
-  pub valued : All (λ (e : Entry). e .name < length (b .context .localNames)) (b .context .localValues)
+  pub valued : All (λ (e : Entry). e .name < length (b .context .prior .locals) + length (b .context .localNames)) (b .context .localValues)
+  -- the book's own are none of those that stood before
+  pub first-local : length (b .context .prior .locals) ≤ m .book .«first_local»
   pub named : LocalsHeld (m .book .«first_local») (m .book .locals) (m .locals) (b .compiler)
-  pub publics : Filled 3 (m .publics)
-      (entriesFrom assemblyPublics 0 (b .context .assemblies) ++ publicEntries (b .assembly .index) (b .assembly .publics)) (m .book .publics)
-  pub first-public : m .book .«first_public» ≡ publicsOf (b .context .assemblies)
+  pub publics : Filled 3 (m .publics) (publicTable (b .context) ++ publicEntries (b .assembly .index) (b .assembly .publics)) (m .book .publics)
+  pub first-public : m .book .«first_public» ≡ publicCount (b .context)
+  pub prior : PriorBooks (b .context .prior)
   pub file : m .book .file ≡ b .assembly .index
   -- a book's index is its place
-  pub last-index : b .assembly .index ≡ length (b .context .assemblies)
+  pub last-index : b .assembly .index ≡ bookCount (b .context)
   pub indexed : (i : ℕ) → i < length (b .context .assemblies)
-      → getD (b .context .assemblies) i (record { filename = 0; index = 0; publics = [] }) .index ≡ i
+      → getD (b .context .assemblies) i (record { filename = 0; index = 0; publics = [] }) .index ≡ length (b .context .prior .books) + i
   pub entry : m .book .«entry_point» ≡ b .context .entryPoint
   pub names : Filled 2 (m .names) [] 0
   pub breaks : Filled 1 (m .breaks) [] 0
@@ -97,9 +104,11 @@ pub record Keeping (κ : Limits) (ps : List ℕ) (m : Shelf) (b : Book) : Type 0
   pub full : Marks (firstOver κ (b .uses)) (m .book .full)
   pub rest : m .book .full ≡ 0 → Stock ps m b
 
--- area 12 names the books compiled so far, in their order
-pub record Shelved (books : List ℕ) (as′ : List Assembly) : Type 0 where
-  pub each : (i : ℕ) → i < length as′ → entryWord 1 i 0 books ≡ getD as′ i (record { filename = 0; index = 0; publics = [] }) .filename
+-- area 12 names the books that stood before and those compiled so far, in their order
+pub record Shelved (books : List ℕ) (c : Context) : Type 0 where
+  pub stood : (i : ℕ) → i < length (c .prior .books) → entryWord 1 i 0 books ≡ getD (getD (c .prior .books) i []) 0 0
+  pub each : (i : ℕ) → i < length (c .assemblies)
+      → entryWord 1 (length (c .prior .books) + i) 0 books ≡ getD (c .assemblies) i (record { filename = 0; index = 0; publics = [] }) .filename
 
 -- whatever book they stand for before, they stand for the deed's book after
 pub record Deeds (m m′ : Shelf) (deed : Deed) : Type 0 where

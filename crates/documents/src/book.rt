@@ -16,6 +16,7 @@ use building::function_state::FunctionState;
 use building::pool;
 use building::scopes::Found;
 use words::areas;
+use words::object;
 use words::record;
 use words::record::field;
 use words::reply;
@@ -169,10 +170,10 @@ fn give_value(
         return book;
     }
     if kind == record::INTEGER {
-        return add_value(constants, locals, book, found, bodies::INTEGER_KIND, value);
+        return add_value(constants, locals, book, found, object::INTEGER, value);
     }
     if kind == record::FLOAT {
-        return add_value(constants, locals, book, found, bodies::FLOAT_KIND, value);
+        return add_value(constants, locals, book, found, object::FLOAT, value);
     }
     fault(tree, at, errors, book, reply::ERROR_CONSTANT_ONLY)
 }

@@ -14,13 +14,12 @@ use building::function_state;
 use building::function_state::FunctionState;
 use building::scopes;
 use building::scopes::Found;
+use words::object;
 use words::record;
 use words::record::field;
 use words::reply;
 
-// The kind of a function's constant, and the text of the entry point's name.
-const FUNCTION_KIND: u64 = 6;
-
+// The text of the entry point's name.
 const MAIN: u64 = 1;
 
 // Whether the function is an instance's, after a parameter of a kind.
@@ -230,7 +229,7 @@ fn add_plain(
 {
     let index = book.functions as u64;
     let b1 = add_function(functions, book, state, name);
-    let a = book::add_constant(constants, b1, FUNCTION_KIND, index);
+    let a = book::add_constant(constants, b1, object::FUNCTION, index);
     let place = a.place;
     let mut b2 = a.book;
     book::set_value(locals, b2, found, place);

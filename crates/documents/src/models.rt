@@ -12,6 +12,7 @@ use building::context;
 use building::scopes::Found;
 use building::taking;
 use words::areas;
+use words::object;
 use words::record;
 use words::record::field;
 use words::reply;
@@ -25,9 +26,6 @@ const CONSTANT: usize = 2;
 const VALUE_MARK: usize = 2;
 
 const VALUE: usize = 3;
-
-// The kind of a constant that is a model (01, 'Emission').
-const MODEL_KIND: u64 = 5;
 
 // One entry for a model and a name: the last function wins.
 pub(crate) fn insert_method(
@@ -178,7 +176,7 @@ fn model_of(locals: &[u64], constants: &[u64], i: usize) -> Found
     }
     let constant = areas::entry_word(locals, areas::CONTEXT_LOCAL_WORDS, i, VALUE) as usize;
     let kind = areas::entry_word(constants, areas::CONSTANT_WORDS, constant, 0);
-    if kind != MODEL_KIND {
+    if kind != object::MODEL {
         return Found::Nothing;
     }
     Found::At(areas::entry_word(constants, areas::CONSTANT_WORDS, constant, 1))
@@ -311,7 +309,7 @@ fn place_model(
     let mut b = book;
     b.full = t.full;
     b.models = t.count;
-    let a = book::add_constant(constants, b, MODEL_KIND, index);
+    let a = book::add_constant(constants, b, object::MODEL, index);
     let place = a.place;
     let d = book::define_local(locals, a.book, name);
     let found = d.found;

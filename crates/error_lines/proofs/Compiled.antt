@@ -17,10 +17,10 @@ use Rattle.words.specs.Ast.{Identifier, This, Null, Integer, Float, Text, Boole
 use Rattle.words.specs.Ast.{∅ₑ, _∷ₑ_, ∅ᵥ, Bare, Valued, Local, Return, For, Break, Rescue, Expr, ∅ₛ, _∷ₛ_}
 use Rattle.words.specs.Ast.{Binding, Alias, FunctionDefinition, Definition, LocalDefinition, IncludeDefinition, ModelDefinition, PublicModelDefinition}
 use Rattle.words.specs.Ast.{PlainFunction, PublicFunction, ImplementDefinition, ApplyDefinition, Document}
-use Rattle.words.specs.Record.{fieldOf, kindAt, spanAt, positionAt, valueAt, tokenAt, mostText}
+use Rattle.words.specs.Record.{fieldOf, kindAt, spanAt, positionAt, valueAt, tokenAt, inPlace}
 use Rattle.words.specs.Object.{Constant, constantOf, modelKind, functionKind}
 use Rattle.words.specs.Areas.{errorsArea}
-use Rattle.tree.specs.Rules.{Slot, Rule, slots, rules, nothing, unused, anywhere, ruleOf, has, mayStand, slotAfter, goesOn, isDue, firstSlot, inRange}
+use Rattle.tree.specs.Rules.{Slot, slots, nothing, ruleOf, mayBeAt, has, mayStand, slotAfter, goesOn, isDue, firstSlot, inRange}
 use Rattle.tree.specs.Check.{recordsOf, shapeOf, lacksOf, withinOf}
 use Rattle.tree.specs.Reading.{documentsOf}
 use Rattle.tree.specs.declared.Shape.{Shape}
@@ -52,14 +52,15 @@ use Rattle.definition.specs.Book.{compileLocalDefinition, addProperty, compileP
 use Rattle.definition.specs.Book.{compileFunctionDefinition, findModelIndexByLocalName, addMethods, compileMethods, compileImplementDefinition, addFunction}
 use Rattle.definition.specs.Book.{compileApplyDefinition, compileDefinition, compileDefinitions, compileDocument, newContext, pushBookError, hasText, opened}
 use Rattle.definition.specs.DependencySolver.{Ending, Delivered, Faulty, Ring, Worked, findDocument, missing, missingBy, ready, readyBy, allIn, dependencies}
-use Rattle.definition.specs.DependencySolver.{without, afterBook, driveBy, drive, compileNeeded, needed, filesOf}
-use Rattle.definition.specs.Program.{Entries, errorEntry, entriesFrom, flat, filled, filledAll, tablesOf, errorTables}
+use Rattle.definition.specs.DependencySolver.{without, afterBook, driveBy, drive, compileNeeded, needed, loadedOf}
+use Rattle.definition.specs.Prior.{Entries}
+use Rattle.definition.specs.Program.{errorEntry, entriesFrom, flat, filled, filledAll, tablesOf, errorTables}
 use Rattle.definition.specs.Answer.{Answer, Delivery, Refusal, ringErrors, answerEnding, answerBy, answerWorked, answerNeeded, answerBundle, answerDocuments}
 use Rattle.definition.specs.Answer.{answerTwice, answerShape, limitsOf, answerFrom, answer, areasOf, twice, documentPlaces}
 use Rattle.definition.specs.Within.{All, none, _&_}
 use Rattle.definition.proofs.Lists.{all-append, cond-case}
 use Rattle.definition.proofs.Program.{added-case}
-use Rattle.error_lines.specs.Known.{standsIn, isKind, knownToken, knownPosition, isText, known}
+use Rattle.error_lines.specs.Known.{standsIn, isKind, knownToken, isText, known}
 use Rattle.error_lines.specs.Lines.{errorAt, isZeros, errorsFrom, errorsIn}
 use Rattle.error_lines.specs.Words.{firstUnknown}
 use Rattle.error_lines.proofs.Knowing.{error}
@@ -393,7 +394,7 @@ module _ (w : List ℕ) (here : (i : ℕ) → 0 < spanAt w i → KnownToken (tok
   unfolding compileModelDefinition
   model t ts i x b h =
       let p = compileProperties ts [] b in
-      let c = constantOf modelKind (length (p .book .context .models)) in
+      let c = constantOf modelKind (Book.modelCount (p .book .context)) in
       let m = Book.addModel (p .texts) (t .value) (p .book) in
       let a = addBookConstant c m in
       let d = defineContextLocal (t .value) (a .book) in
@@ -408,7 +409,7 @@ module _ (w : List ℕ) (here : (i : ℕ) → 0 < spanAt w i → KnownToken (tok
       → AllKnown (addPlainFunction o s n b .book .compiler .errors)
   unfolding addPlainFunction
   plain-function o s n b h =
-      let c = constantOf functionKind (length (b .context .functions)) in
+      let c = constantOf functionKind (Book.functionCount (b .context)) in
       let a = addBookConstant c (addFunction s n b) in
       let r = set-value o (a .place) (a .book) (constant c (addFunction s n b) h) in
       cond-case (λ (x : Book.Book). AllKnown (x .compiler .errors)) (eqb n 1) (λ q. r) (λ q. r)
@@ -452,7 +453,7 @@ module _ (w : List ℕ) (here : (i : ℕ) → 0 < spanAt w i → KnownToken (tok
   methods [] i x es b h = h
   methods (f ∷ fs) i x es b h =
       let m = compileBase f b in
-      methods fs (i + sizeF f) (x .1) (Book.insertEntry (record { name = f .name .value; index = length (m .book .context .functions) }) es)
+      methods fs (i + sizeF f) (x .1) (Book.insertEntry (record { name = f .name .value; index = Book.functionCount (m .book .context) }) es)
       (addFunction (m .state) (f .name .value) (m .book)) (base f 14 i (x .0) b h)
 
   implement : (t : Token) → KnownToken t → (fs : List FunctionDefinition) (i : ℕ) → RunAt (FunctionAt 14) sizeF fs w i → (b : Book.Book)
@@ -559,30 +560,23 @@ and-right false b e = absurd (let z : _≡_ {A = ℕ} 0 1 = cc e in omega (arith
 
 -- a value in range with a position is in range by itself, and so is the position
 
+at-zero : (t : Bool) → mayBeAt t 0 ≡ true
+unfolding mayBeAt inPlace
+at-zero true = refl
+at-zero false = refl
+
 value-range : (k p v : ℕ) → inRange k p v ≡ true → inRange k 0 v ≡ true
 unfolding inRange
-value-range k p v h = and-both _ _ (le-leb 0 (ruleOf k .position) (omega arith)) (and-right (leb p (ruleOf k .position)) _ h)
+value-range k p v h = and-both (mayBeAt (ruleOf k .position) 0) _ (at-zero (ruleOf k .position)) (and-right (mayBeAt (ruleOf k .position) p) _ h)
 
-abbrev positionsFit : List Rule → Bool
-positionsFit [] = true
-positionsFit (r ∷ rs) = cond (leb (r .position) anywhere) (positionsFit rs) false
+in-place : (t : Bool) (p : ℕ) → mayBeAt t p ≡ true → inPlace p ≡ true
+unfolding mayBeAt inPlace
+in-place true p h = h
+in-place false p h = let e : p ≡ 0 = eqb-true p 0 h in let z : inPlace 0 ≡ true = refl in subst (λ (n : ℕ). inPlace n ≡ true) (sym e) z
 
-fit-at : (l : List Rule) (k : ℕ) → positionsFit l ≡ true → leb (getD l k unused .position) anywhere ≡ true
-fit-at [] k h = refl
-fit-at (r ∷ l) k h = go (leb (r .position) anywhere) refl k (fit-at l)
-  where
-    go : (t : Bool) → leb (r .position) anywhere ≡ t → (k : ℕ) → ((k : ℕ) → positionsFit l ≡ true → leb (getD l k unused .position) anywhere ≡ true)
-        → leb (getD (r ∷ l) k unused .position) anywhere ≡ true
-    go true q zero f = q
-    go true q (suc k) f = f k (simp q at h)
-    go false q k f = absurd (let x : false ≡ true = simp q at h in let z : _≡_ {A = ℕ} 0 1 = cc x in omega (arith, z))
-
-position-range : (k p v : ℕ) → inRange k p v ≡ true → knownPosition p ≡ true
-unfolding inRange knownPosition
-position-range k p v h =
-    let a = leb-true p (ruleOf k .position) (and-left (leb p (ruleOf k .position)) _ h) in
-    let b = leb-true (ruleOf k .position) anywhere (fit-at rules k refl) in
-    and-both (leb p anywhere) true (le-leb p anywhere (omega (arith, a, b))) refl
+position-range : (k p v : ℕ) → inRange k p v ≡ true → inPlace p ≡ true
+unfolding inRange
+position-range k p v h = in-place (ruleOf k .position) p (and-left (mayBeAt (ruleOf k .position) p) _ h)
 
 -- the documents are children from slot 1 on: no document is ever due
 
@@ -624,7 +618,7 @@ record-known w f i l n a b =
     let p = position-range (kindAt w i) (positionAt w i) (valueAt w i) r in
     let v = value-range (kindAt w i) (positionAt w i) (valueAt w i) r in
     simp (ne-eqb n 11 (λ e. omega (arith, e, b))) (and-both (leb 1 n) _ (le-leb 1 n a) (and-both (leb n 10) _ (le-leb n 10 b)
-    (and-both (knownPosition (positionAt w i)) _ p (and-both (isKind (kindAt w i)) _ c v))))
+    (and-both (inPlace (positionAt w i)) _ p (and-both (isKind (kindAt w i)) _ c v))))
 
 -- file numbers are texts
 
@@ -722,7 +716,7 @@ document-text w f i l e =
     let S = fine-spells w f in
     let r : inRange 1 (positionAt w i) (valueAt w i) ≡ true
     = subst (λ (k : ℕ). inRange k (positionAt w i) (valueAt w i) ≡ true) e (S .ranges i (inside w i (S .whole) l)) in
-    and-right (leb (positionAt w i) 0) _ r
+    and-right (mayBeAt false (positionAt w i)) _ r
 
 answer-known : (w lengths : List ℕ) → AnswerKnown (answer w lengths)
 unfolding answer answerFrom answerBundle
@@ -749,15 +743,15 @@ answer-known w lengths = shape (shapeOf w) refl
 
         all : (ds : List Document) → All (Stands w here) ds → AnswerKnown (answerDocuments ds (limitsOf lengths) c)
         all [] S = none
-        all (root ∷ others) S = go (missing (root ∷ others) (needed (filesOf (c .assemblies)) root others)) refl
+        all (root ∷ others) S = go (missing (root ∷ others) (needed (loadedOf c) root others)) refl
           where
-            go : (o : Option ℕ) → missing (root ∷ others) (needed (filesOf (c .assemblies)) root others) ≡ o
-                → AnswerKnown (answerNeeded o (needed (filesOf (c .assemblies)) root others) (root ∷ others) (limitsOf lengths) c)
+            go : (o : Option ℕ) → missing (root ∷ others) (needed (loadedOf c) root others) ≡ o
+                → AnswerKnown (answerNeeded o (needed (loadedOf c) root others) (root ∷ others) (limitsOf lengths) c)
             go (some n) e = none
             go none e =
-                let r = compileNeeded (needed (filesOf (c .assemblies)) root others) (root ∷ others) c in
+                let r = compileNeeded (needed (loadedOf c) root others) (root ∷ others) c in
                 by (firstOver (limitsOf lengths) (r .uses)) (r .ending)
-                (worked w here texts (needed (filesOf (c .assemblies)) root others) (root ∷ others) S e c)
+                (worked w here texts (needed (loadedOf c) root others) (root ∷ others) S e c)
 
         two : (o : Option ℕ) → AnswerKnown (answerTwice o w (limitsOf lengths) c)
         two (some i) = none

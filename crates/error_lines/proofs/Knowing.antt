@@ -6,11 +6,11 @@ use mathlib.Core.Bool.{Bool, true, false, cond, not, _&&_}
 use mathlib.Core.List.{List}
 use lib.Dec.{eqb, leb}
 use borrow.Author.Tests.{le-leb, lt-leb, eq-eqb, ne-eqb, not-true, not-false}
-use Rattle.words.specs.Record.{mostText}
+use Rattle.words.specs.Record.{mostText, inPlace}
 use Rattle.words.specs.Areas.{entryWord, entryField}
 use Rattle.tree.specs.Rules.{inRange}
 use Rattle.definition.specs.Compiler.{Error}
-use Rattle.error_lines.specs.Known.{isKind, isText, holdsText, knownToken, knownPosition, knownRing, knownOther, known}
+use Rattle.error_lines.specs.Known.{isKind, isText, holdsText, knownToken, knownRing, knownOther, known}
 use Rattle.error_lines.specs.Lines.{errorAt, isZeros, fileOf, shownValue}
 
 abbrev pub error : ℕ → ℕ → ℕ → ℕ → Error
@@ -32,10 +32,6 @@ text-rest n l = simp (le-leb 1 n l)
 pub holds-by : (k : ℕ) {x : Bool} → x ≡ inRange k 0 0 → not x ≡ holdsText k
 unfolding holdsText
 holds-by k e = ap not e
-
-pub position-by : (p : ℕ) {x : Bool} → x ≡ inRange 47 p 0 → x ≡ knownPosition p
-unfolding knownPosition
-position-by p e = e
 
 pub token-no : (k v : ℕ) {x : Bool} → x ≡ isKind k → not x ≡ true → false ≡ knownToken k v
 unfolding knownToken
@@ -73,10 +69,10 @@ module _ (n p k v : ℕ) where
   pub other-high : 1 ≤ n → 11 ≤ n → false ≡ knownOther (error n p k v)
   other-high a l = simp (le-leb 1 n a, lt-leb n 10 (omega (arith, l)))
 
-  pub other-position : {x : Bool} → 1 ≤ n → n < 11 → x ≡ knownPosition p → not x ≡ true → false ≡ knownOther (error n p k v)
+  pub other-position : {x : Bool} → 1 ≤ n → n < 11 → x ≡ inPlace p → not x ≡ true → false ≡ knownOther (error n p k v)
   other-position {x} a l h d = simp (le-leb 1 n a, le-leb n 10 (omega (arith, l)), sym h ∙ not-true x d)
 
-  pub other-token : {x y : Bool} → 1 ≤ n → n < 11 → x ≡ knownPosition p → not x ≡ false → y ≡ knownToken k v → y ≡ knownOther (error n p k v)
+  pub other-token : {x y : Bool} → 1 ≤ n → n < 11 → x ≡ inPlace p → not x ≡ false → y ≡ knownToken k v → y ≡ knownOther (error n p k v)
   other-token {x} {y} a l h d t = t ∙ simp (le-leb 1 n a, le-leb n 10 (omega (arith, l)), sym h ∙ not-false x d)
 
   pub known-ring : {x : Bool} → n ≡ 11 → x ≡ knownRing (error n p k v) → x ≡ known (error n p k v)

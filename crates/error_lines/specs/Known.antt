@@ -4,7 +4,7 @@ use Prim.Native.Nat.{ℕ}
 use mathlib.Core.Bool.{Bool, false, cond, not, _&&_, _||_}
 use mathlib.Core.List.{List, [], _∷_}
 use lib.Dec.{eqb, leb}
-use Rattle.words.specs.Record.{mostText}
+use Rattle.words.specs.Record.{mostText, inPlace}
 use Rattle.tree.specs.Rules.{Slot, slots, has, inRange}
 use Rattle.definition.specs.Compiler.{Error}
 
@@ -27,10 +27,6 @@ isKind k = standsIn k slots
 unfoldable pub knownToken : ℕ → ℕ → Bool
 knownToken k v = isKind k && inRange k 0 v
 
--- a position: one that a record may have (kind 47 may have any)
-unfoldable pub knownPosition : ℕ → Bool
-knownPosition p = inRange 47 p 0
-
 -- 01: 'Texts, file names included, are numbers 1 to 1,048,575'
 abbrev pub isText : ℕ → Bool
 isText n = leb 1 n && leb n mostText
@@ -43,9 +39,9 @@ holdsText k = not (inRange k 0 0)
 abbrev pub knownRing : Error → Bool
 knownRing e = eqb (e .token .position) 0 && (eqb (e .token .kind) 0 && isText (e .token .value))
 
--- errors 1 to 10
+-- errors 1 to 10; a position whose line and column are in range, each by itself
 abbrev pub knownOther : Error → Bool
-knownOther e = leb 1 (e .number) && (leb (e .number) 10 && (knownPosition (e .token .position) && knownToken (e .token .kind) (e .token .value)))
+knownOther e = leb 1 (e .number) && (leb (e .number) 10 && (inPlace (e .token .position) && knownToken (e .token .kind) (e .token .value)))
 
 unfoldable pub known : Error → Bool
 known e = cond (isRing e) (knownRing e) (knownOther e)

@@ -1,7 +1,7 @@
 // Which errors 01 knows: number, position and token, each by itself.
 ghost use mathlib.Core.Path.{_≡_};
 ghost use mathlib.Core.Bool.{not};
-ghost use Rattle.error_lines.specs.Known.{isKind, isText, knownToken, knownPosition, holdsText, knownRing, knownOther, known};
+ghost use Rattle.error_lines.specs.Known.{isKind, isText, knownToken, holdsText, knownRing, knownOther, known};
 ghost use Rattle.error_lines.specs.Listed.{listed, indexBy};
 ghost use Rattle.error_lines.specs.Words.{firstUnknown};
 ghost use Rattle.error_lines.specs.Lines.{errorAt, isZeros, errorsIn};
@@ -10,7 +10,7 @@ use tree::may_stand;
 use words::areas::ERROR_WORDS;
 use words::areas::entry_word;
 use words::record::MOST_TEXT;
-use words::record::OTHER_TOKEN;
+use words::record::in_place;
 use words::reply::ERROR_RING;
 
 // The words of an error's entry.
@@ -100,12 +100,6 @@ fn known_token(kind: u64, value: u64) -> bool
     in_range(kind, 0, value)
 }
 
-fn known_position(position: u64) -> bool
-    ensures { λ r. ⌜ r ≡ knownPosition position ⌝ }
-{
-    in_range(OTHER_TOKEN, position, 0)
-}
-
 // Error 11 has zeros and a text.
 fn known_ring(error: ListedError) -> bool
     ensures { λ r. ⌜ r ≡ knownRing (listed error) ⌝ }
@@ -129,7 +123,7 @@ fn known_other(error: ListedError) -> bool
     if error.number >= ERROR_RING {
         return false;
     }
-    if !known_position(error.position) {
+    if !in_place(error.position) {
         return false;
     }
     known_token(error.kind, error.value)

@@ -2,26 +2,29 @@
 // docs/FORMAT.md; a longer input answers 9, place 0, and so does a listing that is too long or has a number too wide.
 use books::compile;
 use column_files::columns_to_records;
+use column_lines::line::LINE_LENGTH;
 use libc::STDIN_FILENO;
 use libc::STDOUT_FILENO;
 use listings::write;
 use words::reply::AREA_FULL;
 use words::reply::Reply;
 
-const MOST_BYTES: usize = 65504;
+const MOST_RECORDS: usize = 1260;
 
-const MOST_RECORDS: usize = 1424;
+const MOST_BYTES: usize = MOST_RECORDS * LINE_LENGTH;
+
+const MOST_WORDS: usize = MOST_RECORDS * 4;
 
 const MOST_TEXT: usize = 65490;
 
-const LINE_LENGTH: usize = 74;
+const LISTING_LINE: usize = 74;
 
 // The line of a refusal without errors.
 fn refuse(number: u64, place: u64) {
     let none = [0u64; 1];
     let empty = &none[0..0];
     let reply = Reply::refused(number, place);
-    let mut line = [0u8; 74];
+    let mut line = [0u8; LISTING_LINE];
     let answer = write(
         reply,
         empty,
@@ -35,7 +38,7 @@ fn refuse(number: u64, place: u64) {
         empty,
         &mut line,
     );
-    if answer.total == LINE_LENGTH {
+    if answer.total == LISTING_LINE {
         io::write_all(STDOUT_FILENO, &line);
     }
 }
@@ -52,7 +55,7 @@ fn show(
     errors: &[u64],
     books: &[u64],
 ) {
-    let mut text = [0u8; 65490];
+    let mut text = [0u8; MOST_TEXT];
     let answer = write(
         reply,
         code,
@@ -124,7 +127,7 @@ fn list(file: &[u8]) {
         refuse(AREA_FULL, 0);
         return;
     }
-    let mut words = [0u64; 5696];
+    let mut words = [0u64; MOST_WORDS];
     let answer = columns_to_records(file, &mut words);
     if answer.number != 0 {
         refuse(answer.number, answer.place as u64);

@@ -2,5 +2,6 @@
 pub mod BenchTable
 pub mod Walking
 pub mod Keys
+pub mod Places
 pub mod Text
 pub mod Whole

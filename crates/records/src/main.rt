@@ -1,5 +1,5 @@
 // A column file on standard input to its records on standard output: a line with the reply, number, place and total, then a word a line, unsigned,
-// right-justified in 21. The input is read piece by piece into a buffer of 1,424 records, and a longer one answers 9, place 0 (docs/FORMAT.md); the
+// right-justified in 21. The input is read piece by piece into a buffer of 1,260 records, and a longer one answers 9, place 0 (docs/FORMAT.md); the
 // output is written word by word.
 use column_files::columns_to_records;
 use column_lines::line::LINE_LENGTH;
@@ -7,7 +7,7 @@ use column_lines::number::write_number;
 use libc::STDIN_FILENO;
 use libc::STDOUT_FILENO;
 
-const MOST_RECORDS: usize = 1424;
+const MOST_RECORDS: usize = 1260;
 
 const MOST_BYTES: usize = MOST_RECORDS * LINE_LENGTH;
 

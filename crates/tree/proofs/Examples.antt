@@ -2,9 +2,9 @@
 use Prim.Native.Nat.{ℕ, zero, suc, _+_}
 use mathlib.Core.Path.{_≡_, refl}
 use mathlib.Core.List.{List, [], _∷_, _++_}
-use Rattle.words.specs.Record.{fieldOf, packPosition}
+use Rattle.words.specs.Record.{fieldOf, packPosition, mostPlace, inPlace}
 use Rattle.words.specs.Ast.{Token, Identifier, If, Return, Expr, ∅ₛ, _∷ₛ_, PublicFunction, Document}
-use Rattle.tree.specs.Rules.{mayStand, slotAfter, isDue, firstSlot, goesOn, inRange}
+use Rattle.tree.specs.Rules.{mayStand, slotAfter, isDue, firstSlot, goesOn, mayBeAt, inRange}
 use Rattle.tree.specs.Check.{shapeOf, walkBy, headAt, soundAt, thisAfter, sameThis, lacksBy, withinOf}
 use Rattle.tree.specs.Reading.{documentsOf, documentOf, definitionOf, listOf, parametersOf, expressionOf, pairsOf}
 use Rattle.tree.specs.At.{runDepth, depthDoc, depthD, depthE}
@@ -12,7 +12,7 @@ use Rattle.tree.specs.declared.Shape.{Shape}
 use Rattle.tree.specs.declared.Shape.the-variants.{Fine, Refused}
 
 answer : List ℕ → Shape
-unfolding shapeOf walkBy headAt soundAt thisAfter sameThis lacksBy withinOf fieldOf mayStand slotAfter isDue firstSlot goesOn inRange
+unfolding shapeOf walkBy headAt soundAt thisAfter sameThis lacksBy withinOf fieldOf mayStand slotAfter isDue firstSlot goesOn inRange mayBeAt inPlace
 answer w = shapeOf w
 
 infixr 40 _·_
@@ -36,7 +36,9 @@ alone = refl
 
 -- the listing's book: file 2 holds f (text 3) with parameter x (text 4): `if x return end`
 book : List ℕ
-book = rec 1 8 0 2 · rec 15 7 (packPosition 1 10) 3 · rec 40 1 0 4 · rec 25 5 0 0 · rec 42 4 0 0 · rec 30 1 (packPosition 2 6) 4 · rec 43 2 0 0 · rec 21 1 (packPosition 3 5) 0
+book =
+    rec 1 8 0 2 · rec 15 7 (packPosition 1 10) 3 · rec 40 1 0 4 · rec 25 5 0 0 · rec 42 4 0 0 · rec 30 1 (packPosition 2 6) 4 · rec 43 2 0 0
+    · rec 21 1 (packPosition 3 5) 0
 
 book-fine : answer book ≡ Fine
 unfolding answer book
@@ -88,6 +90,32 @@ this = refl
 this-same : answer (rec 1 3 0 2 · rec 14 2 0 3 · rec 41 1 0 9 · rec 1 3 0 4 · rec 14 2 0 3 · rec 41 1 0 9) ≡ Fine
 unfolding answer
 this-same = refl
+
+-- a model at a line and a column: each half has its limit, whatever the other is
+abbrev modelAt : ℕ → ℕ → List ℕ
+modelAt line column = rec 1 2 0 2 · rec 12 1 (packPosition line column) 3
+
+place-most : answer (modelAt mostPlace mostPlace) ≡ Fine
+unfolding answer
+place-most = refl
+
+line-far : answer (modelAt 100000000 0) ≡ Refused 3 1
+unfolding answer
+line-far = refl
+
+column-far : answer (modelAt 0 100000000) ≡ Refused 3 1
+unfolding answer
+column-far = refl
+
+-- line 0, column 2^32 - 1: as a number below the greatest position
+column-farthest : answer (modelAt 0 4294967295) ≡ Refused 3 1
+unfolding answer
+column-farthest = refl
+
+-- a value at record 1, a position at record 2: the first of them
+far-later : answer (rec 1 3 0 2 · rec 14 2 0 0 · rec 21 1 100000000 0) ≡ Refused 3 1
+unfolding answer
+far-later = refl
 
 -- a name after a statement
 late : answer (rec 1 4 0 2 · rec 14 3 0 3 · rec 21 1 0 0 · rec 40 1 0 9) ≡ Refused 3 3

@@ -1,16 +1,16 @@
 -- The code's tables are those of `Rules`: each row stands at its place, and its number says what the row says, by one test of every slot and one of every
 -- rule, which antt computes. Also one law for each way through the functions that read a row. Assumes nothing.
 use mathlib.Core.Path.{_≡_, refl, sym, ap, subst, _∙_}
-use mathlib.Core.Bool.{Bool, true, false, cond, _&&_}
+use mathlib.Core.Bool.{Bool, true, false, cond, not, _&&_}
 use mathlib.Core.List.{List, [], _∷_}
 use Prim.Native.Nat.{ℕ, zero, suc, _/_, _%_, _^_, _≤_, _<_}
 use native.Mathlib.Omega.{arith}
 use native.Mathlib.Decide.{decLt}
 use lib.ListN.{getD, List·getD-eq-default}
 use lib.Dec.{T, eqb, leb, ltb, ltb→lt, eqb→eq}
-use borrow.Author.Tests.{lt-ltb, le-ltb, le-leb, lt-leb, ne-eqb}
-use Rattle.tree.specs.Rules.{Slot, Rule, slots, rules, slotOf, ruleOf, nothing, unused, has, mayStand, goesOn, slotAfter, isDue, firstSlot, inRange}
-use Rattle.tree.specs.Rows.{slotRow, ruleRow, holdsIn, rangeIn, positionIn, mostIn}
+use borrow.Author.Tests.{lt-ltb, le-ltb, le-leb, lt-leb, ne-eqb, not-true, not-false}
+use Rattle.tree.specs.Rules.{Slot, Rule, slots, rules, slotOf, ruleOf, nothing, unused, has, mayStand, goesOn, slotAfter, isDue, firstSlot, mayBeAt, inRange}
+use Rattle.tree.specs.Rows.{slotRow, ruleRow, holdsIn, rangeIn, placedIn, mostIn}
 
 -- a test of every entry of a list, and of every number below n
 
@@ -186,13 +186,13 @@ pub due-row : (s : ℕ) {r : ℕ} → r ≡ slotRow (slotOf s) → eqb (r / 2 ^ 
 unfolding isDue
 due-row s q = ap (λ (x : ℕ). eqb (x / 2 ^ 55) 1) q ∙ same-is _ _ (every-slot s .due)
 
--- the test of a rule: its first slot, its greatest position, its least and its greatest value
+-- the test of a rule: its first slot, whether it has a position, its least and its greatest value
 
 abbrev by-first : Rule → Bool
 by-first r = eqb (ruleRow r % 32) (r .first)
 
 abbrev by-position : Rule → Bool
-by-position r = eqb (positionIn (ruleRow r)) (r .position)
+by-position r = same (placedIn (ruleRow r)) (r .position)
 
 abbrev by-least : Rule → Bool
 by-least r = eqb (ruleRow r / 64 % 2) (r .least)
@@ -205,7 +205,7 @@ rule-told r = both (by-first r) (both (by-position r) (both (by-least r) (by-mos
 
 record RuleTold (r : Rule) (row : ℕ) : Type 0 where
   first : row % 32 ≡ r .first
-  position : positionIn row ≡ r .position
+  position : placedIn row ≡ r .position
   least : row / 64 % 2 ≡ r .least
   most : mostIn row ≡ r .most
 
@@ -215,13 +215,13 @@ rule-parts r t =
     let v = both-right (by-position r) (both (by-least r) (by-most r)) u in
     record {
       first = eqb→eq _ _ (both-left (by-first r) _ t);
-      position = eqb→eq _ _ (both-left (by-position r) _ u);
+      position = same-is _ _ (both-left (by-position r) _ u);
       least = eqb→eq _ _ (both-left (by-least r) _ v);
       most = eqb→eq _ _ (both-right (by-least r) _ v);
     }
 
 every-rule : (k : ℕ) {row : ℕ} → row ≡ ruleRow (ruleOf k) → RuleTold (ruleOf k) row
-unfolding positionIn mostIn
+unfolding placedIn mostIn
 every-rule k q = subst (λ (x : ℕ). RuleTold (ruleOf k) x) (sym q) (rule-parts (ruleOf k) (all-at rule-told rules unused tt tt k))
 
 -- first_slot
@@ -236,15 +236,18 @@ pub range-row : (k p v : ℕ) {row : ℕ} → row ≡ ruleRow (ruleOf k) → ran
 unfolding rangeIn inRange
 range-row k p v q = rw (every-rule k q .position, every-rule k q .least, every-rule k q .most)
 
-module _ (row p v : ℕ) {h : ℕ} (H : h ≡ positionIn row) where
-  pub range-high : h < p → false ≡ rangeIn row p v
-  unfolding rangeIn
-  range-high l = simp (lt-leb p (positionIn row) (omega arith))
+module _ (row p v : ℕ) {b : Bool} (B : b ≡ mayBeAt (placedIn row) p) where
+  here : {t : Bool} → b ≡ t → mayBeAt (placedIn row) p ≡ t
+  here e = sym B ∙ e
 
-  pub range-low : p ≤ h → v < row / 64 % 2 → false ≡ rangeIn row p v
+  pub range-off : not b ≡ true → false ≡ rangeIn row p v
   unfolding rangeIn
-  range-low l n = simp (le-leb p (positionIn row) (omega arith), lt-leb (row / 64 % 2) v n)
+  range-off o = simp (here (not-true b o))
 
-  pub range-most : p ≤ h → row / 64 % 2 ≤ v → {m : ℕ} → m ≡ mostIn row → leb v m ≡ rangeIn row p v
+  pub range-low : not b ≡ false → v < row / 64 % 2 → false ≡ rangeIn row p v
   unfolding rangeIn
-  range-most l n M = simp (le-leb p (positionIn row) (omega arith), le-leb (row / 64 % 2) v n) (ap (λ (x : ℕ). leb v x) M)
+  range-low o n = simp (here (not-false b o), lt-leb (row / 64 % 2) v n)
+
+  pub range-most : not b ≡ false → row / 64 % 2 ≤ v → {m : ℕ} → m ≡ mostIn row → leb v m ≡ rangeIn row p v
+  unfolding rangeIn
+  range-most o n M = simp (here (not-false b o), le-leb (row / 64 % 2) v n) (ap (λ (x : ℕ). leb v x) M)

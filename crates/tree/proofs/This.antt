@@ -7,7 +7,7 @@ use native.Mathlib.Omega.{arith}
 use native.Mathlib.Decide.{decLt, ℕ-discrete}
 use lib.Dec.{eqb, leb}
 use borrow.Author.Tests.{eq-eqb, ne-eqb, leb-true}
-use Rattle.tree.specs.Rules.{slotAfter, firstSlot, ruleOf, inRange}
+use Rattle.tree.specs.Rules.{slotAfter, firstSlot, ruleOf, mayBeAt, inRange}
 use Rattle.words.specs.Record.{kindAt, spanAt, positionAt, valueAt}
 use Rattle.tree.specs.Check.{sameThis, thisAfter, headAt, walkOf}
 use Rattle.tree.specs.declared.Outcome.the-variants.{Went}
@@ -52,7 +52,7 @@ some-41 : (k p v : ℕ) → k ≡ 41 → inRange k p v ≡ true → 0 < v
 unfolding inRange
 some-41 k p v q h =
     let g : inRange 41 p v ≡ true = subst (λ x. inRange x p v ≡ true) q h in
-    leb-true 1 v (and-left _ _ (and-right (leb p (ruleOf 41 .position)) _ g))
+    leb-true 1 v (and-left _ _ (and-right (mayBeAt (ruleOf 41 .position) p) _ g))
 
 record Threads (w : List ℕ) (t u i e : ℕ) : Type 0 where
   kept : (t ≡ 0 → ⊥) → u ≡ t

@@ -3,7 +3,7 @@ use Prim.Native.Nat.{ℕ, _+_, _*_, _/_, _%_, _^_}
 use mathlib.Core.Bool.{Bool, cond, _&&_}
 use mathlib.Core.List.{List, [], _∷_}
 use lib.Dec.{eqb, leb, ltb}
-use Rattle.tree.specs.Rules.{Slot, Rule, anywhere, text, anything}
+use Rattle.tree.specs.Rules.{Slot, Rule, mayBeAt, text, anything}
 
 -- a slot: a bit for each of its kinds, which are below 50, then the slot after it, then whether a child is due
 abbrev pub bits : List ℕ → ℕ
@@ -18,11 +18,11 @@ abbrev pub valueRow : ℕ → ℕ
 valueRow most = cond (eqb most text) 64 (cond (eqb most anything) 128 (most * 256))
 
 abbrev pub ruleRow : Rule → ℕ
-ruleRow r = r .first + cond (eqb (r .position) 0) 0 32 + valueRow (r .most)
+ruleRow r = r .first + cond (r .position) 32 0 + valueRow (r .most)
 
--- the greatest position and the greatest value that a row says
-unfoldable pub positionIn : ℕ → ℕ
-positionIn row = cond (eqb (row / 32 % 2) 1) anywhere 0
+-- whether a row says a position, and the greatest value that it says
+unfoldable pub placedIn : ℕ → Bool
+placedIn row = eqb (row / 32 % 2) 1
 
 unfoldable pub mostIn : ℕ → ℕ
 mostIn row = cond (eqb (row / 64 % 2) 1) text (cond (eqb (row / 128 % 2) 1) anything (row / 256))
@@ -32,4 +32,4 @@ unfoldable pub holdsIn : ℕ → ℕ → Bool
 holdsIn row k = ltb k 50 && eqb (row / 2 ^ k % 2) 1
 
 unfoldable pub rangeIn : ℕ → ℕ → ℕ → Bool
-rangeIn row p v = leb p (positionIn row) && (leb (row / 64 % 2) v && leb v (mostIn row))
+rangeIn row p v = mayBeAt (placedIn row) p && (leb (row / 64 % 2) v && leb v (mostIn row))

@@ -1,11 +1,11 @@
 -- The tree rules of 01, 'The tree', as two tables. A slot is a place among the children of a record: which kinds may stand there, the slot after
--- it, and whether a child is due. A kind's rule is the slot of its first child, its greatest position, its least and its greatest value
-use Prim.Native.Nat.{ℕ, _-_}
+-- it, and whether a child is due. A kind's rule is the slot of its first child, whether it has a position, its least and its greatest value
+use Prim.Native.Nat.{ℕ}
 use mathlib.Core.Bool.{Bool, true, false, cond, _&&_, _||_}
 use mathlib.Core.List.{List, [], _∷_}
 use lib.ListN.{getD}
 use lib.Dec.{eqb, leb}
-use Rattle.words.specs.Record.{mostText, positionLimit}
+use Rattle.words.specs.Record.{mostText, inPlace}
 
 pub record Slot : Type 0 where
   pub kinds : List ℕ
@@ -14,14 +14,14 @@ pub record Slot : Type 0 where
 
 pub record Rule : Type 0 where
   pub first : ℕ
-  pub position : ℕ
+  pub position : Bool
   pub least : ℕ
   pub most : ℕ
 
 abbrev pub slot : List ℕ → ℕ → Bool → Slot
 slot kinds next due = record { kinds = kinds; next = next; due = due }
 
-abbrev pub rule : ℕ → ℕ → ℕ → ℕ → Rule
+abbrev pub rule : ℕ → Bool → ℕ → ℕ → Rule
 rule first position least most = record { first = first; position = position; least = least; most = most }
 
 -- kinds 10 to 17: 'document (file): definitions'
@@ -72,9 +72,12 @@ slots =
     slot expressions 18 true ∷  -- 23: call: the function
     []
 
--- the greatest position: line and column 0 to 65,535 each, packed
-abbrev pub anywhere : ℕ
-anywhere = positionLimit - 1
+-- a kind has a position, or 0 in its place
+abbrev pub anywhere : Bool
+anywhere = true
+
+abbrev pub nowhere : Bool
+nowhere = false
 
 -- the greatest text
 abbrev pub text : ℕ
@@ -85,13 +88,13 @@ abbrev pub anything : ℕ
 anything = 18446744073709551615
 
 abbrev pub unused : Rule
-unused = rule 0 0 0 0
+unused = rule 0 nowhere 0 0
 
 -- by kind. 'Kinds 1, 10, 17, 20, 25, 42, 43, 49 have position 0'; values as in docs/DECISIONS.md, 3, 'unused values are 0'
 abbrev pub rules : List Rule
 rules =
     unused ∷
-    rule 2 0 1 text ∷  -- 1 document
+    rule 2 nowhere 1 text ∷  -- 1 document
     unused ∷
     unused ∷
     unused ∷
@@ -100,22 +103,22 @@ rules =
     unused ∷
     unused ∷
     unused ∷
-    rule 3 0 0 0 ∷  -- 10 local definition
+    rule 3 nowhere 0 0 ∷  -- 10 local definition
     rule 5 anywhere 1 text ∷  -- 11 include
     rule 7 anywhere 1 text ∷  -- 12 model
     rule 7 anywhere 1 text ∷  -- 13 public model
     rule 8 anywhere 1 text ∷  -- 14 function
     rule 8 anywhere 1 text ∷  -- 15 public function
     rule 10 anywhere 1 text ∷  -- 16 implement
-    rule 11 0 0 0 ∷  -- 17 apply
+    rule 11 nowhere 0 0 ∷  -- 17 apply
     unused ∷
     unused ∷
-    rule 13 0 0 0 ∷  -- 20 local statement
+    rule 13 nowhere 0 0 ∷  -- 20 local statement
     rule 0 anywhere 0 0 ∷  -- 21 return
     rule 0 anywhere 0 0 ∷  -- 22 break
     rule 0 anywhere 0 0 ∷  -- 23 rescue
     rule 15 anywhere 0 0 ∷  -- 24 for
-    rule 17 0 0 0 ∷  -- 25 expression
+    rule 17 nowhere 0 0 ∷  -- 25 expression
     unused ∷
     unused ∷
     unused ∷
@@ -132,14 +135,14 @@ rules =
     rule 19 anywhere 0 19 ∷  -- 39 infix
     rule 0 anywhere 1 text ∷  -- 40 name
     rule 0 anywhere 1 text ∷  -- 41 this parameter
-    rule 20 0 0 0 ∷  -- 42 if
-    rule 9 0 0 0 ∷  -- 43 block
+    rule 20 nowhere 0 0 ∷  -- 42 if
+    rule 9 nowhere 0 0 ∷  -- 43 block
     rule 23 anywhere 0 0 ∷  -- 44 call
     rule 19 anywhere 0 0 ∷  -- 45 instance get
     rule 19 anywhere 0 0 ∷  -- 46 index get
     rule 0 anywhere 0 0 ∷  -- 47 other token
     unused ∷
-    rule 0 0 0 0 ∷  -- 49 absent
+    rule 0 nowhere 0 0 ∷  -- 49 absent
     []
 
 abbrev pub slotOf : ℕ → Slot
@@ -171,6 +174,10 @@ isDue s = slotOf s .due
 unfoldable pub firstSlot : ℕ → ℕ
 firstSlot k = ruleOf k .first
 
--- 'its position or value is out of range'
+-- a position of a kind that has one, or has none
+unfoldable pub mayBeAt : Bool → ℕ → Bool
+mayBeAt placed p = cond placed (inPlace p) (eqb p 0)
+
+-- 'its position or value is out of range'; 2026-06: 'row 3 for a position above the new limit'
 unfoldable pub inRange : ℕ → ℕ → ℕ → Bool
-inRange k p v = leb p (ruleOf k .position) && (leb (ruleOf k .least) v && leb v (ruleOf k .most))
+inRange k p v = mayBeAt (ruleOf k .position) p && (leb (ruleOf k .least) v && leb v (ruleOf k .most))

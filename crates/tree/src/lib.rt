@@ -2,31 +2,29 @@
 // (`stands`: row 3), at its level (row 4), and then at its children, one level down. That a child is lacking, which is row 3 at the parent, shows after the
 // last child; where one of them is at fault, `blame` goes on over the others to see it.
 use words::record::POSITION;
-use words::record::POSITION_LIMIT;
 use words::record::RECORD_WORDS;
 use words::record::SPAN;
 use words::record::VALUE;
 use words::record::field;
+use words::record::in_place;
 ghost use mathlib.Core.Path.{_≡_};
 ghost use mathlib.Core.Bool.{cond, _&&_};
 ghost use Prim.Native.Nat.{_+_, _*_, _%_, _≤_, _<_};
 ghost use lib.ListN.{length};
 ghost use lib.Dec.{leb};
 ghost use Rattle.words.specs.Record.{mostLevels};
-ghost use Rattle.tree.specs.Rules.{slotOf, ruleOf, mayStand, goesOn, slotAfter, isDue, firstSlot, inRange};
-ghost use Rattle.tree.specs.Rows.{slotRow, ruleRow, holdsIn, rangeIn, positionIn, mostIn};
+ghost use Rattle.tree.specs.Rules.{slotOf, ruleOf, mayStand, goesOn, slotAfter, isDue, firstSlot, mayBeAt, inRange};
+ghost use Rattle.tree.specs.Rows.{slotRow, ruleRow, holdsIn, rangeIn, placedIn, mostIn};
 ghost use Rattle.tree.specs.Check.{withinOf, lacksOf, walkOf, sameThis, thisAfter, shapeOf};
 ghost use Rattle.tree.specs.Children.{blamed, settled};
 ghost use Rattle.tree.specs.declared.Outcome.the-variants.{Fault};
 
-// Limits of 01: records of a bundle, levels, the number of a text, a position.
+// Limits of 01: records of a bundle, levels, the number of a text, a word.
 const MOST_RECORDS: usize = 1048576;
 
 const MOST_LEVELS: usize = 64;
 
 const MOST_TEXT: u64 = 1048575;
-
-const MOST_POSITION: u64 = POSITION_LIMIT - 1;
 
 const MOST_WORD: u64 = 18446744073709551615;
 
@@ -231,13 +229,14 @@ pub fn first_slot(kind: u64) -> usize
     row_first(row)
 }
 
-fn most_position(row: u64) -> u64
-    ensures { λ r. ⌜ r ≡ positionIn row ⌝ }
+// Whether a position is one that a rule's row allows.
+fn position_fits(row: u64, position: u64) -> bool
+    ensures { λ r. ⌜ r ≡ mayBeAt (placedIn row) position ⌝ }
 {
     if (row / PLACED) % 2 == 1 {
-        MOST_POSITION
+        in_place(position)
     } else {
-        0
+        position == 0
     }
 }
 
@@ -257,8 +256,7 @@ fn most_value(row: u64) -> u64
 fn row_range(row: u64, position: u64, value: u64) -> bool
     ensures { λ r. ⌜ r ≡ rangeIn row position value ⌝ }
 {
-    let highest = most_position(row);
-    if position > highest {
+    if !position_fits(row, position) {
         return false;
     }
     if value < (row / TEXT) % 2 {

@@ -4,4 +4,6 @@ pub mod Entries
 pub mod Fields
 pub mod Floats
 pub mod Integers
+pub mod ObjectBench
 pub mod Parts
+pub mod Positions

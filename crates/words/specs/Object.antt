@@ -47,10 +47,12 @@ FALSE = 2
 abbrev pub defaultConstants : List Constant
 defaultConstants = constantOf nullKind 0 ∷ constantOf booleanKind 1 ∷ constantOf booleanKind 0 ∷ []
 
--- which kinds `add_constant` looks for before it adds: integers and texts (change point of 2026-05)
+-- which kinds `add_constant` looks for before it adds: integers and texts (01), and floats (2026-05: 'Adding a float whose 64 bits stand in the pool gives
+-- the first number that has them')
 abbrev pub isShared : ℕ → Bool
-isShared kind = eqb kind integerKind || eqb kind textKind
+isShared kind = eqb kind integerKind || (eqb kind floatKind || eqb kind textKind)
 
--- whether two constants are the same (change point of 2026-05 and 2026-12)
+-- whether two constants are the same: the kind and all 64 bits (2026-05: 'Plus and minus zero keep separate entries; not-a-number values share only when all
+-- bits agree'; change point of 2026-12)
 abbrev pub sameConstant : Constant → Constant → Bool
 sameConstant c d = cond (eqb (c .kind) (d .kind)) (eqb (c .value) (d .value)) false

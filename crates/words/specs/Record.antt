@@ -1,9 +1,9 @@
 -- Records of 01, 'The tree': four words each, of which `fieldOf` reads one. Also the limits of rows 2 to 4 and of texts and positions, named once
-use Prim.Native.Nat.{ℕ, _+_, _*_, _/_, _%_}
-use mathlib.Core.Bool.{cond}
+use Prim.Native.Nat.{ℕ, _+_, _*_, _/_, _%_, _^_}
+use mathlib.Core.Bool.{Bool, cond, _&&_}
 use mathlib.Core.List.{List}
 use lib.ListN.{getD}
-use lib.Dec.{ltb}
+use lib.Dec.{leb, ltb}
 use Rattle.words.specs.Ast.{Token}
 
 -- row 2: the most records of a bundle
@@ -18,12 +18,12 @@ mostLevels = 64
 abbrev pub mostText : ℕ
 mostText = 1048575
 
--- a position is line × positionBase + column, each below positionBase, so below positionLimit (change point of 2026-06)
+-- 2026-06: 'A position becomes line × 2^32 + column, each at most 99,999,999'
 abbrev pub positionBase : ℕ
-positionBase = 65536
+positionBase = 2 ^ 32
 
-abbrev pub positionLimit : ℕ
-positionLimit = positionBase * positionBase
+abbrev pub mostPlace : ℕ
+mostPlace = 99999999
 
 abbrev pub packPosition : ℕ → ℕ → ℕ
 packPosition line column = line * positionBase + column
@@ -33,6 +33,10 @@ lineOf p = p / positionBase
 
 abbrev pub columnOf : ℕ → ℕ
 columnOf p = p % positionBase
+
+-- line and column are in range, each by itself: line 0 with column 2^32 - 1 is not
+unfoldable pub inPlace : ℕ → Bool
+inPlace p = leb (lineOf p) mostPlace && leb (columnOf p) mostPlace
 
 -- word k of record i: 0 kind, 1 span, 2 position, 3 value; 0 outside
 unfoldable pub fieldOf : List ℕ → ℕ → ℕ → ℕ

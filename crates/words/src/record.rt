@@ -1,6 +1,6 @@
 // Records of 01, 'The tree': four words each, their kinds, positions and limits.
 ghost use mathlib.Core.Path.{_≡_};
-ghost use Rattle.words.specs.Record.{fieldOf, packPosition, lineOf, columnOf};
+ghost use Rattle.words.specs.Record.{fieldOf, packPosition, lineOf, columnOf, inPlace};
 
 // The words of a record.
 pub const RECORD_WORDS: usize = 4;
@@ -139,10 +139,10 @@ pub const MOST_LEVELS: usize = 64;
 
 pub const MOST_TEXT: u64 = 1048575;
 
-// A position is line × POSITION_BASE + column, so below POSITION_LIMIT.
-pub const POSITION_BASE: u64 = 65536;
+// A position is line × POSITION_BASE + column, each at most MOST_PLACE.
+pub const POSITION_BASE: u64 = 4294967296;
 
-pub const POSITION_LIMIT: u64 = POSITION_BASE * POSITION_BASE;
+pub const MOST_PLACE: u64 = 99999999;
 
 // The first record index whose words no index reaches: 2^62.
 const RECORDS_END: usize = 4611686018427387904;
@@ -162,8 +162,8 @@ pub fn field(tree: &[u64], at: usize, k: usize) -> u64
     0
 }
 
-// A position's word (01, 'The tree').
-pub fn pack_position(line: u16, column: u16) -> u64
+// A position's word (2026-06); of a line or a column above MOST_PLACE, one that is not in range.
+pub fn pack_position(line: u32, column: u32) -> u64
     ensures { λ r. ⌜ r ≡ packPosition line column ⌝ }
 {
     (line as u64) * POSITION_BASE + column as u64
@@ -181,4 +181,14 @@ pub fn column_of(position: u64) -> u64
     ensures { λ r. ⌜ r ≡ columnOf position ⌝ }
 {
     position % POSITION_BASE
+}
+
+// Whether a word is a position: its line and its column in range, each by itself.
+pub fn in_place(position: u64) -> bool
+    ensures { λ r. ⌜ r ≡ inPlace position ⌝ }
+{
+    if position / POSITION_BASE > MOST_PLACE {
+        return false;
+    }
+    position % POSITION_BASE <= MOST_PLACE
 }

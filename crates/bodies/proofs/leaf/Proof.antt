@@ -43,7 +43,7 @@ returns-4 c =
     let c14 = c13 .before in
     let c20 = c14 .before .before .before .before .before .before in
     t.leaf-float (c20 .args .tree .now) (c20 .args .at) (c14 .field .ensures) (c13 .field2 .ensures) (c12 .field3 .ensures) (c8 .if4 .taken)
-    (c .before .before .before .before .float .ensures)
+    (c .before .before .before .before .constant2 .ensures)
 
 returns-5 : tie.Need-returns-5
 returns-5 c =
@@ -53,7 +53,7 @@ returns-5 c =
     let c15 = c14 .before in
     let c21 = c15 .before .before .before .before .before .before in
     t.leaf-text (c21 .args .tree .now) (c21 .args .at) (c15 .field .ensures) (c14 .field2 .ensures) (c13 .field3 .ensures) (c8 .if5 .taken)
-    (c .before .before .before .before .constant2 .ensures)
+    (c .before .before .before .before .constant3 .ensures)
 
 returns-6 : tie.Need-returns-6
 returns-6 c =

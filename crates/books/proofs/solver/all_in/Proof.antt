@@ -24,24 +24,19 @@ loop-holds c = λ r h. h
 returns : tie.Need-returns Inv-loop μ-loop
 returns c =
     let c6 = c .before .before .before .before .before .before in
-    c .before .before .before .loop .inv _ (all-other (c6 .args .tree .now) (c .before .before .before .loop .j) (c6 .args .end) (c6 .args .set .now)
-    (c .before .field .ensures) (c .if1 .taken))
-
-returns-2 : tie.Need-returns-2 Inv-loop μ-loop
-returns-2 c =
-    let c5 = c .before .before .before .before .before in
-    let c6 = c5 .before in
-    let c9 = c6 .before .before .before in
-    c6 .loop .inv _ (all-not (c9 .args .tree .now) (c6 .loop .j) (c9 .args .end) (c9 .args .set .now) (c5 .loop-test .taken)
-    (c .before .before .before .before .field .ensures) (c .before .before .before .if1 .left) (c .before .before .field2 .ensures)
+    let c7 = c6 .before in
+    let c10 = c7 .before .before .before in
+    c7 .loop .inv _ (all-not (c10 .args .tree .now) (c7 .loop .j) (c10 .args .end) (c10 .args .set .now) (c6 .loop-test .taken)
+    (c .before .before .before .before .field .ensures) (c .before .before .before .if1 .taken) (c .before .before .field2 .ensures)
     (sym (not-true _ (c .if2 .taken)) ∙ c .before .has .ensures))
 
 loop-less : tie.Need-loop-less Inv-loop μ-loop
 loop-less c =
-    let c6 = c .before .before .before .before .before .before in
+    let c5 = c .before .before .before .before .before in
+    let c6 = c5 .before in
     let c7 = c6 .before in
     let c10 = c7 .before .before .before in
-    omega (arith, c6 .loop-test .taken, skip-more (c10 .args .tree .now) (c7 .loop .j) (c10 .args .end) (c6 .loop-test .taken) (c .skip .ensures))
+    omega (arith, c6 .loop-test .taken, skip-more (c10 .args .tree .now) (c7 .loop .j) (c10 .args .end) (c6 .loop-test .taken) (c5 .skip .ensures))
 
 loop-again : tie.Need-loop-again Inv-loop μ-loop
 loop-again c =
@@ -49,12 +44,29 @@ loop-again c =
     let c6 = c5 .before in
     let c7 = c6 .before in
     let c10 = c7 .before .before .before in
-    λ r h. c7 .loop .inv r (all-more (c10 .args .tree .now) (c7 .loop .j) (c10 .args .end) (c10 .args .set .now) (c6 .loop-test .taken) (c5 .field .ensures)
-    (c .before .before .before .before .if1 .left) (c .before .before .before .field2 .ensures)
-    (sym (not-false _ (c .before .if2 .left)) ∙ c .before .before .has .ensures) (c .skip .ensures) h)
+    λ r h. c7 .loop .inv r (all-more (c10 .args .tree .now) (c7 .loop .j) (c10 .args .end) (c10 .args .set .now) (c6 .loop-test .taken)
+    (c .before .before .before .before .field .ensures) (c .before .before .before .if1 .taken) (c .before .before .field2 .ensures)
+    (sym (not-false _ (c .if2 .left)) ∙ c .before .has .ensures) (c5 .skip .ensures) h)
 
-returns-3 : tie.Need-returns-3 Inv-loop μ-loop
-returns-3 c = c .before .loop .inv _ (all-end (c .before .before .before .before .args .tree .now) (c .before .loop .j)
+loop-less-2 : tie.Need-loop-less-2 Inv-loop μ-loop
+loop-less-2 c =
+    let c7 = c .before .before .before .before .before .before .before in
+    omega (
+      arith,
+      c .before .before .before .loop-test .taken,
+      skip-more (c7 .args .tree .now) (c .before .before .before .before .loop .j) (c7 .args .end)
+          (c .before .before .before .loop-test .taken) (c .before .before .skip .ensures),
+    )
+
+loop-again-2 : tie.Need-loop-again-2 Inv-loop μ-loop
+loop-again-2 c =
+    let c7 = c .before .before .before .before .before .before .before in
+    λ r h. c .before .before .before .before .loop .inv r (all-other (c7 .args .tree .now) (c .before .before .before .before .loop .j) (c7 .args .end)
+    (c7 .args .set .now) (c .before .before .before .loop-test .taken) (c .before .field .ensures) (c .if1 .left)
+    (c .before .before .skip .ensures) h)
+
+returns-2 : tie.Need-returns-2 Inv-loop μ-loop
+returns-2 c = c .before .loop .inv _ (all-end (c .before .before .before .before .args .tree .now) (c .before .loop .j)
     (c .before .before .before .before .args .end) (c .before .before .before .before .args .set .now) (c .loop-test .left))
 
 pub all-in-spec : {M : Type 1} → statement M
@@ -65,11 +77,12 @@ all-in-spec =
     μ-loop
     loop-holds
     (λ c κs. search needs)
-    returns
+    (λ c κs. search needs)
     (λ c κs. search needs)
     (λ c κs. tt)
-    returns-2
-    (λ c κs. search needs)
+    returns
     loop-less
     loop-again
-    returns-3)
+    loop-less-2
+    loop-again-2
+    returns-2)

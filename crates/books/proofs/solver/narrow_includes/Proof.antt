@@ -21,22 +21,21 @@ loop-holds c = λ r h. h
 
 returns : tie.Need-returns Inv-loop μ-loop
 returns c =
-    let c5 = c .before .before .before .before .before in
-    c .before .before .before .loop .inv _ (narrow-defs-other (c5 .args .tree .now) (c .before .before .before .loop .j) (c5 .args .end)
-    (c .before .field .ensures) (c .if1 .taken))
-
-returns-2 : tie.Need-returns-2 Inv-loop μ-loop
-returns-2 c =
-    let c5 = c .before .before .before .before .before in
-    let c7 = c5 .before .before in
-    c5 .loop .inv _ (narrow-defs-not (c7 .args .tree .now) (c5 .loop .j) (c7 .args .end))
+    let c6 = c .before .before .before .before .before .before in
+    let c8 = c6 .before .before in
+    c6 .loop .inv _ (narrow-defs-not (c8 .args .tree .now) (c6 .loop .j) (c8 .args .end))
 
 loop-less : tie.Need-loop-less Inv-loop μ-loop
 loop-less c =
     let c5 = c .before .before .before .before .before in
     let c6 = c5 .before in
     let c8 = c6 .before .before in
-    omega (arith, c5 .loop-test .taken, skip-more (c8 .args .tree .now) (c6 .loop .j) (c8 .args .end) (c5 .loop-test .taken) (c .skip .ensures))
+    omega (
+      arith,
+      c5 .loop-test .taken,
+      skip-more (c8 .args .tree .now) (c6 .loop .j) (c8 .args .end) (c5 .loop-test .taken)
+          (c .before .before .before .before .skip .ensures),
+    )
 
 loop-again : tie.Need-loop-again Inv-loop μ-loop
 loop-again c =
@@ -44,11 +43,28 @@ loop-again c =
     let c6 = c5 .before in
     let c8 = c6 .before .before in
     λ r h. c6 .loop .inv r (narrow-defs-more (c8 .args .tree .now) (c6 .loop .j) (c8 .args .end) (c5 .loop-test .taken)
-    (c .before .before .before .before .field .ensures) (c .before .before .before .if1 .left) (c .before .before .field2 .ensures) (c .before .if2 .left)
-    (c .skip .ensures) h)
+    (c .before .before .before .field .ensures) (c .before .before .if1 .taken) (c .before .field2 .ensures) (c .if2 .left)
+    (c .before .before .before .before .skip .ensures) h)
 
-returns-3 : tie.Need-returns-3 Inv-loop μ-loop
-returns-3 c = c .before .loop .inv _ (narrow-defs-end (c .before .before .before .args .tree .now) (c .before .loop .j) (c .before .before .before .args .end)
+loop-less-2 : tie.Need-loop-less-2 Inv-loop μ-loop
+loop-less-2 c =
+    let c6 = c .before .before .before .before .before .before in
+    omega (
+      arith,
+      c .before .before .before .loop-test .taken,
+      skip-more (c6 .args .tree .now) (c .before .before .before .before .loop .j) (c6 .args .end)
+          (c .before .before .before .loop-test .taken) (c .before .before .skip .ensures),
+    )
+
+loop-again-2 : tie.Need-loop-again-2 Inv-loop μ-loop
+loop-again-2 c =
+    let c6 = c .before .before .before .before .before .before in
+    λ r h. c .before .before .before .before .loop .inv r (narrow-defs-other (c6 .args .tree .now) (c .before .before .before .before .loop .j) (c6 .args .end)
+    (c .before .before .before .loop-test .taken) (c .before .field .ensures) (c .if1 .left)
+    (c .before .before .skip .ensures) h)
+
+returns-2 : tie.Need-returns-2 Inv-loop μ-loop
+returns-2 c = c .before .loop .inv _ (narrow-defs-end (c .before .before .before .args .tree .now) (c .before .loop .j) (c .before .before .before .args .end)
     (c .loop-test .left))
 
 pub narrow-includes-spec : {M : Type 1} → statement M
@@ -59,10 +75,11 @@ narrow-includes-spec =
     μ-loop
     loop-holds
     (λ c κs. search needs)
+    (λ c κs. search needs)
+    (λ c κs. search needs)
     returns
-    (λ c κs. search needs)
-    returns-2
-    (λ c κs. search needs)
     loop-less
     loop-again
-    returns-3)
+    loop-less-2
+    loop-again-2
+    returns-2)

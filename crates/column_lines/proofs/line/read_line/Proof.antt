@@ -17,22 +17,18 @@ returns-3 : tie.Need-returns-3
 returns-3 c =
     let c5 = c .before .before .before .before .before in
     let c6 = c5 .before in
-    let c7 = c6 .before in
-    let c8 = c7 .before in
+    let c8 = c6 .before .before in
     let c10 = c8 .before .before in
-    let c12 = c10 .before .before in
     c .record-in .ensures
     ∙ rw (
-      c7 .read-field .ensures,
-      c6 .read-field2 .ensures,
-      c .before .before .before .position-in .ensures,
-      c5 .read-field3 .ensures,
-      c .before .before .before .before .read-field4 .ensures,
-      c .before .read-field5 .ensures,
+      c5 .read-field .ensures,
+      c .before .before .before .before .read-field2 .ensures,
+      c .before .before .before .read-position .ensures,
+      c .before .read-field3 .ensures,
       c .before .before .is-signed .ensures,
-      c7 .read-field .ensures,
+      c5 .read-field .ensures,
     )
-    (line-whole (c12 .args .line .now) (c10 .if1 .left) (c8 .if2 .left))
+    (line-whole (c10 .args .line .now) (c8 .if1 .left) (c6 .if2 .left))
 
 pub read-line-spec : {M : Type 1} → statement M
 read-line-spec =
@@ -41,8 +37,6 @@ read-line-spec =
     returns
     (λ c. search needs)
     returns-2
-    (λ c κs. search needs)
-    (λ c κs. search needs)
     (λ c κs. search needs)
     (λ c κs. search needs)
     (λ c κs. search needs)

@@ -19,7 +19,7 @@ returns-3 c =
     let c6 = c .before .before .before .before .before .before in
     other-position (c6 .args .error .number) (c6 .args .error .position) (c6 .args .error .kind) (c6 .args .error .value)
     (c .before .before .before .before .if1 .left) (c .before .before .if2 .left)
-    (c .before .known-position .ensures) (c .if3 .taken)
+    (c .before .in-place .ensures) (c .if3 .taken)
 
 returns-4 : tie.Need-returns-4
 returns-4 c =
@@ -27,7 +27,7 @@ returns-4 c =
     let c7 = c5 .before .before in
     other-token (c7 .args .error .number) (c7 .args .error .position) (c7 .args .error .kind) (c7 .args .error .value) (c5 .if1 .left)
     (c .before .before .before .if2 .left)
-    (c .before .before .known-position .ensures) (c .before .if3 .left) (c .known-token .ensures)
+    (c .before .before .in-place .ensures) (c .before .if3 .left) (c .known-token .ensures)
 
 pub known-other-spec : {M : Type 1} → statement M
 known-other-spec =

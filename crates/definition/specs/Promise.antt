@@ -1,0 +1,51 @@
+-- The promise of the compile call: 01's three demands in one claim about its reply and the words of the twelve areas at exit
+use Prim.Native.Nat.{ℕ}
+use mathlib.Core.Path.{_≡_}
+use mathlib.Core.List.{List, [], _∷_, map}
+use lib.ListN.{length}
+use Rattle.words.specs.declared.reply.Reply as struct
+use Rattle.words.specs.Reply.{areaTotals}
+use Rattle.definition.specs.Answer.{Answer, Delivery, Refusal, Reply, answer, replyOf, areasOf}
+use Rattle.definition.specs.Within.{Areas, Program, Log, logsOf, KeepsWithin}
+
+-- the areas by number; no area has number 0
+abbrev pub areas : (c k f m p t l u n b e o : List ℕ) → Areas
+areas c k f m p t l u n b e o = [] ∷ c ∷ k ∷ f ∷ m ∷ p ∷ t ∷ l ∷ u ∷ n ∷ b ∷ e ∷ o ∷ []
+
+abbrev pub lengthsOf : Areas → List ℕ
+lengthsOf m = map (λ (l : List ℕ). length l) m
+
+-- the reply's numbers
+abbrev pub saying : struct.Reply → Reply
+saying r = record {
+  number = r .number;
+  place = r .place;
+  totals = areaTotals (r .totals);
+  entryPoint = r .totals .«entry_point»;
+  globals = r .totals .«global_dependencies»;
+}
+
+-- the loops and the reads of `this` that the definition logs of a delivery
+abbrev pub logsIn : Answer → List Log
+logsIn (Delivery c) = logsOf (c .functions)
+logsIn (Refusal n p es) = []
+
+-- what the call answers to the words of a tree, with areas of some lengths
+abbrev pub answering : List ℕ → Areas → Answer
+answering tree before = answer tree (lengthsOf before)
+
+-- what is in the areas, beside the reply's totals, entry point and global dependencies
+abbrev pub programOf : Areas → struct.Reply → Program
+programOf m r = record {
+  areas = m;
+  totals = areaTotals (r .totals);
+  entryPoint = r .totals .«entry_point»;
+  globals = r .totals .«global_dependencies»;
+}
+
+pub record Compiles (tree : List ℕ) (before after : Areas) (r : struct.Reply) : Type 0 where
+  -- demands 1 and 2: the reply and every word lent are the definition's (program, then zeros; a refusal's errors, and zeros)
+  pub reply : saying r ≡ replyOf (answering tree before)
+  pub words : after ≡ areasOf (lengthsOf before) (answering tree before)
+  -- demand 3, of what is in the areas at exit; before a fresh call no function stands
+  pub within : r .number ≡ 0 → KeepsWithin (programOf after r) 0 (logsIn (answering tree before))
