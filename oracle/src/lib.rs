@@ -37,5 +37,6 @@ pub mod standing_calls;
 pub mod stored;
 pub mod strict;
 pub mod table;
+pub mod table_calls;
 pub mod tables;
 pub mod views;

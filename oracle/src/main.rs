@@ -33,6 +33,13 @@ oracle hostile [--ours] [--stack BYTES] [--size N]
 oracle convert [--seed S] [--count N] [--large] [--limits]
     the library's converters and shape check and the reading over N column files and N word lists,
     or over those at the limits
+oracle tables [--seed S] [--count N] [--limits]
+    the library's ways between constant tables and documents and the reading over N tables and N
+    documents, or over those of the most lines and one more
+oracle table-cases
+    writes the stored cases of the program `table_cases` anew
+oracle table-bench [--runs R]
+    the same ways beside plain Rust on 300,000 lines
 oracle bench [--runs R]
     the library's converters and shape check beside plain Rust on 1,000,000 records
 oracle speed [--shape NAME] [--runs R] [--longest SECONDS] [--small]
@@ -193,6 +200,48 @@ fn run_bench(_: &Arguments) -> ExitCode {
     unreachable!("`needs_library` holds it back");
 }
 
+#[cfg(feature = "link")]
+fn run_tables(arguments: &Arguments) -> ExitCode {
+    use oracle::table_calls::{compare, compare_limits};
+    let mut side = oracle::ours::Library;
+    let start = Instant::now();
+    let seen = if arguments.has("--limits") {
+        compare_limits(&mut side)
+    } else {
+        compare(&mut side, arguments.number("--seed", 1), arguments.number("--count", 1000))
+    };
+    seen.to_records.print("tables to records", "bytes");
+    seen.to_table.print("records to tables", "words");
+    println!("seconds {:.1}", start.elapsed().as_secs_f64());
+    let Some(first) = &seen.first else {
+        return ExitCode::SUCCESS;
+    };
+    println!("first difference: {first}");
+    ExitCode::FAILURE
+}
+
+#[cfg(not(feature = "link"))]
+fn run_tables(_: &Arguments) -> ExitCode {
+    unreachable!("`needs_library` holds it back");
+}
+
+#[cfg(feature = "link")]
+fn run_table_bench(arguments: &Arguments) -> ExitCode {
+    oracle::table_calls::bench(arguments.number("--runs", 15) as usize);
+    ExitCode::SUCCESS
+}
+
+#[cfg(not(feature = "link"))]
+fn run_table_bench(_: &Arguments) -> ExitCode {
+    unreachable!("`needs_library` holds it back");
+}
+
+fn run_table_cases(_: &Arguments) -> ExitCode {
+    let (given, wanted) = oracle::table_calls::stored();
+    let files = [("stdin", given), ("stdout", wanted)].map(|(name, text)| (name.to_string(), text.into_bytes()));
+    write_files(&Path::new(env!("CARGO_MANIFEST_DIR")).join("../crates/table_cases"), &BTreeMap::from(files))
+}
+
 fn run_speed(arguments: &Arguments) -> ExitCode {
     let (runs, longest) = (arguments.number("--runs", 15), arguments.number("--longest", 60));
     let sizes: &[usize] = if arguments.has("--small") { &speed::SMALL } else { &speed::SIZES };
@@ -268,7 +317,7 @@ const WRONGLY_CALLED: u8 = 2;
 /// A command, its flags, whether it takes files, and what it does.
 type Command = (&'static str, &'static [Flag], bool, fn(&Arguments) -> ExitCode);
 
-const COMMANDS: [Command; 13] = [
+const COMMANDS: [Command; 16] = [
     (
         "compare",
         &[
@@ -287,6 +336,9 @@ const COMMANDS: [Command; 13] = [
     ("listing", &[Switch("--program")], false, run_listing),
     ("hostile", &[Switch("--ours"), Number("--stack"), Number("--size")], false, run_hostile),
     ("convert", &[Number("--seed"), Number("--count"), Switch("--large"), Switch("--limits")], false, run_convert),
+    ("tables", &[Number("--seed"), Number("--count"), Switch("--limits")], false, run_tables),
+    ("table-cases", &[], false, run_table_cases),
+    ("table-bench", &[Number("--runs")], false, run_table_bench),
     ("bench", &[Number("--runs")], false, run_bench),
     ("speed", &[Word("--shape"), Number("--runs"), Number("--longest"), Switch("--small")], false, run_speed),
     ("shapes", &[], false, run_shapes),
@@ -300,7 +352,7 @@ const COMMANDS: [Command; 13] = [
 fn needs_library(command: &str, arguments: &Arguments) -> bool {
     match command {
         "compare" | "hostile" => arguments.has("--ours"),
-        "convert" | "bench" | "speed" => true,
+        "convert" | "bench" | "speed" | "tables" | "table-bench" => true,
         "once" => !arguments.has("--original"),
         _ => false,
     }

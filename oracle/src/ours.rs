@@ -4,6 +4,7 @@
 use crate::areas::Lent;
 use crate::compare::Side;
 use crate::convert::Converters;
+use crate::table_calls::TableCalls;
 use crate::views::Answered;
 use clover_back_end::{calls, Converted};
 
@@ -35,5 +36,16 @@ impl Converters for Library {
 
     fn to_columns(&mut self, words: &[u64], out: &mut [u8]) -> [u64; 3] {
         plain(calls::records_to_columns(words, out))
+    }
+}
+
+impl TableCalls for Library {
+    fn to_records(&mut self, table: &[u8], file: u64, out: &mut [u64]) -> [u64; 3] {
+        plain(calls::table_to_records(table, file, out))
+    }
+
+    fn to_table(&mut self, words: &[u64], out: &mut [u8]) -> [u64; 4] {
+        let tabled = calls::records_to_table(words, out);
+        [tabled.number, tabled.place as u64, tabled.total as u64, tabled.file]
     }
 }

@@ -120,7 +120,7 @@ pub fn check(words: &[u64]) -> Result<(), Refusal> {
 }
 
 /// A right-justified number.
-fn number(field: &[u8], signed: bool) -> Option<u64> {
+pub fn number(field: &[u8], signed: bool) -> Option<u64> {
     let blanks = field.iter().position(|&byte| byte != b' ')?;
     let (negative, digits) = match &field[blanks..] {
         [b'-', digits @ ..] if signed => (true, digits),
@@ -157,7 +157,7 @@ fn read_line(line: &[u8; LINE_BYTES]) -> Option<Record> {
     Some([kind, number(span, false)?, row << 32 | column, number(value, kind == kind::INTEGER)?])
 }
 
-fn write_number(field: &mut [u8], number: u64, negative: bool) {
+pub fn write_number(field: &mut [u8], number: u64, negative: bool) {
     let mut rest = number;
     let mut at = field.len();
     loop {
@@ -190,7 +190,7 @@ fn write_line(line: &mut [u8; LINE_BYTES], [kind, span, position, value]: Record
     newline[0] = b'\n';
 }
 
-fn refused<T: Default + Copy>(out: &mut [T], (row, place): Refusal) -> [u64; 3] {
+pub fn refused<T: Default + Copy>(out: &mut [T], (row, place): Refusal) -> [u64; 3] {
     out.fill(T::default());
     [row, place, 0]
 }

@@ -15,7 +15,7 @@
 //! ```
 
 use crate::areas::AREAS;
-use crate::reply::{Answer, Checked, Converted, Reply, Version};
+use crate::reply::{Answer, Checked, Converted, Reply, Tabled, Version};
 use std::sync::Once;
 
 /// The layout that this crate was written for. The first call holds the library's to it.
@@ -26,6 +26,8 @@ extern "C" {
     fn clover_check(tree: *const u64, words: usize) -> Checked;
     fn clover_columns_to_records(file: *const u8, bytes: usize, out: *mut u64, words: usize) -> Converted;
     fn clover_records_to_columns(tree: *const u64, words: usize, out: *mut u8, bytes: usize) -> Converted;
+    fn clover_table_to_records(table: *const u8, bytes: usize, file: u64, out: *mut u64, words: usize) -> Converted;
+    fn clover_records_to_table(tree: *const u64, words: usize, out: *mut u8, bytes: usize) -> Tabled;
 }
 
 #[rustfmt::skip]
@@ -85,6 +87,21 @@ pub fn records_to_columns(tree: &[u64], out: &mut [u8]) -> Converted {
     hold_to_layout();
     // Both slices outlive the call, and the output is another than the tree.
     unsafe { clover_records_to_columns(tree.as_ptr(), tree.len(), out.as_mut_ptr(), out.len()) }
+}
+
+/// A constant table to the records of its document, or row 1, row 2, row 3 with place 0 for a file number that is no text, or
+/// row 9 with place 0 where the output is too short.
+pub fn table_to_records(table: &[u8], file: u64, out: &mut [u64]) -> Converted {
+    hold_to_layout();
+    // Both slices outlive the call, and the output is another than the table.
+    unsafe { clover_table_to_records(table.as_ptr(), table.len(), file, out.as_mut_ptr(), out.len()) }
+}
+
+/// The records of a table's document to the table, or rows 2 to 4, row 10, or row 9 with place 0 where the output is too short.
+pub fn records_to_table(tree: &[u64], out: &mut [u8]) -> Tabled {
+    hold_to_layout();
+    // Both slices outlive the call, and the output is another than the tree.
+    unsafe { clover_records_to_table(tree.as_ptr(), tree.len(), out.as_mut_ptr(), out.len()) }
 }
 
 /// Compiles a bundle into areas in the order of their numbers. A tail shorter than an entry is zeroed.

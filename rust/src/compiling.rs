@@ -8,6 +8,8 @@ use crate::fault::ShapeFault;
 use crate::program::Program;
 use crate::records::RECORD_WORDS;
 use crate::refusal::Refusal;
+use crate::table::TABLE_LINE_BYTES;
+use crate::texts::Text;
 
 /// The refusal with the rule that a record breaks.
 fn with_reason(refusal: Refusal, tree: &[u64]) -> Refusal {
@@ -41,6 +43,33 @@ pub fn records_to_columns(tree: &[u64]) -> Result<Vec<u8>, Refusal> {
     let records = converted.map_err(|refusal| with_reason(refusal, tree))?;
     out.truncate(records * LINE_BYTES);
     Ok(out)
+}
+
+/// A constant table to the records of its document, which has this file; or row 1, row 2, or row 3 for a file that is no text.
+///
+/// ```
+/// use clover_back_end::{records_to_table, table_to_records, Text};
+///
+/// let table = format!("{:>8}{:>4}{:>21}\n", 3, 2, -7);
+/// let records = table_to_records(table.as_bytes(), Text::from_number(5))?;
+/// assert_eq!(records[..8], [1, 4, 0, 5, 10, 3, 0, 0]);
+/// assert_eq!(records_to_table(&records)?, (table.into_bytes(), Text::from_number(5)));
+/// # Ok::<(), clover_back_end::Refusal>(())
+/// ```
+pub fn table_to_records(table: &[u8], file: Text) -> Result<Vec<u64>, Refusal> {
+    let mut out = vec![0; (table.len() / TABLE_LINE_BYTES * 3 + 1) * RECORD_WORDS];
+    let records = calls::table_to_records(table, file.number(), &mut out).records()?;
+    out.truncate(records * RECORD_WORDS);
+    Ok(out)
+}
+
+/// The records of a table's document to the table and the document's file, or rows 2 to 4, or row 10.
+pub fn records_to_table(tree: &[u64]) -> Result<(Vec<u8>, Text), Refusal> {
+    let mut out = vec![0; tree.len() / (3 * RECORD_WORDS) * TABLE_LINE_BYTES];
+    let tabled = calls::records_to_table(tree, &mut out).lines();
+    let (lines, file) = tabled.map_err(|refusal| with_reason(refusal, tree))?;
+    out.truncate(lines * TABLE_LINE_BYTES);
+    Ok((out, file))
 }
 
 impl Areas {

@@ -57,12 +57,13 @@ mod program;
 pub mod records;
 mod refusal;
 mod reply;
+mod table;
 mod texts;
 
 pub use areas::{Area, Areas, AREAS};
 pub use column_file::{LineFault, LINE_BYTES};
 #[cfg(feature = "link")]
-pub use compiling::{check, columns_to_records, compile, records_to_columns};
+pub use compiling::{check, columns_to_records, compile, records_to_columns, records_to_table, table_to_records};
 pub use constant::Constant;
 pub use fault::ShapeFault;
 pub use instruction::{Instruction, OpCode, Operand, Operation};
@@ -70,5 +71,6 @@ pub use kind::{Infix, Kind, Prefix};
 pub use position::Position;
 pub use program::{ContextLocal, Function, Method, Model, Program, PublicName, Totals};
 pub use refusal::{Error, ErrorKind, Refusal, Token};
-pub use reply::{Answer, Checked, Converted, Reply, Version};
+pub use reply::{Answer, Checked, Converted, Reply, Tabled, Version};
+pub use table::TABLE_LINE_BYTES;
 pub use texts::{Text, Texts, TextsError};

@@ -65,6 +65,11 @@ pub enum Refusal {
     },
     /// Row 9, place 0: a converter's output has no room.
     OutputShort,
+    /// Row 10: the records are no constant table's.
+    NotATable {
+        /// The first record up to which no table agrees.
+        record: u64,
+    },
 }
 
 impl Refusal {
@@ -82,6 +87,7 @@ impl Refusal {
             7 => Refusal::BookFaulty { file: Text::from_number(place), errors: listed.map(Error::of).collect() },
             8 => Refusal::Ring { files: listed.map(|entry| Text::from_number(entry[3])).collect() },
             9 => Area::from_number(place).map_or(Refusal::OutputShort, |area| Refusal::AreaFull { area }),
+            10 => Refusal::NotATable { record: place },
             other => unreachable!("no reply of this layout has the number {other}"),
         })
     }
@@ -98,6 +104,7 @@ impl Refusal {
             Refusal::BookFaulty { .. } => 7,
             Refusal::Ring { .. } => 8,
             Refusal::AreaFull { .. } | Refusal::OutputShort => 9,
+            Refusal::NotATable { .. } => 10,
         }
     }
 
@@ -106,7 +113,10 @@ impl Refusal {
         match self {
             Refusal::BadLength | Refusal::OutputShort => 0,
             Refusal::BadLine { line, .. } => *line,
-            Refusal::BadShape { record, .. } | Refusal::TooDeep { record } | Refusal::BookTwice { record } => *record,
+            Refusal::BadShape { record, .. }
+            | Refusal::TooDeep { record }
+            | Refusal::BookTwice { record }
+            | Refusal::NotATable { record } => *record,
             Refusal::BookMissing { file } | Refusal::BookFaulty { file, .. } => file.number(),
             Refusal::Ring { files } => files.len() as u64,
             Refusal::AreaFull { area } => area.number(),
@@ -125,15 +135,17 @@ impl Refusal {
             Refusal::BookFaulty { .. } => "book faulty",
             Refusal::Ring { .. } => "ring",
             Refusal::AreaFull { .. } | Refusal::OutputShort => "area full",
+            Refusal::NotATable { .. } => "not a table",
         }
     }
 
     /// The record that is refused, for rows that name one.
     pub fn record(&self) -> Option<u64> {
         match self {
-            Refusal::BadShape { record, .. } | Refusal::TooDeep { record } | Refusal::BookTwice { record } => {
-                Some(*record)
-            }
+            Refusal::BadShape { record, .. }
+            | Refusal::TooDeep { record }
+            | Refusal::BookTwice { record }
+            | Refusal::NotATable { record } => Some(*record),
             _ => None,
         }
     }
@@ -170,6 +182,7 @@ impl Refusal {
             }
             Refusal::AreaFull { area } => format!("{word}: area {}, {area}, has no room", area.number()),
             Refusal::OutputShort => format!("{word}: the output is too short"),
+            Refusal::NotATable { record } => format!("{word}: up to record {record} no table agrees"),
         }
     }
 }

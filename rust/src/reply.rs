@@ -3,6 +3,7 @@
 use crate::areas::{Area, AREAS};
 use crate::program::{Program, Totals};
 use crate::refusal::Refusal;
+use crate::texts::Text;
 
 /// Which library is linked.
 #[repr(C)]
@@ -47,6 +48,28 @@ impl Converted {
     /// How many records stand in the output.
     pub fn records(self) -> Result<usize, Refusal> {
         Refusal::of(self.number, self.place as u64, &[]).map_or(Ok(self.total), Err)
+    }
+}
+
+/// Of the way from a document to its constant table.
+#[repr(C)]
+#[derive(Clone, Copy, Debug, Default, PartialEq, Eq)]
+pub struct Tabled {
+    /// The refusal's row, or 0.
+    pub number: u64,
+    /// The refusal's place, or 0.
+    pub place: usize,
+    /// Lines written; 0 after a refusal.
+    pub total: usize,
+    /// The document's file number; 0 after a refusal.
+    pub file: u64,
+}
+
+impl Tabled {
+    /// How many lines stand in the output, and the document's file.
+    pub fn lines(self) -> Result<(usize, Text), Refusal> {
+        let table = (self.total, Text::from_number(self.file));
+        Refusal::of(self.number, self.place as u64, &[]).map_or(Ok(table), Err)
     }
 }
 

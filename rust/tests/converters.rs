@@ -1,8 +1,8 @@
-//! The converters and the shape check of the linked library, and why they refuse.
+//! The converters, the ways of constant tables and the shape check of the linked library, and why they refuse.
 #![cfg(feature = "link")]
 
 use clover_back_end::records::{Records, RECORD_WORDS};
-use clover_back_end::{check, columns_to_records, records_to_columns};
+use clover_back_end::{check, columns_to_records, records_to_columns, records_to_table, table_to_records};
 use clover_back_end::{LineFault, Position, Refusal, ShapeFault, Text, LINE_BYTES};
 use std::path::Path;
 
@@ -82,4 +82,33 @@ fn every_refused_line_has_a_reason() {
         }
     }
     assert_eq!(columns_to_records(&good).expect("a column file").len() / RECORD_WORDS, good.len() / LINE_BYTES);
+}
+
+#[test]
+fn a_table_comes_back_with_its_file() {
+    let line = |text: u64, kind: u64, value: &str| format!("{text:>8}{kind:>4}{value:>21}\n");
+    let table = [line(3, 2, "-9223372036854775808"), line(4, 3, "4608758678669597082")].concat();
+    let file = Text::from_number(5);
+    let records = table_to_records(table.as_bytes(), file).expect("on its form");
+    let integer = [33, 1, 0, 1 << 63];
+    assert_eq!(records[..4], [1, 7, 0, 5]);
+    assert_eq!(records[12..16], integer);
+    assert_eq!(records[24..], [34, 1, 0, 1.35f64.to_bits()]);
+    assert_eq!(records_to_table(&records), Ok((table.clone().into_bytes(), file)));
+    assert_eq!(table_to_records(b"", file), Ok(vec![1, 1, 0, 5]));
+    assert_eq!(
+        table_to_records(&table.as_bytes()[1..], file).map_err(|refusal| (refusal.row(), refusal.place())),
+        Err((1, 1))
+    );
+    let no_text = table_to_records(b"", Text::from_number(0));
+    assert_eq!(no_text.map_err(|refusal| (refusal.row(), refusal.place())), Err((3, 0)));
+}
+
+#[test]
+fn other_documents_are_no_tables() {
+    let refused = |words: &[u64]| records_to_table(words).map_err(|refusal| (refusal.row(), refusal.place()));
+    assert_eq!(refused(&[1, 2, 0, 5, 10, 1, 0, 0]), Err((10, 0)));
+    assert_eq!(refused(&[1, 1, 0, 5, 1, 1, 0, 6]), Err((10, 1)));
+    let refusal = records_to_table(&[1, 2, 0, 5, 10, 1, 0, 0]).expect_err("no table");
+    assert_eq!(refusal.to_string(), "not a table: up to record 0 no table agrees");
 }

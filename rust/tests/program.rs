@@ -128,6 +128,20 @@ fn a_refused_line_is_shown() {
     assert!(said.contains(example.lines().next().expect("a line")), "{said}");
 }
 
+/// Constant table, column file, table again.
+#[test]
+fn tables_come_back() {
+    let folder = Folder::new("tables");
+    let (table, columns) = (folder.0.join("factors.table"), folder.0.join("factors.col"));
+    let [table_name, columns_name] = [&table, &columns].map(|path| path.to_str().expect("a plain name"));
+    let lines = format!("{:>8}{:>4}{:>21}\n", 3, 3, 1.35f64.to_bits()).repeat(2);
+    std::fs::write(&table, &lines).expect("a file");
+    assert_eq!(run(&["convert", table_name]).status, 2, "the file number is lacking");
+    assert_eq!(run(&["convert", table_name, "--file", "5", "--output", columns_name]).status, 0);
+    assert_eq!(run(&["convert", columns_name, "--to", "table"]).output, lines.as_bytes());
+    assert_eq!(run(&["convert", "examples/snow.col", "--to", "table"]).status, 1);
+}
+
 /// Column file, words, column file again.
 #[test]
 fn files_come_back() {

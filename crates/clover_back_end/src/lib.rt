@@ -4,6 +4,9 @@ use books::compile;
 use column_files::Converted;
 use column_files::columns_to_records;
 use column_files::records_to_columns;
+use constant_tables::Tabled;
+use constant_tables::records_to_table;
+use constant_tables::table_to_records;
 use tree::Shape;
 use tree::check;
 use words::reply::Reply;
@@ -12,6 +15,7 @@ ghost use mathlib.Core.Path.{_≡_};
 ghost use lib.ListN.{length};
 ghost use Rattle.tree.specs.Check.{shapeOf};
 ghost use Rattle.column_files.specs.Convert.{columnsToRecords, recordsToColumns, Converts};
+ghost use Rattle.constant_tables.specs.Convert.{tableToRecords, recordsToTable, Tables};
 ghost use Rattle.clover_back_end.specs.Refusals.{refusalOf};
 ghost use Rattle.clover_back_end.specs.Versions.{thisVersion};
 
@@ -74,6 +78,22 @@ pub extern "C" fn clover_records_to_columns(tree: &[u64], out: &mut [u8]) -> Con
     ensures { λ r. ⌜ Converts (recordsToColumns (now (tree .entry)) (length (now (out .entry)))) (now (out .exit)) r ⌝ }
 {
     records_to_columns(tree, out)
+}
+
+// A constant table and a file number to the records of its document.
+#[no_mangle]
+pub extern "C" fn clover_table_to_records(table: &[u8], file: u64, out: &mut [u64]) -> Converted
+    ensures { λ r. ⌜ Converts (tableToRecords (now (table .entry)) file (length (now (out .entry)))) (now (out .exit)) r ⌝ }
+{
+    table_to_records(table, file, out)
+}
+
+// The records of a table's document to the table.
+#[no_mangle]
+pub extern "C" fn clover_records_to_table(tree: &[u64], out: &mut [u8]) -> Tabled
+    ensures { λ r. ⌜ Tables (recordsToTable (now (tree .entry)) (length (now (out .entry)))) (now (out .exit)) r ⌝ }
+{
+    records_to_table(tree, out)
 }
 
 // The compile call.

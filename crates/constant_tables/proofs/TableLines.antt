@@ -271,7 +271,8 @@ module _ (e : Entry) (g : Good e) where
   unfolding entryLine
   text-read =
       let t = g .text .limit in
-      ap (readNumeral false) (first-field n0 _ 8 l0) ∙ read-written 8 false (e .text) (omega (arith, t)) (natural-fits 8 (e .text) (omega arith) (omega (arith, t)))
+      ap (readNumeral false) (first-field n0 _ 8 l0)
+      ∙ read-written 8 false (e .text) (omega (arith, t)) (natural-fits 8 (e .text) (omega arith) (omega (arith, t)))
 
   kind-read : tableKindIn (entryLine e) ≡ Word (e .kind)
   unfolding entryLine

@@ -41,9 +41,9 @@ loop-again c =
         c12 .pre,
       ))
           (good-is (c12 .args .table .now) (c9 .loop .i) (c7 .line-at .ensures) (c5 .line .given .1)),
-      begins-next (c12 .args .table .now) (c12 .args .out .now) (c9 .loop .out) _ (c9 .loop .i) (omega (arith, c8 .loop-test .taken, c12 .pre)) (c9 .loop .inv .1)
-          (c9 .loop .inv .3)
-          (c7 .line-at .ensures) (c5 .line .given .1) (c .before .before .write-definition .ensures),
+      begins-next (c12 .args .table .now) (c12 .args .out .now) (c9 .loop .out) _ (c9 .loop .i)
+          (omega (arith, c8 .loop-test .taken, c12 .pre)) (c9 .loop .inv .1) (c9 .loop .inv .3) (c7 .line-at .ensures) (c5 .line .given .1)
+          (c .before .before .write-definition .ensures),
       omega (arith, c8 .loop-test .taken, c12 .pre),
       omega (arith, c .before .before .write-definition .kept, c9 .loop .inv .3),
     )

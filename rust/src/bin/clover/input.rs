@@ -1,20 +1,25 @@
-//! Reads a bundle, as a column file or as words, or a program by its listing, with the texts beside it.
+//! Reads a bundle, as a column file, as words or as a constant table, or a program by its listing, with the texts beside it.
 
 use crate::arguments::{Arguments, Choice, Failure};
 use crate::listing::Listing;
-use clover_back_end::{columns_to_records, Refusal, Texts, LINE_BYTES};
+use clover_back_end::{columns_to_records, table_to_records, Refusal, Text, Texts, LINE_BYTES, TABLE_LINE_BYTES};
 use std::io::Read;
 use std::path::{Path, PathBuf};
 
 /// Forms of a bundle, and of a program.
-pub const FORMS: [&str; 3] = ["columns", "words", "listing"];
+pub const FORMS: [&str; 4] = ["columns", "words", "listing", "table"];
 const LISTING: usize = 2;
+const TABLE: usize = 3;
 /// Bytes of a line of a listing.
 const LISTING_LINE_BYTES: usize = 74;
 
 /// Options of every command that reads a bundle.
 pub const CHOICES: &[Choice] = &[
-    Choice { name: "--from", value: Some("FORM"), about: "`columns`, `words` or `listing`; else the first line tells" },
+    Choice {
+        name: "--from",
+        value: Some("FORM"),
+        about: "`columns`, `words`, `listing` or `table`; else the first line tells",
+    },
     Choice {
         name: "--texts",
         value: Some("FILE"),
@@ -27,6 +32,8 @@ pub const CHOICES: &[Choice] = &[
 pub enum Content {
     Columns(Vec<u8>),
     Words(Vec<u64>),
+    /// A constant table, which has no file number of its own.
+    Table(Vec<u8>, Text),
     /// A program, and no bundle.
     Listing(Box<Listing>),
 }
@@ -47,6 +54,7 @@ impl Input {
         let form = arguments.one_of("--from", &FORMS)?;
         let content = match form.unwrap_or_else(|| form_of(&bytes)) {
             0 => Content::Columns(bytes),
+            TABLE => Content::Table(bytes, table_file(arguments, name)?),
             LISTING => Content::Listing(Box::new(listing(name, &bytes)?)),
             _ => Content::Words(words(name, &bytes)?),
         };
@@ -68,6 +76,7 @@ impl Input {
         match &self.content {
             Content::Columns(file) => columns_to_records(file),
             Content::Words(words) => Ok(words.clone()),
+            Content::Table(table, file) => table_to_records(table, *file),
             Content::Listing(_) => Ok(Vec::new()),
         }
     }
@@ -93,7 +102,7 @@ fn bytes(name: &str) -> Result<Vec<u8>, Failure> {
     Ok(out)
 }
 
-/// By its first line: lines of a column file have one length, those of a listing another, and words are
+/// By its first line: lines of a column file have one length, those of a listing and of a table have others, and words are
 /// digits and blanks.
 fn form_of(bytes: &[u8]) -> usize {
     let first = bytes.iter().position(|&byte| byte == b'\n').unwrap_or(bytes.len()) + 1;
@@ -101,7 +110,22 @@ fn form_of(bytes: &[u8]) -> usize {
     if first == LISTING_LINE_BYTES {
         return LISTING;
     }
+    if first == TABLE_LINE_BYTES {
+        return TABLE;
+    }
     usize::from(first != LINE_BYTES && plain && !bytes.is_empty())
+}
+
+/// The file number of a table's document.
+fn table_file(arguments: &Arguments, name: &str) -> Result<Text, Failure> {
+    let Some(number) = arguments.value("--file") else {
+        return Err(Failure::new(format!(
+            "{name} is a constant table: `clover convert --file NUMBER` makes a bundle of it"
+        )));
+    };
+    let number =
+        number.parse().map_err(|_| Failure::new(format!("`--file` is followed by a number, and not by `{number}`")))?;
+    Ok(Text::from_number(number))
 }
 
 fn listing(name: &str, bytes: &[u8]) -> Result<Listing, Failure> {
@@ -137,6 +161,8 @@ mod tests {
         assert_eq!(form_of(line.as_bytes()), 0);
         let listed = format!("{:>width$}\n", "1", width = LISTING_LINE_BYTES - 1);
         assert_eq!(form_of(listed.as_bytes()), LISTING);
+        let tabled = format!("{:>width$}\n", "1", width = TABLE_LINE_BYTES - 1);
+        assert_eq!(form_of(tabled.as_bytes()), TABLE);
         assert_eq!(form_of(b"1 1 0 2\n"), 1);
         assert_eq!(form_of(format!("{:>21}\n", 1).as_bytes()), 1);
         assert_eq!(form_of(b""), 0);

@@ -10,9 +10,9 @@ use clover_back_end::{Error, ErrorKind, Kind, Position, Refusal, Text, Texts};
 /// Of rows 1 to 4 while a file is read.
 pub fn input(refusal: &Refusal, input: &Input) -> String {
     let line = match (refusal, &input.content) {
-        (Refusal::BadLine { line, .. }, Content::Columns(file)) => raw_line(file, *line),
+        (Refusal::BadLine { line, .. }, Content::Columns(file) | Content::Table(file, _)) => raw_line(file, *line),
         (_, Content::Columns(file)) => refusal.record().and_then(|record| raw_line(file, record + 1)),
-        (_, Content::Words(_) | Content::Listing(_)) => None,
+        (_, Content::Words(_) | Content::Table(..) | Content::Listing(_)) => None,
     };
     format!("{}{}", head(&input.name, refusal, &input.texts), line.unwrap_or_default())
 }
