@@ -10,7 +10,7 @@ use oracle::hostile::Narrow;
 use oracle::real::Prepared;
 use oracle::records::records;
 use oracle::table::Column;
-use oracle::{clock, columns, convert, examples, hostile, listing, sample, speed, table};
+use oracle::{clock, columns, convert, error_cases, examples, hostile, listing, sample, speed, table};
 use std::collections::BTreeMap;
 use std::io::{Read, Write};
 use std::path::Path;
@@ -51,6 +51,8 @@ oracle once --shape NAME --records N [--original]
     one call of a shape, for a profile (see `counts`)
 oracle sample
     writes the files of sample/ anew
+oracle errors
+    writes the stored cases of ../crates/error_cases anew
 oracle examples
     writes the column files, listings and tables of texts of ../examples anew, from the sources there
 oracle flatten ROOT.clover [OTHER.clover ..]
@@ -287,6 +289,10 @@ fn run_sample(_: &Arguments) -> ExitCode {
     write_files(&Path::new(env!("CARGO_MANIFEST_DIR")).join("sample"), &sample::files())
 }
 
+fn run_errors(_: &Arguments) -> ExitCode {
+    write_files(&Path::new(env!("CARGO_MANIFEST_DIR")).join("../crates/error_cases"), &error_cases::files())
+}
+
 fn run_examples(_: &Arguments) -> ExitCode {
     write_files(&examples::folder(), &examples::files())
 }
@@ -311,7 +317,7 @@ const WRONGLY_CALLED: u8 = 2;
 /// A command, its flags, whether it takes files, and what it does.
 type Command = (&'static str, &'static [Flag], bool, fn(&Arguments) -> ExitCode);
 
-const COMMANDS: [Command; 15] = [
+const COMMANDS: [Command; 16] = [
     (
         "compare",
         &[
@@ -338,6 +344,7 @@ const COMMANDS: [Command; 15] = [
     ("shapes", &[], false, run_shapes),
     ("once", &[Word("--shape"), Number("--records"), Switch("--original")], false, run_once),
     ("sample", &[], false, run_sample),
+    ("errors", &[], false, run_errors),
     ("examples", &[], false, run_examples),
     ("flatten", &[], true, run_flatten),
 ];

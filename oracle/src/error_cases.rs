@@ -1,0 +1,62 @@
+//! The stored cases of `crates/error_cases`: inputs from a seed, answered by the reading in `error_words`.
+
+use crate::error_words::{case, Case};
+use std::collections::BTreeMap;
+use std::fmt::Write;
+
+const SEED: u64 = 7;
+/// The program reads no more than 65,536 bytes, and a case of no more than these words and bytes.
+const MOST_INPUT: usize = 58_000;
+const MOST_PART: usize = 300;
+const MOST_ROOM: usize = 1900;
+
+/// A line buffer one byte short, longer, of any length, or exactly long enough.
+fn buffer_length(case: &Case, index: u64) -> usize {
+    let long = Case { out_len: 1 << 16, ..case.clone() };
+    let needed = long.answer().0.total as usize;
+    match index % 5 {
+        0 => needed.saturating_sub(1),
+        1 => needed + 7,
+        2 => index as usize % 50,
+        _ => needed,
+    }
+}
+
+fn line(case: &Case) -> String {
+    let counts = [case.errors.len(), case.table.len(), case.bytes.len()].map(|count| count as u64);
+    let mut words = counts.to_vec();
+    words.extend([case.file, case.out_len as u64]);
+    words.extend(&case.errors);
+    words.extend(&case.table);
+    words.extend(case.bytes.iter().map(|&byte| byte as u64));
+    words.iter().map(u64::to_string).collect::<Vec<_>>().join(" ") + "\n"
+}
+
+/// What the program writes of a case.
+fn answer(case: &Case) -> String {
+    let (reply, out) = case.answer();
+    let (lines, rest) = out.split_at(reply.total as usize);
+    assert!(rest.iter().all(|&byte| byte == 0));
+    let mut text = String::new();
+    writeln!(text, "{} {} {}", reply.number, reply.place, reply.total).expect("a string takes it");
+    text + std::str::from_utf8(lines).expect("lines are ASCII") + "zeros, kept, kept\n"
+}
+
+/// The program's `stdin` and `stdout`.
+pub fn files() -> BTreeMap<String, Vec<u8>> {
+    let (mut input, mut output) = (String::new(), String::new());
+    for index in 1.. {
+        if input.len() >= MOST_INPUT {
+            break;
+        }
+        let mut case = case(SEED, index - 1);
+        case.out_len = buffer_length(&case, index);
+        let parts = [case.errors.len(), case.table.len(), case.bytes.len()];
+        if case.out_len > MOST_ROOM || parts.iter().any(|&part| part > MOST_PART) {
+            continue;
+        }
+        input += &line(&case);
+        output += &answer(&case);
+    }
+    BTreeMap::from([("stdin".to_string(), input.into_bytes()), ("stdout".to_string(), output.into_bytes())])
+}
