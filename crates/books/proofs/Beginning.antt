@@ -24,7 +24,7 @@ use Rattle.building.specs.Held.{Filled, Marks, unmarked, Sized}
 use Rattle.building.proofs.Filling.{over-fits, over-here, over-stays, drop-zeros}
 use Rattle.building.proofs.Notes.{over-longer}
 use Rattle.books.specs.Sets.{setSize, SetIs, Ascends, Below}
-use Rattle.books.specs.Solving.{Bundle, booksOf, TakesBooks}
+use Rattle.books.specs.Solving.{Bundle, waiting, TakesBooks}
 use Rattle.building.proofs.ContextLaws.{Grown, grown, over, took-law, took-full}
 use Rattle.documents.specs.declared.book.Book as struct
 use Rattle.documents.specs.Documents.{Resting}
@@ -32,6 +32,7 @@ use Rattle.books.specs.Driving.{Zero, begunBook, FirstConstants, Accepte
 use Rattle.documents.proofs.Calm.{Calms}
 use Rattle.books.proofs.Steadfast.{drive-longer}
 use Rattle.books.proofs.BundleRange.{fine-limit}
+use Rattle.books.proofs.BookWays.{taken-wait}
 use Rattle.books.proofs.StandsLaws.{set-empty, needed-ascends, needed-below}
 
 -- an area of zeros has no entries
@@ -162,11 +163,11 @@ module _ {tree set : List ℕ} {c k f m p t l u n b e o : List ℕ} {x r : Taken
         go (yes h) = C .fits (zeros .constants) h .1
         go (no h) = absurd (omega (arith, C .over (zeros .constants) (omega arith), no-mark z))
 
-    books-there : r .full ≡ 0 → (r ≡ taken 0 (length numbers)) × (o₁ ≡ booksOf (root ∷ others) [] numbers (drop (length numbers) o))
+    books-there : r .full ≡ 0 → (r ≡ taken 0 (length numbers)) × (o₁ ≡ waiting (root ∷ others) numbers ++ drop (length numbers) o)
     books-there z = go (decLe (length numbers) (entriesIn 1 (length o)))
       where
-        go : Dec (length numbers ≤ entriesIn 1 (length o)) → (r ≡ taken 0 (length numbers)) × (o₁ ≡ booksOf (root ∷ others) [] numbers (drop (length
-            numbers) o))
+        go : Dec (length numbers ≤ entriesIn 1 (length o)) → (r ≡ taken 0 (length numbers))
+            × (o₁ ≡ waiting (root ∷ others) numbers ++ drop (length numbers) o)
         go (yes h) =
             B .fits (root ∷ others) numbers (A .bundle) (needed-ascends root others) (needed-below root others (A .bundle .numbers)) (A .chosen) (no-mark z) h
         go (no h) = absurd (omega (
@@ -233,7 +234,9 @@ module _ {tree set : List ℕ} {c k f m p t l u n b e o : List ℕ} {x r : Taken
         bundle = A .bundle;
         limit = fine-limit tree (A .fine);
         there = A .there;
-        words = books-there z .1;
+        words = waiting (root ∷ others) numbers;
+        area = books-there z .1;
+        waits = taken-wait _ (A .bundle) (fine-limit tree (A .fine)) numbers (A .there);
         held = rw empty (set-empty (length set));
         room = rw (empty, length-replicate {A = ℕ} (length set) 0) (A .room);
       };

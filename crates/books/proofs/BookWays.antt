@@ -12,10 +12,9 @@ use mathlib.Core.List.{List, [], _∷_, _++_, append-assoc}
 use lib.ListN.{length, getD, set as set′, take, drop, length-set, length-append, take-append-drop}
 use lib.Seq.{set-split, take-suc-set, drop-set-lt, set-at, getD-at}
 use lib.Dec.{eqb}
-use lib.Pow.{high, low}
 use borrow.Author.Tests.{eq-eqb, ne-eqb, lt-ltb, le-ltb, eqb-true}
 use Rattle.words.specs.Ast.{Document}
-use Rattle.words.specs.Record.{kindAt, valueAt}
+use Rattle.words.specs.Record.{kindAt, valueAt, mostRecords}
 use Rattle.words.specs.Areas.{entriesIn, entryField, booksArea, Patched}
 use Rattle.tree.specs.At.{RunAt, runSize, DocumentAt, sizeDoc}
 use Rattle.definition.specs.DependencySolver.{dependencies, dependenciesOf, findDocument, missing, missingBy, ready, allIn, without}
@@ -24,10 +23,10 @@ use Rattle.building.specs.Taking.{Took, taken}
 use Rattle.building.proofs.Filling.{room-fits}
 use Rattle.bodies.specs.Meets.{skipC}
 use Rattle.books.specs.Sets.{setSize, bitOf, allBits, SetIs, NextIn, Below, Ascends}
-use Rattle.books.specs.Solving.{Bundle, placeOf, FindsDocument, bookUnit, bookWord, waiting, booksOf, TakesBooks, AllIncluded, Stands, Ready}
-use Rattle.books.specs.Solving.{FindsReady, Brings, Skips, Lowers, FindsNext}
+use Rattle.books.specs.Solving.{Bundle, placeOf, FindsDocument, bookUnit, placeUnit, waiting, TakesBooks, AllIncluded, Grows, ReadTo, FirstUncompiled}
+use Rattle.books.specs.Solving.{Waits, AllWait, Stands, Ready, NoneReady, FindsReady, Brings, Skips, Lowers, FindsNext}
 use Rattle.bodies.proofs.Tokens.{skip-law}
-use Rattle.books.proofs.FileLists.{all-bits, found-below, SetFrom, set-from, next-some, next-none}
+use Rattle.books.proofs.FileLists.{all-bits, grows-same, found-below, SetFrom, set-from, next-some, next-none}
 use Rattle.books.proofs.BundleWays.{bundle-first, bundle-next, bundle-past, bundle-none, bundle-rest, bundle-fits, defs-end, defs-other, defs-more}
 
 -- a document from a place on
@@ -83,24 +82,61 @@ module _ (tree : List ℕ) (i end n : ℕ) {at above bound : ℕ} (below : n < b
         go : (m r : ℕ) → n ≤ m → m < bound′ → FindsDocument tree next end m r → FindsDocument tree 0 end m r
         go m r a b F = S s .skips m r a (omega (arith, L .most)) (find-more tree i end m inside v (other m a b (decLt n there)) l F)
 
--- `all_in`
+-- whether includes are all in a set
 module _ (tree : List ℕ) (j end : ℕ) (set : List ℕ) where
-  pub all-end : end ≤ j → AllIncluded tree j end set true
+  all-end : end ≤ j → AllIncluded tree j end set true
   all-end past = record { all = defs-end tree j end (λ ns. true ≡ allBits set ns) past refl }
 
-  pub all-other : {kind next : ℕ} {r : Bool} → j < end → kind ≡ kindAt tree j → (kind ≡ 11 → ⊥) → next ≡ skipC tree j end
+  all-other : {kind next : ℕ} {r : Bool} → j < end → kind ≡ kindAt tree j → (kind ≡ 11 → ⊥) → next ≡ skipC tree j end
       → AllIncluded tree next end set r → AllIncluded tree j end set r
   all-other {r = r} inside k ne q A = record { all = defs-other tree j end (λ ns. r ≡ allBits set ns) inside k ne q (A .all) }
 
   module _ {kind file next : ℕ} (inside : j < end) (k : kind ≡ kindAt tree j) (eleven : kind ≡ 11) (v : file ≡ valueAt tree j) where
-    pub all-more : {r : Bool} → true ≡ bitOf set file → next ≡ skipC tree j end → AllIncluded tree next end set r → AllIncluded tree j end set r
+    all-more : {r : Bool} → true ≡ bitOf set file → next ≡ skipC tree j end → AllIncluded tree next end set r → AllIncluded tree j end set r
     all-more {r} has q A = record {
       all = defs-more tree j end (λ ns. r ≡ allBits set ns) inside k eleven v q (λ ds u f. A .all ds u f ∙ rw (← has));
     }
 
-  pub all-not : {kind file : ℕ} → j < end → kind ≡ kindAt tree j → kind ≡ 11 → file ≡ valueAt tree j → false ≡ bitOf set file
+  all-not : {kind file : ℕ} → j < end → kind ≡ kindAt tree j → kind ≡ 11 → file ≡ valueAt tree j → false ≡ bitOf set file
       → AllIncluded tree j end set false
   all-not inside k eleven v out = record { all = defs-more tree j end (λ ns. false ≡ allBits set ns) inside k eleven v refl (λ ds u f. rw (← out)) }
+
+-- `first_uncompiled`
+pub read-none : (tree : List ℕ) (at end : ℕ) (set : List ℕ) → ReadTo tree at at end set
+read-none tree at end set = record { on = λ larger r g a. a }
+
+pub read-grows : {tree : List ℕ} {at to end : ℕ} {set larger : List ℕ} → Grows set larger → ReadTo tree at to end set → ReadTo tree at to end larger
+read-grows g R = record { on = λ more r h a. R .on more r (record { stays = λ n b. h .stays n (g .stays n b) }) a }
+
+read-on : {tree : List ℕ} {at to from end : ℕ} {set : List ℕ} → ReadTo tree at to end set → ReadTo tree to from end set → ReadTo tree at from end set
+read-on R Q = record { on = λ larger r g a. R .on larger r g (Q .on larger r g a) }
+
+module _ (tree : List ℕ) (at j end : ℕ) (set : List ℕ) (R : ReadTo tree at j end set) where
+  pub uncompiled-end : end ≤ j → at ≤ j → FirstUncompiled tree at end set j
+  uncompiled-end past l = record {
+    later = l;
+    read = R;
+    all = λ h. R .on set true (grows-same set) (all-end tree j end set past);
+    not-all = λ h. absurd (omega arith);
+  }
+
+  module _ {kind : ℕ} (inside : j < end) (k : kind ≡ kindAt tree j) where
+    pub read-other : {next : ℕ} → (kind ≡ 11 → ⊥) → next ≡ skipC tree j end → ReadTo tree at next end set
+    read-other ne q = record { on = λ larger r g a. R .on larger r g (all-other tree j end larger inside k ne q a) }
+
+    module _ {file : ℕ} (eleven : kind ≡ 11) (v : file ≡ valueAt tree j) where
+      pub read-include : {next : ℕ} → true ≡ bitOf set file → next ≡ skipC tree j end → ReadTo tree at next end set
+      read-include has q = record {
+        on = λ larger r g a. R .on larger r g (all-more tree j end larger inside k eleven v (sym (g .stays file (sym has))) q a);
+      }
+
+      pub uncompiled-here : false ≡ bitOf set file → at ≤ j → FirstUncompiled tree at end set j
+      uncompiled-here out l = record {
+        later = l;
+        read = R;
+        all = λ h. absurd (omega arith);
+        not-all = λ h. R .on set false (grows-same set) (all-not tree j end set inside k eleven v out);
+      }
 
 -- what an entry more of area 12 is
 module _ {full count a : ℕ} {w : List ℕ} {r : Taken} {after : List ℕ} (T : Took booksArea full count (a ∷ []) w r after) where
@@ -251,16 +287,36 @@ place tree end n i (x ∷ ds) d b h = go (eqb (x .filename) n) refl h (place tre
         })
     go false q e r = let p = r e in record { file = p .file; document = rw q (p .document); inside = rw q (p .inside) }
 
+-- the words that `take_books` wrote: nothing was read
+pub taken-wait : {ds : List Document} {tree : List ℕ} {end : ℕ} (set : List ℕ) → Bundle ds tree 0 end → end ≤ mostRecords → (l : List ℕ)
+    → missing ds l ≡ none → AllWait ds tree end set l (waiting ds l)
+taken-wait set b s [] h = tt
+taken-wait {ds} {tree} {end} set b s (n ∷ ns) h =
+    let f = found n ns ds h in
+    let p = place tree end n 0 ds (f .0) b (f .1) in
+    let small : placeOf n 0 ds < placeUnit = omega (arith, p .inside) in
+    let none-read : (n * bookUnit + placeOf n 0 ds) / placeUnit % placeUnit ≡ 0 = omega arith in (
+      record {
+        number = omega arith;
+        place = omega arith;
+        read = rw (none-read, add-zero (placeOf n 0 ds + 1)) (read-none tree (placeOf n 0 ds + 1) (skipC tree (placeOf n 0 ds) end) set);
+      },
+      taken-wait set b s ns (f .2),
+    )
+
 -- `next_ready`: what the entry of the first book that is left says
-pub record First (ds : List Document) (tree : List ℕ) (end n : ℕ) (ns : List ℕ) (entry : ℕ) : Type 0 where
+pub record First (ds : List Document) (tree : List ℕ) (end : ℕ) (files : List ℕ) (n : ℕ) (ns rest books set : List ℕ) (entry : ℕ) : Type 0 where
   pub book : Document
   pub is : findDocument n ds ≡ some book
   pub name : book .filename ≡ n
   pub left : missing ds ns ≡ none
-  pub file : entry / bookUnit ≡ book .filename
-  pub document : DocumentAt book tree (entry % bookUnit)
-  pub inside : entry % bookUnit + sizeDoc book ≤ end
+  pub waits : Waits ds tree end set n entry
+  pub document : DocumentAt book tree (placeOf n 0 ds)
+  pub inside : placeOf n 0 ds + sizeDoc book ≤ end
   pub below : Below setSize (dependencies (book .definitions))
+  pub tail : List ℕ
+  pub area : books ≡ files ++ (entry ∷ (tail ++ rest))
+  pub others : AllWait ds tree end set ns tail
 
 entry-is : (k : ℕ) (files : List ℕ) (x : ℕ) (ws books : List ℕ) → books ≡ files ++ (x ∷ ws) → k ≡ length files → entryField 1 k 0 books ≡ x
 unfolding entryField
@@ -268,114 +324,30 @@ entry-is k files x ws books q e =
     let i : k * 1 + 0 ≡ k = omega arith in
     ap (λ (j : ℕ). getD books j 0) i ∙ ap (λ (l : List ℕ). getD l k 0) q ∙ getD-at files x ws 0 k (sym e)
 
-first : {ds : List Document} {tree : List ℕ} {end : ℕ} {files : List ℕ} {n : ℕ} {ns rest books set compiled : List ℕ} {k : ℕ}
-    → Stands ds tree end files (n ∷ ns) rest books set compiled → k ≡ length files → First ds tree end n ns (entryField 1 k 0 books)
-first {ds} {tree} {end} {files} {n} {ns} {rest} {books} {set} {compiled} {k} S e =
-    let f = found n ns ds (S .there) in
-    let p = place tree end n 0 ds (f .0) (S .bundle) (f .1) in
-    let w : entryField 1 k 0 books ≡ n * bookUnit + placeOf n 0 ds = entry-is k files (bookWord ds n) (waiting ds ns ++ rest) books (S .words) e in
-    let small : placeOf n 0 ds < 2 ^ 20 = omega (arith, p .inside, S .limit) in
-    let down : entryField 1 k 0 books % bookUnit ≡ placeOf n 0 ds = ap (λ (x : ℕ). x % bookUnit) w ∙ low n 20 small in
-    record {
-      book = f .0;
-      is = f .1;
-      name = p .file;
-      left = f .2;
-      file = ap (λ (x : ℕ). x / bookUnit) w ∙ high n 20 small ∙ sym (p .file);
-      document = rw down (p .document);
-      inside = rw down (p .inside);
-      below = subst (λ (o : Option Document). Below setSize (dependenciesOf o)) (f .1) (found-below n ds (S .bundle .numbers));
-    }
-
-module _ (tree : List ℕ) (end k count : ℕ) (set books : List ℕ) where
-  pub ready-end : count ≤ k → FindsReady tree end k count set books k
-  ready-end past = record { found = λ ds files left rest compiled S d c l. absurd (omega arith); nothing = go }
-    where
-      go : (ds : List Document) (files left rest compiled : List ℕ) → Stands ds tree end files left rest books set compiled → k ≡ length files
-          → count ≡ k + length left → count ≤ k → ready ds compiled left ≡ none
-      go ds files [] rest compiled S d c l = refl
-      go ds files (n ∷ ns) rest compiled S d c l = absurd (omega arith)
-
-  module _ {at last : ℕ} {r : Bool} (inside : k < count) (a : at ≡ entryField 1 k 0 books % bookUnit) (s : last ≡ skipC tree at end)
-      (A : AllIncluded tree (at + 1) last set r) where
-    -- whether its includes are all compiled
-    asked : {ds : List Document} {n : ℕ} {ns compiled : List ℕ} → SetIs set compiled → (B : First ds tree end n ns (entryField 1 k 0 books))
-        → allIn (dependencies (B .book .definitions)) compiled ≡ r
-    asked {ds} {n} {ns} {compiled} i B =
-        let D : DocumentAt (B .book) tree at = rw a (B .document) in
-        let e : last ≡ at + sizeDoc (B .book) = s ∙ skip-law tree at end (D .head) (omega arith) (rw a (B .inside)) in
-        sym (A .all (B .book .definitions) (D .definitions) (omega arith) ∙ all-bits set compiled (dependencies (B .book .definitions)) i (B .below))
-
-    pub ready-here : r ≡ true → FindsReady tree end k count set books k
-    ready-here yes′ = record { found = go; nothing = λ ds files left rest compiled S d c l. absurd (omega arith) }
-      where
-        go : (ds : List Document) (files left rest compiled : List ℕ) → Stands ds tree end files left rest books set compiled → k ≡ length files
-            → count ≡ k + length left → k < count → Ready ds tree end k left books compiled k
-        go ds files [] rest compiled S d c l = absurd (omega arith)
-        go ds files (n ∷ ns) rest compiled S d c l =
-            let B = first S d in
-            let t : allIn (dependencies (B .book .definitions)) compiled ≡ true = asked (S .held) B ∙ yes′ in
-            record {
-              book = B .book;
-              is = rw (B .is, t);
-              file = B .file;
-              document = B .document;
-              inside = B .inside;
-              before = [];
-              later = ns;
-              split = ap (λ (x : ℕ). x ∷ ns) (sym (B .name));
-              index = omega arith;
-            }
-
-    pub ready-more : {i : ℕ} → r ≡ false → FindsReady tree end (k + 1) count set books i → FindsReady tree end k count set books i
-    ready-more {i} no′ R = record { found = go; nothing = none-of }
-      where
-        next : {ds : List Document} {files : List ℕ} {n : ℕ} {ns rest compiled : List ℕ} → Stands ds tree end files (n ∷ ns) rest books set compiled
-            → k ≡ length files → Stands ds tree end (files ++ (bookWord ds n ∷ [])) ns rest books set compiled
-        next {ds} {files} {n} {ns} {rest} {compiled} S d = record {
-          bundle = S .bundle;
-          limit = S .limit;
-          there = first S d .left;
-          words = S .words ∙ sym (append-assoc files (bookWord ds n ∷ []) (waiting ds ns ++ rest));
-          held = S .held;
-          room = S .room;
-        }
-
-        longer : (files : List ℕ) (x : ℕ) → k ≡ length files → k + 1 ≡ length (files ++ (x ∷ []))
-        longer files x d = rw (length-append files (x ∷ [])) (omega arith)
-
-        passed : {ds : List Document} {files : List ℕ} {n : ℕ} {ns rest compiled : List ℕ} → Stands ds tree end files (n ∷ ns) rest books set compiled
-            → k ≡ length files → ready ds compiled (n ∷ ns) ≡ ready ds compiled ns
-        passed S d =
-            let B = first S d in
-            rw (B .is, asked (S .held) B ∙ no′)
-
-        go : (ds : List Document) (files left rest compiled : List ℕ) → Stands ds tree end files left rest books set compiled → k ≡ length files
-            → count ≡ k + length left → i < count → Ready ds tree end k left books compiled i
-        go ds files [] rest compiled S d c l = absurd (omega arith)
-        go ds files (n ∷ ns) rest compiled S d c l =
-            let p = R .found ds (files ++ (bookWord ds n ∷ [])) ns rest compiled (next S d) (longer files (bookWord ds n) d) (omega arith) l in
-            record {
-              book = p .book;
-              is = passed S d ∙ p .is;
-              file = p .file;
-              document = p .document;
-              inside = p .inside;
-              before = n ∷ p .before;
-              later = p .later;
-              split = ap (λ (x : List ℕ). n ∷ x) (p .split);
-              index = p .index ∙ omega arith;
-            }
-
-        none-of : (ds : List Document) (files left rest compiled : List ℕ) → Stands ds tree end files left rest books set compiled → k ≡ length files
-            → count ≡ k + length left → count ≤ i → ready ds compiled left ≡ none
-        none-of ds files [] rest compiled S d c l = refl
-        none-of ds files (n ∷ ns) rest compiled S d c l =
-            passed S d ∙ R .nothing ds (files ++ (bookWord ds n ∷ [])) ns rest compiled (next S d) (longer files (bookWord ds n) d) (omega arith) l
-
--- `bring`
-pub record BringsFrom (books : List ℕ) (done i file : ℕ) (after : List ℕ) : Type 0 where
-  pub brings : (a b c : List ℕ) (e : ℕ) → books ≡ a ++ (b ++ (e ∷ c)) → done ≡ length a → i ≡ done + length b → after ≡ a ++ (file ∷ (b ++ c))
+first : {ds : List Document} {tree : List ℕ} {end : ℕ} {files : List ℕ} {n : ℕ} {ns rest books set compiled : List ℕ} {k entry : ℕ}
+    → Stands ds tree end files (n ∷ ns) rest books set compiled → k ≡ length files → entry ≡ entryField 1 k 0 books
+    → First ds tree end files n ns rest books set entry
+first {ds} {tree} {end} {files} {n} {ns} {rest} {books} {set} {compiled} {k} {entry} S e word = go (S .words) (S .area) (S .waits)
+  where
+    go : (ws : List ℕ) → books ≡ files ++ (ws ++ rest) → AllWait ds tree end set (n ∷ ns) ws → First ds tree end files n ns rest books set entry
+    go [] a h = absurd h
+    go (w ∷ ws) a h =
+        let f = found n ns ds (S .there) in
+        let p = place tree end n 0 ds (f .0) (S .bundle) (f .1) in
+        let same : entry ≡ w = word ∙ entry-is k files w (ws ++ rest) books a e in
+        rw same (record {
+          book = f .0;
+          is = f .1;
+          name = p .file;
+          left = f .2;
+          waits = h .0;
+          document = p .document;
+          inside = p .inside;
+          below = subst (λ (o : Option Document). Below setSize (dependenciesOf o)) (f .1) (found-below n ds (S .bundle .numbers));
+          tail = ws;
+          area = a;
+          others = h .1;
+        })
 
 -- a word of area 12 anew
 set-word : (i value : ℕ) (a : List ℕ) (e : ℕ) (c w after : List ℕ) {answer : Bool} → Patched 1 i 0 value w after answer → w ≡ a ++ (e ∷ c) → i ≡ length a
@@ -384,6 +356,145 @@ set-word i value a e c w after P q h =
     let n : length w ≡ length a + suc (length c) = ap length q ∙ length-append a (e ∷ c) in
     let k : i * 1 + 0 ≡ i = omega arith in
     P .words ∙ rw (k, lt-ltb i (length w) (omega arith), q) (set-at a e c value i (sym h))
+
+module _ (tree : List ℕ) (end k count : ℕ) (set books : List ℕ) where
+  pub ready-end : count ≤ k → FindsReady tree end k count set books k books
+  ready-end past = record { found = λ ds files left rest compiled S d c l. absurd (omega arith); nothing = go }
+    where
+      go : (ds : List Document) (files left rest compiled : List ℕ) → Stands ds tree end files left rest books set compiled → k ≡ length files
+          → count ≡ k + length left → count ≤ k → NoneReady ds tree end files left rest books set compiled
+      go ds files [] rest compiled S d c l = record { is = refl; stands = S }
+      go ds files (n ∷ ns) rest compiled S d c l = absurd (omega arith)
+
+  module _ {entry at from last stop : ℕ} (inside : k < count) (word : entry ≡ entryField 1 k 0 books) (a : at ≡ entry % placeUnit)
+      (f : from ≡ at + 1 + entry / placeUnit % placeUnit) (s : last ≡ skipC tree at end) (U : FirstUncompiled tree from last set stop) where
+    -- what was read before
+    read-before : {ds : List Document} {files : List ℕ} {n : ℕ} {ns rest : List ℕ} → First ds tree end files n ns rest books set entry
+        → ReadTo tree (at + 1) from last set
+    read-before {ds} {files} {n} B =
+        let here : placeOf n 0 ds ≡ at = sym (B .waits .place) ∙ sym a in
+        let R : ReadTo tree (at + 1) (at + 1 + entry / placeUnit % placeUnit) (skipC tree at end) set = rw here at (B .waits .read) in
+        rw (f, s) R
+
+    -- whether its includes are all compiled
+    asked : {ds : List Document} {files : List ℕ} {n : ℕ} {ns rest compiled : List ℕ} {r : Bool} → SetIs set compiled
+        → (B : First ds tree end files n ns rest books set entry) → AllIncluded tree from last set r
+        → allIn (dependencies (B .book .definitions)) compiled ≡ r
+    asked {ds} {files} {n} {ns} {rest} {compiled} {r} i B A =
+        let here : placeOf n 0 ds ≡ at = sym (B .waits .place) ∙ sym a in
+        let D : DocumentAt (B .book) tree at = rw here at (B .document) in
+        let e : last ≡ at + sizeDoc (B .book) = s ∙ skip-law tree at end (D .head) (omega arith) (rw here at (B .inside)) in
+        let W : AllIncluded tree (at + 1) last set r = read-before B .on set r (grows-same set) A in
+        sym (W .all (B .book .definitions) (D .definitions) (omega arith) ∙ all-bits set compiled (dependencies (B .book .definitions)) i (B .below))
+
+    pub ready-here : last ≤ stop → FindsReady tree end k count set books k books
+    ready-here yes′ = record { found = go; nothing = λ ds files left rest compiled S d c l. absurd (omega arith) }
+      where
+        go : (ds : List Document) (files left rest compiled : List ℕ) → Stands ds tree end files left rest books set compiled → k ≡ length files
+            → count ≡ k + length left → k < count → Ready ds tree end files left rest books set compiled k
+        go ds files [] rest compiled S d c l = absurd (omega arith)
+        go ds files (n ∷ ns) rest compiled S d c l =
+            let B = first S d word in
+            let t : allIn (dependencies (B .book .definitions)) compiled ≡ true = asked (S .held) B (U .all yes′) in
+            let here : entryField 1 k 0 books % placeUnit ≡ placeOf n 0 ds = ap (λ (x : ℕ). x % placeUnit) (sym word) ∙ B .waits .place in
+            record {
+              book = B .book;
+              is = rw (B .is, t);
+              file = ap (λ (x : ℕ). x / bookUnit) (sym word) ∙ B .waits .number ∙ sym (B .name);
+              document = rw here (B .document);
+              inside = rw here (B .inside);
+              before = [];
+              later = ns;
+              split = ap (λ (x : ℕ). x ∷ ns) (sym (B .name));
+              index = omega arith;
+              stands = S;
+            }
+
+    module _ {read new : ℕ} {mid : List ℕ} {answer : Bool} (no′ : stop < last) (read-is : read ≡ (stop - at - 1) % placeUnit)
+        (new-is : new ≡ entry / bookUnit * bookUnit + read * placeUnit + entry % placeUnit) (P : Patched 1 k 0 new books mid answer) where
+      -- the word that says how far it was read
+      anew : {ds : List Document} {files : List ℕ} {n : ℕ} {ns rest : List ℕ} → end ≤ mostRecords → First ds tree end files n ns rest books set entry
+          → Waits ds tree end set n new
+      anew {ds} {files} {n} small B =
+          let here : placeOf n 0 ds ≡ at = sym (B .waits .place) ∙ sym a in
+          let D : DocumentAt (B .book) tree at = rw here at (B .document) in
+          let fits : at + sizeDoc (B .book) ≤ end = rw here at (B .inside) in
+          let e : last ≡ at + sizeDoc (B .book) = s ∙ skip-law tree at end (D .head) (omega arith) fits in
+          let low : read < placeUnit = omega arith in
+          let so-far : read ≡ stop - at - 1 = omega (arith, U .later) in
+          let mid′ : new / placeUnit % placeUnit ≡ read = omega arith in
+          let to : stop ≡ at + 1 + new / placeUnit % placeUnit = omega (arith, U .later) in
+          record {
+            number = (let h : new / bookUnit ≡ entry / bookUnit = omega arith in h) ∙ B .waits .number;
+            place = (let h : new % placeUnit ≡ entry % placeUnit = omega arith in h) ∙ B .waits .place;
+            read = rw (here, ← s, ← to) (read-on (read-before B) (U .read));
+          }
+
+      pub ready-more : {i : ℕ} {after : List ℕ} → FindsReady tree end (k + 1) count set mid i after → FindsReady tree end k count set books i after
+      ready-more {i} {after} R = record { found = go; nothing = none-of }
+        where
+          next : {ds : List Document} {files : List ℕ} {n : ℕ} {ns rest compiled : List ℕ} → Stands ds tree end files (n ∷ ns) rest books set compiled
+              → k ≡ length files → Stands ds tree end (files ++ (new ∷ [])) ns rest mid set compiled
+          next {ds} {files} {n} {ns} {rest} {compiled} S d =
+              let B = first S d word in
+              record {
+                bundle = S .bundle;
+                limit = S .limit;
+                there = B .left;
+                words = B .tail;
+                area = set-word k new files entry (B .tail ++ rest) books mid P (B .area) d ∙ sym (append-assoc files (new ∷ []) (B .tail ++ rest));
+                waits = B .others;
+                held = S .held;
+                room = S .room;
+              }
+
+          back : {ds : List Document} {files : List ℕ} {n : ℕ} {ns rest compiled : List ℕ} → Stands ds tree end files (n ∷ ns) rest books set compiled
+              → k ≡ length files → Stands ds tree end (files ++ (new ∷ [])) ns rest after set compiled
+              → Stands ds tree end files (n ∷ ns) rest after set compiled
+          back {ds} {files} {n} {ns} {rest} {compiled} S d T = record {
+            bundle = S .bundle;
+            limit = S .limit;
+            there = S .there;
+            words = new ∷ T .words;
+            area = T .area ∙ append-assoc files (new ∷ []) (T .words ++ rest);
+            waits = (anew (S .limit) (first S d word), T .waits);
+            held = S .held;
+            room = S .room;
+          }
+
+          longer : (files : List ℕ) (x : ℕ) → k ≡ length files → k + 1 ≡ length (files ++ (x ∷ []))
+          longer files x d = rw (length-append files (x ∷ [])) (omega arith)
+
+          passed : {ds : List Document} {files : List ℕ} {n : ℕ} {ns rest compiled : List ℕ} → Stands ds tree end files (n ∷ ns) rest books set compiled
+              → k ≡ length files → ready ds compiled (n ∷ ns) ≡ ready ds compiled ns
+          passed S d =
+              let B = first S d word in
+              rw (B .is, asked (S .held) B (U .not-all no′))
+
+          go : (ds : List Document) (files left rest compiled : List ℕ) → Stands ds tree end files left rest books set compiled → k ≡ length files
+              → count ≡ k + length left → i < count → Ready ds tree end files left rest after set compiled i
+          go ds files [] rest compiled S d c l = absurd (omega arith)
+          go ds files (n ∷ ns) rest compiled S d c l =
+              let p = R .found ds (files ++ (new ∷ [])) ns rest compiled (next S d) (longer files new d) (omega arith) l in
+              record {
+                book = p .book;
+                is = passed S d ∙ p .is;
+                file = p .file;
+                document = p .document;
+                inside = p .inside;
+                before = n ∷ p .before;
+                later = p .later;
+                split = ap (λ (x : List ℕ). n ∷ x) (p .split);
+                index = p .index ∙ rw (length-append files (new ∷ [])) (omega arith);
+                stands = back S d (p .stands);
+              }
+
+          none-of : (ds : List Document) (files left rest compiled : List ℕ) → Stands ds tree end files left rest books set compiled → k ≡ length files
+              → count ≡ k + length left → count ≤ i → NoneReady ds tree end files left rest after set compiled
+          none-of ds files [] rest compiled S d c l = absurd (omega arith)
+          none-of ds files (n ∷ ns) rest compiled S d c l =
+              let p = R .nothing ds (files ++ (new ∷ [])) ns rest compiled (next S d) (longer files new d) (omega arith) l in
+              record { is = passed S d ∙ p .is; stands = back S d (p .stands) }
 
 -- the last of a list
 pub record Last (l : List ℕ) : Type 0 where
@@ -396,7 +507,7 @@ last-of x [] = record { front = []; end = x; is = refl }
 last-of x (y ∷ l) = let t = last-of y l in record { front = x ∷ t .front; end = t .end; is = ap (λ (z : List ℕ). x ∷ z) (t .is) }
 
 pub bring-end : (books : List ℕ) (done i file : ℕ) {after : List ℕ} {answer : Bool} → i ≤ done → Patched 1 done 0 file books after answer
-    → BringsFrom books done i file after
+    → Brings books done i file after
 bring-end books done i file {after} past P = record { brings = go }
   where
     go : (a b c : List ℕ) (e : ℕ) → books ≡ a ++ (b ++ (e ∷ c)) → done ≡ length a → i ≡ done + length b → after ≡ a ++ (file ∷ (b ++ c))
@@ -404,7 +515,7 @@ bring-end books done i file {after} past P = record { brings = go }
     go a (x ∷ b) c e q h k = absurd (omega arith)
 
 pub bring-more : (books : List ℕ) (done i file : ℕ) {j word : ℕ} {mid after : List ℕ} {answer : Bool} → done < i → j ≡ i - 1
-    → word ≡ entryField 1 j 0 books → Patched 1 i 0 word books mid answer → BringsFrom mid done j file after → BringsFrom books done i file after
+    → word ≡ entryField 1 j 0 books → Patched 1 i 0 word books mid answer → Brings mid done j file after → Brings books done i file after
 bring-more books done i file {j} {word} {mid} {after} more d w P B = record { brings = go }
   where
     go : (a b c : List ℕ) (e : ℕ) → books ≡ a ++ (b ++ (e ∷ c)) → done ≡ length a → i ≡ done + length b → after ≡ a ++ (file ∷ (b ++ c))
@@ -428,7 +539,7 @@ bring-more books done i file {j} {word} {mid} {after} more d w P B = record { br
             ∙ ap (λ (l : List ℕ). a ++ (file ∷ l)) (sym (ap (λ (l : List ℕ). l ++ c) (L .is) ∙ append-assoc f (y ∷ []) c))
 
 -- the books that are left without one of them
-apart : (k : ℕ) (before : List ℕ) (n : ℕ) (later : List ℕ) → Ascends k (before ++ (n ∷ later)) → without n (before ++ (n ∷ later)) ≡ before ++ later
+pub apart : (k : ℕ) (before : List ℕ) (n : ℕ) (later : List ℕ) → Ascends k (before ++ (n ∷ later)) → without n (before ++ (n ∷ later)) ≡ before ++ later
 apart k [] n later a = rw (eq-eqb n n refl)
 apart k (x ∷ before) n later a =
     let l : x + 1 ≤ n = above (x + 1) before n later (a .1) in
@@ -437,23 +548,3 @@ apart k (x ∷ before) n later a =
     above : (j : ℕ) (bs : List ℕ) (m : ℕ) (ls : List ℕ) → Ascends j (bs ++ (m ∷ ls)) → j ≤ m
     above j [] m ls h = h .0
     above j (y ∷ bs) m ls h = let r = above (y + 1) bs m ls (h .1) in omega (arith, h .0)
-
-waiting-append : (ds : List Document) (xs ys : List ℕ) → waiting ds (xs ++ ys) ≡ waiting ds xs ++ waiting ds ys
-waiting-append ds [] ys = refl
-waiting-append ds (x ∷ xs) ys = ap (λ (l : List ℕ). bookWord ds x ∷ l) (waiting-append ds xs ys)
-
-waiting-length : (ds : List Document) (xs : List ℕ) → length (waiting ds xs) ≡ length xs
-waiting-length ds [] = refl
-waiting-length ds (x ∷ xs) = ap suc (waiting-length ds xs)
-
-pub bring-whole : (books : List ℕ) (done k file : ℕ) {after : List ℕ} → BringsFrom books done k file after → Brings books done k file after
-bring-whole books done k file {after} B = record {
-  brings = λ ds files left rest before later q d a s i.
-      let was : books ≡ files ++ (waiting ds before ++ (bookWord ds file ∷ (waiting ds later ++ rest)))
-      = q ∙ ap (λ (l : List ℕ). files ++ (waiting ds l ++ rest)) s ∙ rw (waiting-append ds before (file ∷ later)) (simp append-assoc) in
-      let out : without file left ≡ before ++ later
-      = ap (λ (l : List ℕ). without file l) s ∙ apart 0 before file later (subst (λ (l : List ℕ). Ascends 0 l) s a) in
-      let n = waiting-length ds before in
-      B .brings files (waiting ds before) (waiting ds later ++ rest) (bookWord ds file) was d (omega arith)
-      ∙ sym (ap (λ (l : List ℕ). booksOf ds (files ++ (file ∷ [])) l rest) out ∙ rw (waiting-append ds before later) (simp append-assoc));
-}

@@ -24,11 +24,12 @@ use Rattle.building.specs.declared.scopes.Found.{Found}
 use Rattle.building.specs.declared.scopes.Found.the-variants.{At, Nothing}
 use Rattle.building.specs.Found.{foundOf}
 use Rattle.bodies.specs.Meets.{skipC}
-use Rattle.books.specs.Sets.{setSize, narrowSize, bitOf, addBit, addBits, Added, SetIs, NextIn, Below, Ascends}
+use Rattle.books.specs.Sets.{setSize, narrowSize, bitOf, addBit, addBits, allBits, Added, SetIs, NextIn, Below, Ascends}
 use Rattle.books.specs.Solving.{Bundle, Room, Distinct, files, FindsTwice, Includes, Reaches, reachBits, Needs, Misses}
-use Rattle.books.specs.Solving.{InSets, NarrowIncludes, Narrows}
+use Rattle.books.specs.Solving.{InSets, Covers, NarrowIncludes, Narrows}
 use Rattle.bodies.proofs.Tokens.{skip-law}
 use Rattle.books.proofs.FileLists.{join, never, has-head, has-tail, addBit-length, reach-length, set-add, set-reached, reached-ascends, reached-below}
+use Rattle.books.proofs.FileLists.{addBits-length, added-already, covers-none, covers-added, covers-reached}
 use Rattle.books.proofs.FileLists.{same-members, needed-still, SetFrom, set-from, Split, next-some, next-none, missing-by}
 
 -- the document at a place and those after it
@@ -240,35 +241,65 @@ module _ (tree : List ℕ) (j end : ℕ) (any : Bool) (set : List ℕ) where
           (n .0, p .1 ∙ unchanged (not-false (bitOf set file) (sym (a .is-new) ∙ n .1)))
 
 -- `reach`
-module _ (tree : List ℕ) (i end : ℕ) (set : List ℕ) (any : Bool) (next : List ℕ) where
-  pub reach-end : end ≤ i → Reaches tree i end set any next next any
+not-unread : (a b : Bool) → cond a false b ≡ false → (a ≡ true → ⊥) → b ≡ false
+not-unread true b h ne = absurd (ne refl)
+not-unread false b h ne = h
+
+is-unread : (a b : Bool) → cond a false b ≡ true → b ≡ true
+is-unread true b h = never (sym h)
+is-unread false b h = h
+
+module _ (tree : List ℕ) (i end : ℕ) (read set : List ℕ) (any : Bool) (next : List ℕ) where
+  pub reach-end : end ≤ i → Reaches tree i end read set any next next any
   reach-end past = record { adds = go; still = λ h. (h, refl) }
     where
-      go : (ds : List Document) → Bundle ds tree i end → next ≡ reachBits set ds next
-      go [] b = refl
-      go (d ∷ ds) b = absurd (omega (arith, bundle-past b))
+      go : (ds : List Document) → Bundle ds tree i end → Room next ds → Covers read next ds → next ≡ reachBits set ds next
+      go [] b w c = refl
+      go (d ∷ ds) b w c = absurd (omega (arith, bundle-past b))
 
   module _ {last file : ℕ} (inside : i < end) (l : last ≡ skipC tree i end) (v : file ≡ valueAt tree i) where
-    pub reach-past : {after : List ℕ} {r : Bool} → false ≡ bitOf set file → Reaches tree last end set any next after r → Reaches tree i end set any next after r
+    pub reach-past : {after : List ℕ} {r : Bool} → false ≡ cond (bitOf read file) false (bitOf set file) → Reaches tree last end read set any next after r
+        → Reaches tree i end read set any next after r
     reach-past {after} {r} out R = record { adds = go; still = R .still }
       where
-        go : (ds : List Document) → Bundle ds tree i end → after ≡ reachBits set ds next
-        go [] b = absurd (omega (arith, bundle-none b))
-        go (d ∷ ds) b = R .adds ds (bundle-next b l .1) ∙ rw (bundle-first b .file, ← v, ← out)
+        -- it was read, and what it includes is in; or it is not in the set
+        same : (t : Bool) (deps : List ℕ) → bitOf read file ≡ t → (bitOf read file ≡ true → allBits next deps ≡ true)
+            → cond (bitOf set file) (addBits next deps) next ≡ next
+        same true deps q c = either-way (bitOf set file)
+          where
+            either-way : (t : Bool) → cond t (addBits next deps) next ≡ next
+            either-way true = added-already next deps (c q)
+            either-way false = refl
+        same false deps q c =
+            let no′ : bitOf set file ≡ false = not-unread (bitOf read file) (bitOf set file) (sym out) (λ e. never (sym e ∙ q)) in
+            rw no′ refl
 
-    pub reach-more : {mid after : List ℕ} {grew r : Bool} → true ≡ bitOf set file → Includes tree (i + 1) last any next mid grew
-        → Reaches tree last end set grew mid after r → Reaches tree i end set any next after r
+        go : (ds : List Document) → Bundle ds tree i end → Room next ds → Covers read next ds → after ≡ reachBits set ds next
+        go [] b w c = absurd (omega (arith, bundle-none b))
+        go (d ∷ ds) b w c =
+            let f : d .filename ≡ file = bundle-first b .file ∙ sym v in
+            let deps = dependencies (d .definitions) in
+            let e : cond (bitOf set (d .filename)) (addBits next deps) next ≡ next
+            = rw f (same (bitOf read file) deps refl (λ h. c .0 (rw f h))) in
+            R .adds ds (bundle-next b l .1) (w .2) (c .1) ∙ ap (λ (x : List ℕ). reachBits set ds x) (sym e)
+
+    pub reach-more : {mid after : List ℕ} {grew r : Bool} → true ≡ cond (bitOf read file) false (bitOf set file) → Includes tree (i + 1) last any next mid grew
+        → Reaches tree last end read set grew mid after r → Reaches tree i end read set any next after r
     reach-more {mid} {after} {grew} {r} has I R = record { adds = go; still = λ h. quiet (R .still h) }
       where
         quiet : (grew ≡ false) × (after ≡ mid) → (any ≡ false) × (after ≡ next)
         quiet p = let s = I .still (p .0) in (s .0, p .1 ∙ s .1)
 
-        go : (ds : List Document) → Bundle ds tree i end → after ≡ reachBits set ds next
-        go [] b = absurd (omega (arith, bundle-none b))
-        go (d ∷ ds) b =
+        go : (ds : List Document) → Bundle ds tree i end → Room next ds → Covers read next ds → after ≡ reachBits set ds next
+        go [] b w c = absurd (omega (arith, bundle-none b))
+        go (d ∷ ds) b w c =
             let nx = bundle-next b l in
-            let m : mid ≡ addBits next (dependencies (d .definitions)) = I .adds (d .definitions) (bundle-first b .definitions) (omega (arith, nx .0)) in
-            R .adds ds (nx .1) ∙ rw (bundle-first b .file, ← v, ← has, m)
+            let deps = dependencies (d .definitions) in
+            let m : mid ≡ addBits next deps = I .adds (d .definitions) (bundle-first b .definitions) (omega (arith, nx .0)) in
+            let in′ : bitOf set (d .filename) ≡ true
+            = ap (λ (x : ℕ). bitOf set x) (bundle-first b .file ∙ sym v) ∙ is-unread (bitOf read file) (bitOf set file) (sym has) in
+            R .adds ds (nx .1) (rw (m, addBits-length next deps) (w .2)) (rw m (covers-added read next deps ds (w .1) (c .1)))
+            ∙ rw (in′, m) refl
 
 -- `narrow_includes`
 module _ (tree : List ℕ) (j end : ℕ) where
@@ -314,55 +345,60 @@ module _ (tree : List ℕ) (i end : ℕ) where
   narrow-not = record { below = λ h. never (sym h) }
 
 -- `needed`
-pub record NeededFrom (tree : List ℕ) (i end : ℕ) (set next after : List ℕ) : Type 0 where
+pub record NeededFrom (tree : List ℕ) (i end : ℕ) (read set next after : List ℕ) : Type 0 where
   pub needs : (ds rest : List Document) (l : List ℕ) → Bundle ds tree 0 end → Distinct ds → Bundle rest tree i end → Room set ds → Ascends 0 l → Below setSize l
-      → SetIs set l → next ≡ set → SetIs after (neededIn (length rest) [] ds l)
+      → SetIs set l → next ≡ set → Covers read set ds → SetIs after (neededIn (length rest) [] ds l)
 
-pub needed-end : (tree : List ℕ) (i end : ℕ) (set next : List ℕ) → end ≤ i → NeededFrom tree i end set next set
+pub needed-end : (tree : List ℕ) (i end : ℕ) (read set next : List ℕ) → end ≤ i → NeededFrom tree i end read set next set
 unfolding neededIn
-needed-end tree i end set next past = record { needs = go }
+needed-end tree i end read set next past = record { needs = go }
   where
     go : (ds rest : List Document) (l : List ℕ) → Bundle ds tree 0 end → Distinct ds → Bundle rest tree i end → Room set ds → Ascends 0 l → Below setSize l
-        → SetIs set l → next ≡ set → SetIs set (neededIn (length rest) [] ds l)
-    go ds [] l b u r room a w s q = s
-    go ds (d ∷ rest) l b u r room a w s q = absurd (omega (arith, bundle-past r))
+        → SetIs set l → next ≡ set → Covers read set ds → SetIs set (neededIn (length rest) [] ds l)
+    go ds [] l b u r room a w s q c = s
+    go ds (d ∷ rest) l b u r room a w s q c = absurd (omega (arith, bundle-past r))
 
-module _ (tree : List ℕ) (i end : ℕ) (set next : List ℕ) {mid : List ℕ} {grew : Bool} (R : Reaches tree 0 end set false next mid grew) where
-  reached : (ds : List Document) (l : List ℕ) → Bundle ds tree 0 end → Distinct ds → Room set ds → SetIs set l → next ≡ set
+module _ (tree : List ℕ) (i end : ℕ) (read set next : List ℕ) {mid : List ℕ} {grew : Bool} (R : Reaches tree 0 end read set false next mid grew) where
+  all-reached : (ds : List Document) → Bundle ds tree 0 end → Room set ds → next ≡ set → Covers read set ds → mid ≡ reachBits set ds next
+  all-reached ds b room q c = R .adds ds b (rw q room) (rw q c)
+
+  reached : (ds : List Document) (l : List ℕ) → Bundle ds tree 0 end → Distinct ds → Room set ds → SetIs set l → next ≡ set → Covers read set ds
       → SetIs mid (reachedFrom [] ds l l)
-  reached ds l b u room s q = rw (R .adds ds b) (set-reached set l next l ds s (rw q s) u (b .numbers) (rw q room))
+  reached ds l b u room s q c = rw (all-reached ds b room q c) (set-reached set l next l ds s (rw q s) u (b .numbers) (rw q room))
 
-  pub needed-stop : not grew ≡ true → NeededFrom tree i end set next set
+  pub needed-stop : not grew ≡ true → NeededFrom tree i end read set next set
   needed-stop g = record {
-    needs = λ ds rest l b u r room a w s q.
+    needs = λ ds rest l b u r room a w s q c.
         let still : mid ≡ set = R .still (not-true grew g) .1 ∙ q in
-        let m : SetIs set (reachedFrom [] ds l l) = subst (λ (x : List ℕ). SetIs x (reachedFrom [] ds l l)) still (reached ds l b u room s q) in
+        let m : SetIs set (reachedFrom [] ds l l) = subst (λ (x : List ℕ). SetIs x (reachedFrom [] ds l l)) still (reached ds l b u room s q c) in
         let same : reachedFrom [] ds l l ≡ l
         = same-members 0 (reachedFrom [] ds l l) l (reached-ascends ds l l a) a (reached-below ds l l (b .numbers) w) w
         (λ k h. sym (m .has k h) ∙ s .has k h) in
         rw (needed-still (length rest) ds l same) s;
   }
 
-  pub needed-more : {last : ℕ} {copied after : List ℕ} → i < end → last ≡ skipC tree i end → copied ≡ mid → NeededFrom tree last end copied mid after
-      → NeededFrom tree i end set next after
+  pub needed-more : {last : ℕ} {read′ copied after : List ℕ} → i < end → last ≡ skipC tree i end → read′ ≡ set → copied ≡ mid
+      → NeededFrom tree last end read′ copied mid after → NeededFrom tree i end read set next after
   unfolding neededIn
-  needed-more {last} {copied} {after} inside l c N = record { needs = go }
+  needed-more {last} {read′} {copied} {after} inside l e c N = record { needs = go }
     where
       go : (ds rest : List Document) (n : List ℕ) → Bundle ds tree 0 end → Distinct ds → Bundle rest tree i end → Room set ds → Ascends 0 n
-          → Below setSize n → SetIs set n → next ≡ set → SetIs after (neededIn (length rest) [] ds n)
-      go ds [] n b u r room a w s q = absurd (omega (arith, bundle-none r))
-      go ds (d ∷ rest) n b u r room a w s q =
-          N .needs ds rest (reachedFrom [] ds n n) b u (bundle-next r l .1) (rw (c, R .adds ds b, reach-length set ds next, q) room)
+          → Below setSize n → SetIs set n → next ≡ set → Covers read set ds → SetIs after (neededIn (length rest) [] ds n)
+      go ds [] n b u r room a w s q v = absurd (omega (arith, bundle-none r))
+      go ds (d ∷ rest) n b u r room a w s q v =
+          let m = all-reached ds b room q v in
+          N .needs ds rest (reachedFrom [] ds n n) b u (bundle-next r l .1) (rw (c, m, reach-length set ds next, q) room)
           (reached-ascends ds n n a) (reached-below ds n n (b .numbers) w)
-          (rw c (reached ds n b u room s q)) (sym c)
+          (rw c (reached ds n b u room s q v)) (sym c) (rw (e, c, m) (covers-reached set ds next (rw q room)))
 
-pub needed-start : (tree : List ℕ) (end : ℕ) (set next : List ℕ) {root : ℕ} {set′ next′ after : List ℕ} {f g : Bool} → root ≡ valueAt tree 0 → next ≡ set
-    → Added set root set′ f → Added next root next′ g → NeededFrom tree 0 end set′ next′ after → Needs tree end set after
-needed-start tree end set next {root} {set′} {next′} {after} v q a b N = record {
-  needs = λ d ds w u room s.
-      let e : d .filename ≡ root = bundle-first w .file ∙ sym v in
+pub needed-start : (tree : List ℕ) (end : ℕ) (read set next : List ℕ) {root : ℕ} {set′ next′ after : List ℕ} {f g : Bool} → root ≡ valueAt tree 0 → next ≡ set
+    → Added set root set′ f → Added next root next′ g → NeededFrom tree 0 end read set′ next′ after → Needs tree end read set after
+needed-start tree end read set next {root} {set′} {next′} {after} v q a b N = record {
+  needs = λ d ds w u room s e.
+      let n : d .filename ≡ root = bundle-first w .file ∙ sym v in
       N .needs (d ∷ ds) (d ∷ ds) (d .filename ∷ []) w u w (rw (a .words, addBit-length set root) room) (omega arith, tt) (w .numbers .0, tt)
-      (rw (a .words, ← e) (set-add set [] (d .filename) s (room .0))) (b .words ∙ rw (q, ← a .words));
+      (rw (a .words, ← n) (set-add set [] (d .filename) s (room .0))) (b .words ∙ rw (q, ← a .words))
+      (covers-none read set′ (d ∷ ds) e (w .numbers));
 }
 
 -- `missing`

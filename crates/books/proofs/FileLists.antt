@@ -16,7 +16,7 @@ use Rattle.definition.specs.Book.{hasText}
 use Rattle.definition.specs.DependencySolver.{dependencies, dependenciesOf, findDocument, insertNumber, insertNumbers, reachedFrom, neededIn}
 use Rattle.definition.specs.DependencySolver.{missingBy, allIn}
 use Rattle.books.specs.Sets.{setSize, bitOf, addBit, addBits, allBits, SetIs, NextIn, Below, Ascends}
-use Rattle.books.specs.Solving.{InSets, Room, Distinct, files, reachBits}
+use Rattle.books.specs.Solving.{InSets, Room, Distinct, files, reachBits, Covers, Grows}
 use Rattle.books.proofs.SetBits.{add-bit}
 
 -- three cases of two numbers
@@ -272,13 +272,95 @@ set-reached set l next l′ ds i j u r w = record {
   has = λ m g. reach-bits set l ds next m i r w ∙ rw (j .has m g, ← asks-asked ds l m u) (sym (has-reached ds l l′ m));
 }
 
+-- numbers that are added leave the others in
+or-true : (b : Bool) {x : Bool} → x ≡ true → cond b true x ≡ true
+or-true true h = refl
+or-true false h = h
+
+pub grows-same : (bits : List ℕ) → Grows bits bits
+grows-same bits = record { stays = λ n h. h }
+
+pub add-grows : (bits : List ℕ) (n : ℕ) → n < length bits * 64 → Grows bits (addBit bits n)
+add-grows bits n l = record { stays = λ m h. add-bit bits n m (word-in bits n l) ∙ or-true (eqb n m) h }
+
+adds-grow : (bits ns : List ℕ) → Below (length bits * 64) ns → Grows bits (addBits bits ns)
+adds-grow bits ns b = record { stays = λ m h. add-bits bits ns m b ∙ or-true (hasText m ns) h }
+
+reach-grows : (set : List ℕ) (ds : List Document) (next : List ℕ) → Room next ds → Grows next (reachBits set ds next)
+reach-grows set [] next w = grows-same next
+reach-grows set (d ∷ ds) next w =
+    go (bitOf set (d .filename)) (reach-grows set ds (addBits next deps) (rw (addBits-length next deps) (w .2))) (reach-grows set ds next (w .2))
+  where
+    deps : List ℕ
+    deps = dependencies (d .definitions)
+
+    go : (t : Bool) → Grows (addBits next deps) (reachBits set ds (addBits next deps)) → Grows next (reachBits set ds next)
+        → Grows next (reachBits set ds (cond t (addBits next deps) next))
+    go true a b = record { stays = λ m h. a .stays m (adds-grow next deps (w .1) .stays m h) }
+    go false a b = b
+
+-- numbers that are all in a set
+all-of : (bits ns : List ℕ) → ((m : ℕ) → hasText m ns ≡ true → bitOf bits m ≡ true) → allBits bits ns ≡ true
+all-of bits [] h = refl
+all-of bits (n ∷ ns) h = rw (h n (has-head n ns)) (all-of bits ns (λ m e. h m (or-true (eqb n m) e)))
+
+all-stay : {bits larger : List ℕ} (ns : List ℕ) → Grows bits larger → allBits bits ns ≡ true → allBits larger ns ≡ true
+all-stay [] g h = refl
+all-stay {bits} {larger} (n ∷ ns) g h = go (bitOf bits n) refl h (λ e. all-stay ns g e)
+  where
+    go : (t : Bool) → bitOf bits n ≡ t → cond t (allBits bits ns) false ≡ true → (allBits bits ns ≡ true → allBits larger ns ≡ true)
+        → cond (bitOf larger n) (allBits larger ns) false ≡ true
+    go true q e r = rw (g .stays n q) (r e)
+    go false q e r = never (sym e)
+
+pub added-already : (bits ns : List ℕ) → allBits bits ns ≡ true → addBits bits ns ≡ bits
+unfolding addBit
+added-already bits [] h = refl
+added-already bits (n ∷ ns) h = go (bitOf bits n) refl h (λ e. added-already bits ns e)
+  where
+    go : (t : Bool) → bitOf bits n ≡ t → cond t (allBits bits ns) false ≡ true → (allBits bits ns ≡ true → addBits bits ns ≡ bits)
+        → addBits (addBit bits n) ns ≡ bits
+    go true q e r = rw q (r e)
+    go false q e r = never (sym e)
+
+-- documents that were read: none at first; what they include stays in; and those of a set, once what they include is reached
+pub covers-none : (read next : List ℕ) (ds : List Document) → SetIs read [] → InSets setSize ds → Covers read next ds
+covers-none read next [] i s = tt
+covers-none read next (d ∷ ds) i s = (λ h. never (sym h ∙ i .has (d .filename) (s .0)), covers-none read next ds i (s .2))
+
+covers-stay : (read next larger : List ℕ) (ds : List Document) → Grows next larger → Covers read next ds → Covers read larger ds
+covers-stay read next larger [] g c = tt
+covers-stay read next larger (d ∷ ds) g c = (λ h. all-stay (dependencies (d .definitions)) g (c .0 h), covers-stay read next larger ds g (c .1))
+
+pub covers-added : (read next ns : List ℕ) (ds : List Document) → Below (length next * 64) ns → Covers read next ds → Covers read (addBits next ns) ds
+covers-added read next ns ds b c = covers-stay read next (addBits next ns) ds (adds-grow next ns b) c
+
+pub covers-reached : (set : List ℕ) (ds : List Document) (next : List ℕ) → Room next ds → Covers set (reachBits set ds next) ds
+covers-reached set [] next w = tt
+covers-reached set (d ∷ ds) next w = go (bitOf set (d .filename)) refl (λ next′ w′. covers-reached set ds next′ w′)
+  where
+    deps : List ℕ
+    deps = dependencies (d .definitions)
+
+    added : Room (addBits next deps) ds
+    added = rw (addBits-length next deps) (w .2)
+
+    go : (t : Bool) → bitOf set (d .filename) ≡ t → ((next′ : List ℕ) → Room next′ ds → Covers set (reachBits set ds next′) ds)
+        → Covers set (reachBits set (d ∷ ds) next) (d ∷ ds)
+    go true q r = rw q (
+      λ h. all-stay deps (reach-grows set ds (addBits next deps) added)
+          (all-of (addBits next deps) deps (λ m e. add-bits next deps m (w .1) ∙ ap (λ (t : Bool). cond t true (bitOf next m)) e)),
+      r (addBits next deps) added,
+    )
+    go false q r = rw q (λ h. never (sym h), r next (w .2))
+
 -- nothing new is reached: no further round finds more
 pub needed-still : (k : ℕ) (ds : List Document) (l : List ℕ) → reachedFrom [] ds l l ≡ l → neededIn k [] ds l ≡ l
 unfolding neededIn
 needed-still zero ds l h = refl
 needed-still (suc k) ds l h = ap (λ (x : List ℕ). neededIn k [] ds x) h ∙ needed-still k ds l h
 
--- `all_in`
+-- numbers that are all in a set, by its words
 pub all-bits : (bits l ns : List ℕ) → SetIs bits l → Below setSize ns → allBits bits ns ≡ allIn ns l
 all-bits bits l [] i b = refl
 all-bits bits l (n ∷ ns) i b = rw (i .has n (b .0), all-bits bits l ns i (b .1))

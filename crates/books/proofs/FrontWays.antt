@@ -1,11 +1,12 @@
 -- Rows 2 to 6, one lemma for each way: what the routines found is what the definition's `answer` asks, one after the other. Assumes nothing.
-use Prim.Native.Nat.{ℕ, zero, suc, _+_, _*_, _/_, _<_}
+use Prim.Native.Nat.{ℕ, zero, suc, _+_, _-_, _*_, _/_, _<_}
 use native.Mathlib.Omega.{arith}
 use mathlib.Core.Path.{_≡_, refl, sym, ap, subst, _∙_}
 use mathlib.Core.Option.{Option, none, some}
 use mathlib.Core.List.{List, [], _∷_}
 use lib.ListN.{length, replicate, length-replicate}
 use Rattle.words.specs.Ast.{Document}
+use Rattle.words.specs.Areas.{clearedFrom}
 use Rattle.tree.specs.Check.{shapeOf}
 use Rattle.tree.specs.Reading.{documentsOf}
 use Rattle.tree.specs.declared.Shape.{Shape}
@@ -80,8 +81,19 @@ module _ (tree : List ℕ) {x : Shape} (shape-is : x ≡ shapeOf tree) (fine-is 
     accepted = λ z. absurd (omega arith);
   }
 
-  module _ (none-twice : r ≡ Nothing) {set : List ℕ} (N : Needs tree end chosen₀ set) (kept : length set ≡ length chosen₀) {m : Found}
-      (M : Misses set present′ m) where
+  -- the set of the file numbers is lent to `needed`, and made again after it
+  module _ (none-twice : r ≡ Nothing) {read again files′ set : List ℕ} {r′ m : Found} (read-is : read ≡ clearedFrom 0 present′)
+      (N : Needs tree end read chosen₀ set) (kept : length set ≡ length chosen₀)
+      (again-is : again ≡ replicate (length chosen₀) 0) (F′ : FindsTwice tree end again r′ files′) (M : Misses set files′ m) where
+    again-long : length again ≡ length chosen₀
+    again-long = ap length again-is ∙ length-replicate {A = ℕ} (length chosen₀) 0
+
+    finds-again : (ds : List Document) → Bundle ds tree 0 end → Twice tree end ds r′ files′
+    finds-again ds b = F′ .finds ds b (rw again-long (room ds b)) (rw again-is (set-empty (length chosen₀)))
+
+    none-again : r′ ≡ Nothing
+    none-again = finds-again (documentsOf tree) bundle .answer end-is ∙ sym (finds (documentsOf tree) bundle .answer end-is) ∙ none-twice
+
     once : twice [] tree (documentPlaces tree) ≡ none
     once = found-none (twice [] tree (documentPlaces tree)) (sym none-twice ∙ finds (documentsOf tree) bundle .answer end-is)
 
@@ -96,12 +108,12 @@ module _ (tree : List ℕ) {x : Shape} (shape-is : x ≡ shapeOf tree) (fine-is 
       distinct = finds (root ∷ others) bundled .distinct none-twice
 
       chosen : SetIs set numbers
-      chosen = N .needs root others bundled distinct (room (root ∷ others) bundled) empty
+      chosen = N .needs root others bundled distinct (room (root ∷ others) bundled) empty (rw read-is (set-empty (length present′ - 0)))
 
       absent : m ≡ foundOf (missing (root ∷ others) numbers)
       absent =
           M .misses (root ∷ others) numbers (needed-ascends root others) (needed-below root others (bundled .numbers)) chosen
-          (finds (root ∷ others) bundled .present none-twice)
+          (finds-again (root ∷ others) bundled .present none-again)
 
       so-far : (lengths : List ℕ) → answer tree lengths ≡ answerNeeded (missing (root ∷ others) numbers) numbers (root ∷ others) (limitsOf lengths) newContext
       unfolding answer answerFrom answerBundle

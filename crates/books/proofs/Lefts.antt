@@ -12,18 +12,12 @@ use lib.Dec.{eqb}
 use borrow.Author.Tests.{eqb-true, eqb-false, eq-eqb}
 use Rattle.words.specs.Ast.{Document}
 use Rattle.words.specs.Areas.{entryWord}
-use Rattle.tree.specs.At.{sizeDoc, runSize}
 use Rattle.definition.specs.Prior.{Entries, fileNumbers}
 use Rattle.definition.specs.Book.{Assembly, Context, bookCount}
-use Rattle.definition.specs.DependencySolver.{findDocument, missing, missingBy, allIn, dependencies, readyBy, ready, filesOf, loadedOf}
+use Rattle.definition.specs.DependencySolver.{findDocument, allIn, dependencies, readyBy, ready, filesOf, loadedOf}
 use Rattle.definition.specs.Within.{All, none, _&_}
-use Rattle.books.specs.Solving.{placeOf, bookUnit, bookWord, waiting, Stands}
+use Rattle.books.specs.Solving.{bookUnit, AllWait, Stands}
 use Rattle.books.specs.Driving.{Leaves}
-
--- where none is missing of some, none is of the rest
-missing-tail : (o : Option Document) (n : ℕ) (rest : Option ℕ) → missingBy o n rest ≡ none → rest ≡ none
-missing-tail none n rest h = absurd (let z : _≡_ {A = ℕ} 0 1 = cc in omega arith)
-missing-tail (some d) n rest h = h
 
 -- what holds of each document holds of the one that is ready
 module _ {P : Document → Type 0} where
@@ -79,38 +73,18 @@ added-at es as′ rest i h =
     let place : length es + i ≡ length (fileNumbers es) + i = omega (arith, numbers-length es) in
     rw (place, getD-append-add (fileNumbers es) (filesOf as′ ++ rest) i 0) (files-at as′ rest i h)
 
--- a book that is there: its entry begins with its number
-place-in : (n i : ℕ) (ds : List Document) {d : Document} → findDocument n ds ≡ some d → placeOf n i ds < i + runSize sizeDoc ds
-unfolding runSize
-place-in n i [] h = absurd (let z : _≡_ {A = ℕ} 0 1 = cc in omega arith)
-place-in n i (x ∷ ds) {d} h = go (λ q. place-in n (i + sizeDoc x) ds q) (eqb (x .filename) n) h
-  where
-    go : (findDocument n ds ≡ some d → placeOf n (i + sizeDoc x) ds < i + sizeDoc x + runSize sizeDoc ds) → (t : Bool)
-        → cond t (some x) (findDocument n ds) ≡ some d → cond t i (placeOf n (i + sizeDoc x) ds) < i + (sizeDoc x + runSize sizeDoc ds)
-    go r true q = omega arith
-    go r false q = omega (arith, r q)
-
-numbered : (ds : List Document) → runSize sizeDoc ds ≤ bookUnit → (l : List ℕ) → missing ds l ≡ none → All (λ (n : ℕ). bookWord ds n / bookUnit ≡ n) l
-numbered ds small [] h = none
-numbered ds small (n ∷ l) h =
-    go (findDocument n ds) refl h & numbered ds small l (missing-tail (findDocument n ds) n (missing ds l) h)
-  where
-    go : (o : Option Document) → findDocument n ds ≡ o → missingBy o n (missing ds l) ≡ none → bookWord ds n / bookUnit ≡ n
-    go none q r = absurd (let z : _≡_ {A = ℕ} 0 1 = cc in omega arith)
-    go (some d) q r = let below = place-in n 0 ds q in omega arith
-
-leaves-behind : (ds : List Document) (o pre left rest : List ℕ) → o ≡ pre ++ (waiting ds left ++ rest) → All (λ (n : ℕ). bookWord ds n / bookUnit ≡ n) left
-    → Leaves o (length pre) left
-leaves-behind ds o pre [] rest q a = tt
-leaves-behind ds o pre (n ∷ left) rest q (a & as′) =
-    let w = bookWord ds n in
+-- a book that waits: its entry begins with its number
+leaves-behind : (ds : List Document) (tree : List ℕ) (end : ℕ) (set o pre left ws rest : List ℕ) → o ≡ pre ++ (ws ++ rest)
+    → AllWait ds tree end set left ws → Leaves o (length pre) left
+leaves-behind ds tree end set o pre [] ws rest q h = tt
+leaves-behind ds tree end set o pre (n ∷ left) [] rest q h = absurd h
+leaves-behind ds tree end set o pre (n ∷ left) (w ∷ ws) rest q h =
     let place : length pre * 1 + 0 ≡ length pre = omega arith in
-    let here : entryWord 1 (length pre) 0 o ≡ w = rw (place, q) (getD-at pre w (waiting ds left ++ rest) 0 (length pre) refl) in
-    let again : o ≡ (pre ++ (w ∷ [])) ++ (waiting ds left ++ rest) = q ∙ sym (append-assoc pre (w ∷ []) (waiting ds left ++ rest)) in
+    let here : entryWord 1 (length pre) 0 o ≡ w = rw (place, q) (getD-at pre w (ws ++ rest) 0 (length pre) refl) in
+    let again : o ≡ (pre ++ (w ∷ [])) ++ (ws ++ rest) = q ∙ sym (append-assoc pre (w ∷ []) (ws ++ rest)) in
     let long : length (pre ++ (w ∷ [])) ≡ length pre + 1 = length-append pre (w ∷ []) in
-    (ap (λ (x : ℕ). x / bookUnit) here ∙ a, rw long at (leaves-behind ds o (pre ++ (w ∷ [])) left rest again as′))
+    (ap (λ (x : ℕ). x / bookUnit) here ∙ h .0 .number, rw long at (leaves-behind ds tree end set o (pre ++ (w ∷ [])) left ws rest again (h .1)))
 
 pub leaves-are : {ds : List Document} {tree : List ℕ} {end : ℕ} {files left rest books set compiled : List ℕ}
     → Stands ds tree end files left rest books set compiled → Leaves books (length files) left
-leaves-are {ds} {files = files} {left} {rest} {books} S =
-    leaves-behind ds books files left rest (S .words) (numbered ds (omega (arith, S .bundle .fills, S .limit)) left (S .there))
+leaves-are {ds} {tree} {end} {files} {left} {rest} {books} {set} S = leaves-behind ds tree end set books files left (S .words) rest (S .area) (S .waits)

@@ -27,7 +27,7 @@ use Rattle.building.proofs.Notes.{over-longer}
 use Rattle.documents.specs.declared.book.Book as struct
 use Rattle.bodies.specs.Meets.{skipC}
 use Rattle.books.specs.Sets.{addBit, SetIs, Ascends}
-use Rattle.books.specs.Solving.{InSets, bookUnit, waiting, booksOf, Stands, Ready, FindsReady, Brings}
+use Rattle.books.specs.Solving.{InSets, bookUnit, placeUnit, AllWait, Stands, Ready, FindsReady, Brings}
 use Rattle.documents.specs.Shelf.{shelf, Keeping, Shelved}
 use Rattle.documents.specs.Documents.{Resting, MeetsDocument}
 use Rattle.books.specs.Driving.{Leaves, Rung, Rings, Came, came-delivered, came-faulty, came-ring, Outcome, Driving, Drives}
@@ -35,8 +35,9 @@ use Rattle.documents.proofs.Calm.{Calms}
 use Rattle.books.proofs.Steadfast.{calm-definitions, drive-longer, after-longer, loaded-more}
 use Rattle.documents.proofs.PuttingAway.{putAway, put-away}
 use Rattle.books.proofs.Lefts.{all-ready, loaded-length, stood-at, added-at, leaves-are}
-use Rattle.books.proofs.StandsLaws.{without-length, without-ascends, without-missing}
-use Rattle.books.proofs.FileLists.{addBit-length, set-add}
+use Rattle.books.proofs.StandsLaws.{without-length, without-ascends, without-missing, WaitSplit, wait-split, waits-grow, none-waits}
+use Rattle.books.proofs.BookWays.{apart}
+use Rattle.books.proofs.FileLists.{addBit-length, set-add, add-grows}
 use Rattle.bodies.proofs.Tokens.{skip-law}
 
 module _ (calm : (d : Definition) → Calms (compileDefinition d)) {tree : List ℕ} {end done count : ℕ} {set books : List ℕ} {s : struct.Book}
@@ -51,7 +52,8 @@ module _ (calm : (d : Definition) → Calms (compileDefinition d)) {tree : List 
           → Outcome κ s c k f m p t l u n b e books rest 0 place (drive (length left) ds compiled left context uses)
       go ds [] rest compiled κ context uses D = record {
         full = D .resting .ready .full;
-        came = λ z. came-delivered refl (place-is ∙ D .so-many) (D .resting) (D .stands .words);
+        came = λ z. came-delivered refl (place-is ∙ D .so-many) (D .resting)
+            (D .stands .area ∙ ap (λ (x : List ℕ). loadedOf context ++ (x ++ rest)) (none-waits ds tree end set (D .stands .words) (D .stands .waits)));
       }
       go ds (x ∷ left) rest compiled κ context uses D = absurd (omega (arith, D .in-all))
 
@@ -73,43 +75,54 @@ in-sets size [] h = none
 in-sets size (d ∷ ds) h = h .0 & in-sets size ds (h .2)
 
 -- what is known after a book was compiled
-record Round (ds : List Document) (tree : List ℕ) (file : ℕ) (left rest compiled set books₁ : List ℕ) (κ : Limits) (s₁ : struct.Book)
+record Round (ds : List Document) (tree : List ℕ) (end file : ℕ) (left rest compiled set books₁ : List ℕ) (κ : Limits) (s₁ : struct.Book)
     (c₁ k₁ f₁ m₁ p₁ t₁ l₁ u₁ n₁ b₁ e₁ : List ℕ) (context : Context) (uses : List Use) : Type 0 where
   book : Document
   is : ready ds compiled left ≡ some book
   same : file ≡ book .filename
   one-less : length left ≡ suc (length (without file left))
-  words : books₁ ≡ booksOf ds (loadedOf context ++ (file ∷ [])) (without file left) rest
+  words : List ℕ
+  area : books₁ ≡ (loadedOf context ++ (file ∷ [])) ++ (words ++ rest)
+  waits : AllWait ds tree end set (without file left) words
   small : file < length set * 64
   kept : Keeping κ [] (shelf s₁ c₁ k₁ f₁ m₁ p₁ t₁ l₁ u₁ n₁ b₁ e₁) (compileDefinitions (book .definitions) (opened book context uses))
 
 module _ {tree : List ℕ} {end done count : ℕ} {set books : List ℕ} {s : struct.Book} {c k f m p t l u n b e : List ℕ} {r entry file at last : ℕ}
-    {books₁ : List ℕ} {s₁ : struct.Book} {c₁ k₁ f₁ m₁ p₁ t₁ l₁ u₁ n₁ b₁ e₁ : List ℕ} (N : FindsReady tree end done count set books r) (inside : r < count)
-    (entry-is : entry ≡ entryField 1 r 0 books) (file-is : file ≡ entry / bookUnit) (at-is : at ≡ entry % bookUnit) (B : Brings books done r file books₁)
+    {marked books₁ : List ℕ} {s₁ : struct.Book} {c₁ k₁ f₁ m₁ p₁ t₁ l₁ u₁ n₁ b₁ e₁ : List ℕ} (N : FindsReady tree end done count set books r marked)
+    (inside : r < count) (entry-is : entry ≡ entryField 1 r 0 marked) (file-is : file ≡ entry / bookUnit) (at-is : at ≡ entry % placeUnit)
+    (B : Brings marked done r file books₁)
     (last-is : last ≡ skipC tree at end)
     (M : MeetsDocument tree at last done books₁ s c k f m p t l u n b e (shelf s₁ c₁ k₁ f₁ m₁ p₁ t₁ l₁ u₁ n₁ b₁ e₁)) where
   round : (ds : List Document) (left rest compiled : List ℕ) (κ : Limits) (context : Context) (uses : List Use)
       → Driving ds tree end done count left rest compiled set books κ s c k f m p t l u n b e context uses
-      → Round ds tree file left rest compiled set books₁ κ s₁ c₁ k₁ f₁ m₁ p₁ t₁ l₁ u₁ n₁ b₁ e₁ context uses
+      → Round ds tree end file left rest compiled set books₁ κ s₁ c₁ k₁ f₁ m₁ p₁ t₁ l₁ u₁ n₁ b₁ e₁ context uses
   round ds left rest compiled κ context uses D =
       let files = loadedOf context in
       let many : done ≡ length files = D .so-many ∙ sym (loaded-length context) in
       let Q = N .found ds files left rest compiled (D .stands) many (D .in-all) inside in
       let d = Q .book in
       let same : file ≡ d .filename = file-is ∙ ap (λ (x : ℕ). x / bookUnit) entry-is ∙ Q .file in
-      let place : at ≡ entryField 1 r 0 books % bookUnit = at-is ∙ ap (λ (x : ℕ). x % bookUnit) entry-is in
+      let place : at ≡ entryField 1 r 0 marked % placeUnit = at-is ∙ ap (λ (x : ℕ). x % placeUnit) entry-is in
       let split : left ≡ Q .before ++ (file ∷ Q .later) = Q .split ∙ rw same in
-      let words : books₁ ≡ booksOf ds (files ++ (file ∷ [])) (without file left) rest =
-      B .brings ds files left rest (Q .before) (Q .later) (D .stands .words) many (D .ascends) split (Q .index) in
+      let S = Q .stands in
+      let W = wait-split ds tree end set (Q .before) file (Q .later) (S .words) (subst (λ (x : List ℕ). AllWait ds tree end set x (S .words)) split (S .waits)) in
+      let out : without file left ≡ Q .before ++ Q .later
+      = ap (λ (x : List ℕ). without file x) split ∙ apart 0 (Q .before) file (Q .later) (subst (λ (x : List ℕ). Ascends 0 x) split (D .ascends)) in
+      let was : marked ≡ files ++ (W .front ++ (W .word ∷ (W .back ++ rest)))
+      = S .area ∙ ap (λ (x : List ℕ). files ++ (x ++ rest)) (W .is) ∙ simp append-assoc in
+      let area : books₁ ≡ (files ++ (file ∷ [])) ++ ((W .front ++ W .back) ++ rest)
+      = B .brings files (W .front) (W .back ++ rest) (W .word) was many (Q .index ∙ omega (arith, W .long)) ∙ simp append-assoc in
       let D′ : DocumentAt d tree at = rw place (Q .document) in
       let ends : last ≡ at + sizeDoc d = last-is ∙ skip-law tree at end (D′ .head) (omega arith) (rw place (Q .inside)) in
-      let shelved : Shelved books₁ context = record { stood = λ i h. stood-shown i h words; each = λ i h. shown i h words } in
+      let shelved : Shelved books₁ context = record { stood = λ i h. stood-shown i h _ area; each = λ i h. shown i h _ area } in
       record {
         book = d;
         is = Q .is;
         same = same;
         one-less = rw split (let h = without-length file (Q .before) (Q .later) in omega arith);
-        words = words;
+        words = W .front ++ W .back;
+        area = area;
+        waits = subst (λ (x : List ℕ). AllWait ds tree end set x (W .front ++ W .back)) (sym out) (W .others);
         small = rw same (all-ready ds compiled left (in-sets (length set * 64) ds (D .stands .room)) (Q .is));
         kept = M .meets d D′ (sym ends) (all-ready ds compiled left (D .limited) (Q .is)) κ context uses (D .so-many) shelved (D .resting);
       }
@@ -118,29 +131,26 @@ module _ {tree : List ℕ} {end done count : ℕ} {set books : List ℕ} {s : st
       stood = context .prior .books
 
       -- what stands behind the books that stood before and those put away
-      behind : List ℕ
-      behind = file ∷ (waiting ds (without file left) ++ rest)
+      in-order : (behind : List ℕ) → books₁ ≡ (loadedOf context ++ (file ∷ [])) ++ behind
+          → books₁ ≡ fileNumbers stood ++ (filesOf (context .assemblies) ++ (file ∷ behind))
+      in-order behind words = words ∙ simp append-assoc
 
-      in-order : books₁ ≡ booksOf ds (loadedOf context ++ (file ∷ [])) (without file left) rest
-          → books₁ ≡ fileNumbers stood ++ (filesOf (context .assemblies) ++ behind)
-      in-order words = words ∙ simp append-assoc
-
-      stood-shown : (i : ℕ) → i < length stood → books₁ ≡ booksOf ds (loadedOf context ++ (file ∷ [])) (without file left) rest
+      stood-shown : (i : ℕ) → i < length stood → (behind : List ℕ) → books₁ ≡ (loadedOf context ++ (file ∷ [])) ++ behind
           → entryWord 1 i 0 books₁ ≡ getD (getD stood i []) 0 0
-      stood-shown i h words =
+      stood-shown i h behind words =
           let first : i * 1 + 0 ≡ i = omega arith in
-          rw (first, in-order words) (stood-at stood (filesOf (context .assemblies) ++ behind) i h)
+          rw (first, in-order behind words) (stood-at stood (filesOf (context .assemblies) ++ (file ∷ behind)) i h)
 
-      shown : (i : ℕ) → i < length (context .assemblies) → books₁ ≡ booksOf ds (loadedOf context ++ (file ∷ [])) (without file left) rest
+      shown : (i : ℕ) → i < length (context .assemblies) → (behind : List ℕ) → books₁ ≡ (loadedOf context ++ (file ∷ [])) ++ behind
           → entryWord 1 (length stood + i) 0 books₁ ≡ getD (context .assemblies) i (record { filename = 0; index = 0; publics = [] }) .filename
-      shown i h words =
+      shown i h behind words =
           let first : (length stood + i) * 1 + 0 ≡ length stood + i = omega arith in
-          rw (first, in-order words) (added-at stood (context .assemblies) behind i h)
+          rw (first, in-order behind words) (added-at stood (context .assemblies) (file ∷ behind) i h)
 
   module _ (calm : (d : Definition) → Calms (compileDefinition d)) where
     -- what comes after the book: by its errors
     follows : {ds : List Document} {left rest compiled : List ℕ} {κ : Limits} {context : Context} {uses : List Use}
-        (R : Round ds tree file left rest compiled set books₁ κ s₁ c₁ k₁ f₁ m₁ p₁ t₁ l₁ u₁ n₁ b₁ e₁ context uses)
+        (R : Round ds tree end file left rest compiled set books₁ κ s₁ c₁ k₁ f₁ m₁ p₁ t₁ l₁ u₁ n₁ b₁ e₁ context uses)
         → drive (length left) ds compiled left context uses
         ≡ (let x = compileDefinitions (R .book .definitions) (opened (R .book) context uses) in afterBook (x .compiler .errors) file (putAway x) (x .uses)
         (λ c′ uses′. drive (length (without file left)) ds (file ∷ compiled) (without file left) c′ uses′))
@@ -196,7 +206,9 @@ module _ {tree : List ℕ} {end done count : ℕ} {set books : List ℕ} {s : st
                 bundle = D .stands .bundle;
                 limit = D .stands .limit;
                 there = without-missing ds file left (D .stands .there);
-                words = rw files (R .words);
+                words = R .words;
+                area = rw files (R .area);
+                waits = rw set-is (waits-grow ds tree end (without file left) (R .words) (add-grows set file (R .small)) (R .waits));
                 held = rw set-is (set-add set compiled file (D .stands .held) (R .small));
                 room = rw (set-is, addBit-length set file) (D .stands .room);
               };
@@ -216,20 +228,20 @@ module _ {tree : List ℕ} {end done count : ℕ} {set books : List ℕ} {s : st
 
 -- no book is ready: a ring
 module _ {tree : List ℕ} {end done count : ℕ} {set books : List ℕ} {s : struct.Book} {c k f m p t l u n b e : List ℕ} {r place : ℕ} {x : Taken} {e₁ : List ℕ}
-    {s₁ : struct.Book} (z : s .full ≡ 0) (N : FindsReady tree end done count set books r) (inside : done < count) (past : count ≤ r)
-    (G : Rings done count books (taken 0 0) e x e₁) (full-is : s₁ .full ≡ x .full) (errors-are : s₁ .errors ≡ x .count) (place-is : done + place ≡ count) where
-  pub drive-ring : Drives tree end done count set books s c k f m p t l u n b e s₁ c k f m p t l u n b e₁ books 8 place
+    {marked : List ℕ} {s₁ : struct.Book} (z : s .full ≡ 0) (N : FindsReady tree end done count set books r marked) (inside : done < count) (past : count ≤ r)
+    (G : Rings done count marked (taken 0 0) e x e₁) (full-is : s₁ .full ≡ x .full) (errors-are : s₁ .errors ≡ x .count) (place-is : done + place ≡ count) where
+  pub drive-ring : Drives tree end done count set books s c k f m p t l u n b e s₁ c k f m p t l u n b e₁ marked 8 place
   unfolding drive
   drive-ring = record {
     drives = λ ds left rest compiled κ context uses D.
         let many : done ≡ length (loadedOf context) = D .so-many ∙ sym (loaded-length context) in
-        go ds left rest compiled κ context uses D (N .nothing ds (loadedOf context) left rest compiled (D .stands) many (D .in-all) past)
-        (rw (← many) at (leaves-are (D .stands)));
+        let Q = N .nothing ds (loadedOf context) left rest compiled (D .stands) many (D .in-all) past in
+        go ds left rest compiled κ context uses D (Q .is) (rw (← many) at (leaves-are (Q .stands)));
   }
     where
       go : (ds : List Document) (left rest compiled : List ℕ) (κ : Limits) (context : Context) (uses : List Use)
           → Driving ds tree end done count left rest compiled set books κ s c k f m p t l u n b e context uses → ready ds compiled left ≡ none
-          → Leaves books done left → Outcome κ s₁ c k f m p t l u n b e₁ books rest 8 place (drive (length left) ds compiled left context uses)
+          → Leaves marked done left → Outcome κ s₁ c k f m p t l u n b e₁ marked rest 8 place (drive (length left) ds compiled left context uses)
       go ds [] rest compiled κ context uses D q h = absurd (omega (arith, D .in-all))
       go ds (y ∷ left) rest compiled κ context uses D q h =
           let K = D .resting .ready in
@@ -240,7 +252,7 @@ module _ {tree : List ℕ} {end done count : ℕ} {set books : List ℕ} {s : st
           rw q (by all caps (K .full) R (decLe (length (y ∷ left)) (entriesIn 4 (length e))))
         where
           by : place ≡ length (y ∷ left) → entriesIn 4 (length e) ≡ limitOf κ errorsArea → Marks (firstOver κ uses) (s .full) → Rung [] (y ∷ left) e x e₁
-              → Dec (length (y ∷ left) ≤ entriesIn 4 (length e)) → Outcome κ s₁ c k f m p t l u n b e₁ books rest 8 place
+              → Dec (length (y ∷ left) ≤ entriesIn 4 (length e)) → Outcome κ s₁ c k f m p t l u n b e₁ marked rest 8 place
               (record { ending = Ring (y ∷ left); uses = using′ errorsArea (length (y ∷ left)) ∷ uses })
           by all caps marks R (yes fits) =
               let F = R .fits (omega arith) in

@@ -1,5 +1,5 @@
 -- What the compile loop needs of the solver's promises: zeros are an empty set, the books needed ascend and are in the range of texts, and those that
--- are left without one ascend and are there. Assumes nothing.
+-- are left without one ascend, are there and wait as before. Assumes nothing.
 use Prim.Native.Nat.{ℕ, zero, suc, _+_, _/_, _%_, _^_, _≤_}
 use native.Mathlib.Omega.{arith}
 use native.Mathlib.Nat.{zero-div}
@@ -13,8 +13,9 @@ use borrow.Author.Tests.{eq-eqb}
 use Rattle.words.specs.Ast.{Document}
 use Rattle.definition.specs.DependencySolver.{findDocument, missing, missingBy, needed, neededIn, reachedFrom, without}
 use Rattle.books.specs.Sets.{setSize, bitOf, SetIs, Below, Ascends}
-use Rattle.books.specs.Solving.{InSets}
+use Rattle.books.specs.Solving.{InSets, Grows, Waits, AllWait}
 use Rattle.books.proofs.FileLists.{reached-ascends, reached-below}
+use Rattle.books.proofs.BookWays.{read-grows}
 
 -- zeros are the empty set
 zero-at : (k i : ℕ) → getD (replicate {A = ℕ} k 0) i 0 ≡ 0
@@ -67,6 +68,45 @@ without-missing ds n (x ∷ xs) m = go (findDocument x ds) refl m (eqb x n) refl
     go none q h t e r = let z : _≡_ {A = ℕ} 0 1 = cc in absurd (omega arith)
     go (some d) q h true e r = rw e h
     go (some d) q h false e r = rw (e, q) (r h)
+
+-- the words of those that wait, without that of one
+pub record WaitSplit (ds : List Document) (tree : List ℕ) (end : ℕ) (set before later ws : List ℕ) : Type 0 where
+  pub front : List ℕ
+  pub word : ℕ
+  pub back : List ℕ
+  pub is : ws ≡ front ++ (word ∷ back)
+  pub long : length front ≡ length before
+  pub others : AllWait ds tree end set (before ++ later) (front ++ back)
+
+pub wait-split : (ds : List Document) (tree : List ℕ) (end : ℕ) (set before : List ℕ) (n : ℕ) (later ws : List ℕ)
+    → AllWait ds tree end set (before ++ (n ∷ later)) ws → WaitSplit ds tree end set before later ws
+wait-split ds tree end set [] n later [] h = absurd h
+wait-split ds tree end set [] n later (w ∷ ws) h = record { front = []; word = w; back = ws; is = refl; long = refl; others = h .1 }
+wait-split ds tree end set (x ∷ before) n later [] h = absurd h
+wait-split ds tree end set (x ∷ before) n later (w ∷ ws) h =
+    let t = wait-split ds tree end set before n later ws (h .1) in
+    record {
+      front = w ∷ t .front;
+      word = t .word;
+      back = t .back;
+      is = ap (λ (l : List ℕ). w ∷ l) (t .is);
+      long = ap suc (t .long);
+      others = (h .0, t .others);
+    }
+
+-- where no book is left none waits
+pub none-waits : (ds : List Document) (tree : List ℕ) (end : ℕ) (set ws : List ℕ) → AllWait ds tree end set [] ws → ws ≡ []
+none-waits ds tree end set [] h = refl
+none-waits ds tree end set (w ∷ ws) h = absurd h
+
+-- more books are compiled
+pub waits-grow : (ds : List Document) (tree : List ℕ) (end : ℕ) {set larger : List ℕ} (ns ws : List ℕ) → Grows set larger → AllWait ds tree end set ns ws
+    → AllWait ds tree end larger ns ws
+waits-grow ds tree end [] [] g h = tt
+waits-grow ds tree end [] (w ∷ ws) g h = absurd h
+waits-grow ds tree end (n ∷ ns) [] g h = absurd h
+waits-grow ds tree end (n ∷ ns) (w ∷ ws) g h =
+    (record { number = h .0 .number; place = h .0 .place; read = read-grows g (h .0 .read) }, waits-grow ds tree end ns ws g (h .1))
 
 -- one fewer where it is there
 pub without-length : (n : ℕ) (before later : List ℕ) → length (without n (before ++ (n ∷ later))) + 1 ≡ length (before ++ (n ∷ later))

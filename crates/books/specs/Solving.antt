@@ -11,13 +11,14 @@ use Rattle.words.specs.Ast.{Definition, Document}
 use Rattle.words.specs.Areas.{entriesIn, entryField, booksArea}
 use Rattle.words.specs.Record.{mostRecords}
 use Rattle.tree.specs.At.{RunAt, DefinitionAt, sizeD, DocumentAt, DocumentsAt, sizeDoc, runSize}
-use Rattle.definition.specs.DependencySolver.{dependencies, findDocument, needed, missing, ready, without}
+use Rattle.definition.specs.DependencySolver.{dependencies, findDocument, needed, missing, ready}
 use Rattle.definition.specs.Answer.{twice, documentPlaces}
 use Rattle.building.specs.declared.scopes.Found.{Found}
 use Rattle.building.specs.declared.scopes.Found.the-variants.{Nothing}
 use Rattle.building.specs.declared.taking.Taken.{Taken}
 use Rattle.building.specs.Taking.{taken}
 use Rattle.building.specs.Found.{foundOf}
+use Rattle.bodies.specs.Meets.{skipC}
 use Rattle.books.specs.Sets.{setSize, narrowSize, bitOf, addBits, allBits, SetIs, Below, Ascends}
 
 -- every file number, and every number that is included, is below a size
@@ -59,19 +60,25 @@ pub record Includes (tree : List ℕ) (at end : ℕ) (any : Bool) (set after : L
   pub adds : (defs : List Definition) → RunAt DefinitionAt sizeD defs tree at → at + runSize sizeD defs ≡ end → after ≡ addBits set (dependencies defs)
   pub still : r ≡ false → (any ≡ false) × (after ≡ set)
 
--- `reach`: what the documents of a set include, into the next
+-- what the documents of a set include, into the next
 abbrev pub reachBits : List ℕ → List Document → List ℕ → List ℕ
 reachBits set [] next = next
 reachBits set (d ∷ ds) next = reachBits set ds (cond (bitOf set (d .filename)) (addBits next (dependencies (d .definitions))) next)
 
-pub record Reaches (tree : List ℕ) (at end : ℕ) (set : List ℕ) (any : Bool) (next after : List ℕ) (r : Bool) : Type 0 where
-  pub adds : (ds : List Document) → Bundle ds tree at end → after ≡ reachBits set ds next
+-- the includes of documents that were read are in a set
+abbrev pub Covers : List ℕ → List ℕ → List Document → Type 0
+Covers read next [] = Unit {0}
+Covers read next (d ∷ ds) = (bitOf read (d .filename) ≡ true → allBits next (dependencies (d .definitions)) ≡ true) × Covers read next ds
+
+-- `reach`: the same, though documents that were read before are not read again
+pub record Reaches (tree : List ℕ) (at end : ℕ) (read set : List ℕ) (any : Bool) (next after : List ℕ) (r : Bool) : Type 0 where
+  pub adds : (ds : List Document) → Bundle ds tree at end → Room next ds → Covers read next ds → after ≡ reachBits set ds next
   pub still : r ≡ false → (any ≡ false) × (after ≡ next)
 
 -- `needed`: an empty set that has room becomes that of the books needed
-pub record Needs (tree : List ℕ) (end : ℕ) (set after : List ℕ) : Type 0 where
+pub record Needs (tree : List ℕ) (end : ℕ) (read set after : List ℕ) : Type 0 where
   pub needs : (root : Document) (others : List Document) → Bundle (root ∷ others) tree 0 end → Distinct (root ∷ others)
-      → Room set (root ∷ others) → SetIs set [] → SetIs after (needed [] root others)
+      → Room set (root ∷ others) → SetIs set [] → SetIs read [] → SetIs after (needed [] root others)
 
 -- `missing`: row 6, by the sets of the books needed and of those there
 pub record Misses (set present : List ℕ) (r : Found) : Type 0 where
@@ -108,10 +115,15 @@ pub record FindsNext (tree : List ℕ) (end n at above to bound : ℕ) : Type 0 
   pub finds : Skips tree end at n above → FindsDocument tree 0 end n to
   pub skips : Skips tree end at n above → Skips tree end to n bound
 
--- a book that waits in area 12: its file number, and below it the place of its document, which is below 1,048,576 (row 2)
+-- a word of area 12 for a book that waits: its file number times this; below it, in units of the next, how many records behind its document's were read;
+-- below that the place of its document. Places are below 1,048,576 (row 2)
 abbrev pub bookUnit : ℕ
-bookUnit = 1048576
+bookUnit = 1099511627776
 
+abbrev pub placeUnit : ℕ
+placeUnit = 1048576
+
+-- nothing is read when it is taken
 abbrev pub bookWord : List Document → ℕ → ℕ
 bookWord ds n = n * bookUnit + placeOf n 0 ds
 
@@ -119,15 +131,11 @@ abbrev pub waiting : List Document → List ℕ → List ℕ
 waiting ds [] = []
 waiting ds (n ∷ ns) = bookWord ds n ∷ waiting ds ns
 
--- area 12 while books are compiled: the file numbers of those done, those that are left, and the rest
-abbrev pub booksOf : List Document → List ℕ → List ℕ → List ℕ → List ℕ
-booksOf ds done left rest = done ++ (waiting ds left ++ rest)
-
 -- `take_books`: an entry for each book needed, where there is room for all; else the mark. With a mark set nothing changes
 pub record TakesBooks (tree : List ℕ) (end : ℕ) (set : List ℕ) (full : ℕ) (books : List ℕ) (r : Taken) (after : List ℕ) : Type 0 where
   pub marked : (full ≡ 0 → ⊥) → (r .full ≡ full) × (after ≡ books)
   pub fits : (ds : List Document) (numbers : List ℕ) → Bundle ds tree 0 end → Ascends 0 numbers → Below setSize numbers → SetIs set numbers → full ≡ 0
-      → length numbers ≤ entriesIn 1 (length books) → (r ≡ taken 0 (length numbers)) × (after ≡ booksOf ds [] numbers (drop (length numbers) books))
+      → length numbers ≤ entriesIn 1 (length books) → (r ≡ taken 0 (length numbers)) × (after ≡ waiting ds numbers ++ drop (length numbers) books)
   pub over : (ds : List Document) (numbers : List ℕ) → Bundle ds tree 0 end → Ascends 0 numbers → Below setSize numbers → SetIs set numbers → full ≡ 0
       → entriesIn 1 (length books) < length numbers → r .full ≡ booksArea
 
@@ -140,39 +148,74 @@ pub record NarrowIncludes (tree : List ℕ) (at end : ℕ) (r : Bool) : Type 0 w
 pub record Narrows (tree : List ℕ) (at end : ℕ) (r : Bool) : Type 0 where
   pub below : r ≡ true → (ds : List Document) → Bundle ds tree at end → InSets narrowSize ds
 
--- `all_in`: whether the includes among the definitions from a place up to the end are all in a set
+-- whether the includes among the definitions from a place up to the end are all in a set
 pub record AllIncluded (tree : List ℕ) (at end : ℕ) (set : List ℕ) (r : Bool) : Type 0 where
   pub all : (defs : List Definition) → RunAt DefinitionAt sizeD defs tree at → at + runSize sizeD defs ≡ end → r ≡ allBits set (dependencies defs)
 
--- where the work stands when the next book is looked for: what is in area 12, of the books that are left all are there, and the set of those compiled, which
--- has room for the others
+-- the numbers of a set are in another
+pub record Grows (set larger : List ℕ) : Type 0 where
+  pub stays : (n : ℕ) → bitOf set n ≡ true → bitOf larger n ≡ true
+
+-- the includes from a place up to another are all in a set: whether all up to the end are, in it or in a larger one, is asked from there on
+pub record ReadTo (tree : List ℕ) (at to end : ℕ) (set : List ℕ) : Type 0 where
+  pub on : (larger : List ℕ) (r : Bool) → Grows set larger → AllIncluded tree to end larger r → AllIncluded tree at end larger r
+
+-- `first_uncompiled`: the place of the first include from a place on that is not in a set, or the end
+pub record FirstUncompiled (tree : List ℕ) (at end : ℕ) (set : List ℕ) (r : ℕ) : Type 0 where
+  pub later : at ≤ r
+  pub read : ReadTo tree at r end set
+  pub all : end ≤ r → AllIncluded tree at end set true
+  pub not-all : r < end → AllIncluded tree at end set false
+
+-- the word of a book that waits: what was read of it are includes of compiled books, and other definitions
+pub record Waits (ds : List Document) (tree : List ℕ) (end : ℕ) (set : List ℕ) (n w : ℕ) : Type 0 where
+  pub number : w / bookUnit ≡ n
+  pub place : w % placeUnit ≡ placeOf n 0 ds
+  pub read : ReadTo tree (placeOf n 0 ds + 1) (placeOf n 0 ds + 1 + w / placeUnit % placeUnit) (skipC tree (placeOf n 0 ds) end) set
+
+-- those of several, one for each
+abbrev pub AllWait : List Document → List ℕ → ℕ → List ℕ → List ℕ → List ℕ → Type 0
+AllWait ds tree end set [] [] = Unit {0}
+AllWait ds tree end set [] (w ∷ ws) = ⊥
+AllWait ds tree end set (n ∷ ns) [] = ⊥
+AllWait ds tree end set (n ∷ ns) (w ∷ ws) = Waits ds tree end set n w × AllWait ds tree end set ns ws
+
+-- where the work stands when the next book is looked for: in area 12 the file numbers of the books done, the words of those that are left, and the rest; of the
+-- books that are left all are there; and the set of those compiled, which has room for the others
 pub record Stands (ds : List Document) (tree : List ℕ) (end : ℕ) (done left rest books set compiled : List ℕ) : Type 0 where
   pub bundle : Bundle ds tree 0 end
   pub limit : end ≤ mostRecords
   pub there : missing ds left ≡ none
-  pub words : books ≡ booksOf ds done left rest
+  pub words : List ℕ
+  pub area : books ≡ done ++ (words ++ rest)
+  pub waits : AllWait ds tree end set left words
   pub held : SetIs set compiled
   pub room : Room set ds
 
--- `next_ready`: the book at entry r of area 12 is the next
-pub record Ready (ds : List Document) (tree : List ℕ) (end done : ℕ) (left books compiled : List ℕ) (r : ℕ) : Type 0 where
+-- `next_ready`: the book at entry r of area 12 is the next; how far the books ahead of it were read is written down
+pub record Ready (ds : List Document) (tree : List ℕ) (end : ℕ) (files left rest after set compiled : List ℕ) (r : ℕ) : Type 0 where
   pub book : Document
   pub is : ready ds compiled left ≡ some book
-  pub file : entryField 1 r 0 books / bookUnit ≡ book .filename
-  pub document : DocumentAt book tree (entryField 1 r 0 books % bookUnit)
-  pub inside : entryField 1 r 0 books % bookUnit + sizeDoc book ≤ end
+  pub file : entryField 1 r 0 after / bookUnit ≡ book .filename
+  pub document : DocumentAt book tree (entryField 1 r 0 after % placeUnit)
+  pub inside : entryField 1 r 0 after % placeUnit + sizeDoc book ≤ end
   pub before : List ℕ
   pub later : List ℕ
   pub split : left ≡ before ++ (book .filename ∷ later)
-  pub index : r ≡ done + length before
+  pub index : r ≡ length files + length before
+  pub stands : Stands ds tree end files left rest after set compiled
 
-pub record FindsReady (tree : List ℕ) (end done count : ℕ) (set books : List ℕ) (r : ℕ) : Type 0 where
+pub record NoneReady (ds : List Document) (tree : List ℕ) (end : ℕ) (files left rest after set compiled : List ℕ) : Type 0 where
+  pub is : ready ds compiled left ≡ none
+  pub stands : Stands ds tree end files left rest after set compiled
+
+pub record FindsReady (tree : List ℕ) (end done count : ℕ) (set books : List ℕ) (r : ℕ) (after : List ℕ) : Type 0 where
   pub found : (ds : List Document) (files left rest compiled : List ℕ) → Stands ds tree end files left rest books set compiled → done ≡ length files
-      → count ≡ done + length left → r < count → Ready ds tree end done left books compiled r
+      → count ≡ done + length left → r < count → Ready ds tree end files left rest after set compiled r
   pub nothing : (ds : List Document) (files left rest compiled : List ℕ) → Stands ds tree end files left rest books set compiled → done ≡ length files
-      → count ≡ done + length left → count ≤ r → ready ds compiled left ≡ none
+      → count ≡ done + length left → count ≤ r → NoneReady ds tree end files left rest after set compiled
 
--- `bring`: the file number of the next book behind those done, the others that are left after it
+-- `bring`: a number in the place of entry `done`, the entries from there up to entry k one further; that of k goes
 pub record Brings (books : List ℕ) (done k file : ℕ) (after : List ℕ) : Type 0 where
-  pub brings : (ds : List Document) (files left rest before later : List ℕ) → books ≡ booksOf ds files left rest → done ≡ length files → Ascends 0 left
-      → left ≡ before ++ (file ∷ later) → k ≡ done + length before → after ≡ booksOf ds (files ++ (file ∷ [])) (without file left) rest
+  pub brings : (files before later : List ℕ) (word : ℕ) → books ≡ files ++ (before ++ (word ∷ later)) → done ≡ length files → k ≡ done + length before
+      → after ≡ files ++ (file ∷ (before ++ later))

@@ -65,7 +65,10 @@ fn front(tree: &[u64], chosen: &mut [u64], present: &mut [u64], next: &mut [u64]
             place,
         };
     }
-    solver::needed(tree, end, chosen, next);
+    areas::clear_from(present, 0);
+    solver::needed(tree, end, present, chosen, next);
+    areas::clear_from(present, 0);
+    solver::twice(tree, end, present);
     let absent = solver::missing(chosen, present);
     if let Found::At(place) = absent {
         return Row {
@@ -196,7 +199,7 @@ fn drive(
         }
         let entry = areas::entry_word(books, areas::BOOK_WORDS, next, 0);
         let file = entry / solver::BOOK_UNIT;
-        let at = (entry % solver::BOOK_UNIT) as usize;
+        let at = (entry % solver::PLACE_UNIT) as usize;
         solver::bring(books, done, next, file);
         let last = bodies::skip(tree, at, end);
         b = documents::document(

@@ -4,8 +4,8 @@ ghost use mathlib.Core.Bool.{true, false, cond};
 ghost use Prim.Native.Nat.{_≤_, _<_};
 ghost use lib.ListN.{length};
 ghost use Rattle.books.specs.Sets.{bitOf, Added, NextIn, Passes, Zeros, setSize};
-ghost use Rattle.books.specs.Solving.{FindsTwice, Includes, Reaches, Needs, Misses, Lowers, Resumes, FindsNext, TakesBooks, AllIncluded};
-ghost use Rattle.books.specs.Solving.{FindsReady, Brings, NarrowIncludes, Narrows};
+ghost use Rattle.books.specs.Solving.{FindsTwice, Includes, Reaches, Needs, Misses, Lowers, Resumes, FindsNext, TakesBooks};
+ghost use Rattle.books.specs.Solving.{FirstUncompiled, FindsReady, Brings, NarrowIncludes, Narrows};
 ghost use Rattle.words.specs.Record.{mostRecords};
 use bodies::skip;
 use building::scopes::Found;
@@ -22,8 +22,10 @@ const SET_WORDS: usize = 16384;
 // A set of 64 words has a bit for every number below this.
 const NARROW: u64 = 4096;
 
-// A book that waits in area 12 is its file number times this and the place of its document.
-pub(crate) const BOOK_UNIT: u64 = 1048576;
+// A book that waits in area 12 is its file number times this, how many records behind its document's were read times the next, and the place of its document.
+pub(crate) const BOOK_UNIT: u64 = 1099511627776;
+
+pub(crate) const PLACE_UNIT: u64 = 1048576;
 
 pub(crate) fn has(set: &[u64], n: u64) -> bool
     ensures { λ r. ⌜ r ≡ bitOf (now (set .entry)) n ⌝ }
@@ -178,16 +180,25 @@ fn add_includes(tree: &[u64], at: usize, end: usize, any: bool, set: &mut [u64])
     grew
 }
 
-// One reading of the documents: the includes of those in the set, into the next. Whether there was a new one.
-fn reach(tree: &[u64], end: usize, set: &[u64], next: &mut [u64]) -> bool
-    ensures { λ r. ⌜ Reaches (now (tree .entry)) 0 end (now (set .entry)) false (now (next .entry)) (now (next .exit)) r ⌝ }
+fn unread(read: &[u64], set: &[u64], file: u64) -> bool
+    ensures { λ r. ⌜ r ≡ cond (bitOf (now (read .entry)) file) false (bitOf (now (set .entry)) file) ⌝ }
+{
+    if has(read, file) {
+        return false;
+    }
+    has(set, file)
+}
+
+// One reading of the documents: the includes of those in the set that were not read before, into the next. Whether there was a new one.
+fn reach(tree: &[u64], end: usize, read: &[u64], set: &[u64], next: &mut [u64]) -> bool
+    ensures { λ r. ⌜ Reaches (now (tree .entry)) 0 end (now (read .entry)) (now (set .entry)) false (now (next .entry)) (now (next .exit)) r ⌝ }
 {
     let mut grew = false;
     let mut i: usize = 0;
     while i < end {
         let last = skip(tree, i, end);
         let file = field(tree, i, record::VALUE);
-        if has(set, file) {
+        if unread(read, set, file) {
             grew = add_includes(tree, i + 1, last, grew, next);
         }
         i = last;
@@ -206,19 +217,21 @@ fn copy(from: &[u64], to: &mut [u64])
     }
 }
 
-// The books needed, from two empty sets: as many rounds as there are documents, or until one finds nothing new.
-pub(crate) fn needed(tree: &[u64], end: usize, set: &mut [u64], next: &mut [u64])
-    requires { ⌜ now next ≡ now set ⌝ }
-    ensures { λ _. ⌜ Needs (now (tree .entry)) end (now (set .entry)) (now (set .exit)) ⌝ }
+// The books needed, from three empty sets: as many rounds as there are documents, or until one finds nothing new. A document is read in one round, the next after
+// it was found.
+pub(crate) fn needed(tree: &[u64], end: usize, read: &mut [u64], set: &mut [u64], next: &mut [u64])
+    requires { ⌜ (length (now read) ≡ length (now set)) × (now next ≡ now set) ⌝ }
+    ensures { λ _. ⌜ Needs (now (tree .entry)) end (now (read .entry)) (now (set .entry)) (now (set .exit)) ⌝ }
 {
     let root = field(tree, 0, record::VALUE);
     add(set, root);
     add(next, root);
     let mut i: usize = 0;
     while i < end {
-        if !reach(tree, end, set, next) {
+        if !reach(tree, end, read, set, next) {
             return;
         }
+        copy(set, read);
         copy(next, set);
         i = skip(tree, i, end);
     }
@@ -331,9 +344,9 @@ pub(crate) fn take_books(
     t
 }
 
-// Whether the includes are all in the set.
-fn all_in(tree: &[u64], at: usize, end: usize, set: &[u64]) -> bool
-    ensures { λ r. ⌜ AllIncluded (now (tree .entry)) at end (now (set .entry)) r ⌝ }
+// The place of the first include from a place on whose book is not compiled, or the end.
+fn first_uncompiled(tree: &[u64], at: usize, end: usize, compiled: &[u64]) -> usize
+    ensures { λ r. ⌜ FirstUncompiled (now (tree .entry)) at end (now (compiled .entry)) r ⌝ }
 {
     let mut j = at;
     while j < end {
@@ -341,40 +354,46 @@ fn all_in(tree: &[u64], at: usize, end: usize, set: &[u64]) -> bool
         let kind = field(tree, j, record::KIND);
         if kind == record::INCLUDE_DEFINITION {
             let file = field(tree, j, record::VALUE);
-            if !has(set, file) {
-                return false;
+            if !has(compiled, file) {
+                return j;
             }
         }
         j = next;
     }
-    true
+    j
 }
 
-// The first of the waiting books, from entry `done` on, whose includes are all compiled; the count where there is none.
+// The first of the waiting books, from entry `done` on, whose includes are all compiled; the count where there is none. A book that is not ready is read up to the
+// include that it waits for, and from there on the next time: what is compiled stays so.
 pub(crate) fn next_ready(
     tree: &[u64],
     end: usize,
     done: usize,
     count: usize,
     compiled: &[u64],
-    books: &[u64],
+    books: &mut [u64],
 ) -> usize
-    ensures { λ r. ⌜ FindsReady (now (tree .entry)) end done count (now (compiled .entry)) (now (books .entry)) r ⌝ }
+    ensures { λ r. ⌜ FindsReady (now (tree .entry)) end done count (now (compiled .entry)) (now (books .entry)) r (now (books .exit)) ⌝ }
 {
     let mut k = done;
     while k < count {
         let entry = areas::entry_word(books, areas::BOOK_WORDS, k, 0);
-        let at = (entry % BOOK_UNIT) as usize;
+        let at = (entry % PLACE_UNIT) as usize;
+        let from = at + 1 + (entry / PLACE_UNIT % PLACE_UNIT) as usize;
         let last = skip(tree, at, end);
-        if all_in(tree, at + 1, last, compiled) {
+        let stop = first_uncompiled(tree, from, last, compiled);
+        if last <= stop {
             return k;
         }
+        let read = (stop - at - 1) as u64 % PLACE_UNIT;
+        let word = entry / BOOK_UNIT * BOOK_UNIT + read * PLACE_UNIT + entry % PLACE_UNIT;
+        areas::write_word(books, areas::BOOK_WORDS, k, 0, word);
         k += 1;
     }
     k
 }
 
-// The file number of the book at entry k goes to the place of the first waiting one, those between one up.
+// The file number of the book at entry k goes to the place of the first waiting one, those between one further.
 pub(crate) fn bring(books: &mut [u64], done: usize, k: usize, file: u64)
     ensures { λ _. ⌜ Brings (now (books .entry)) done k file (now (books .exit)) ⌝ }
 {

@@ -43,155 +43,157 @@ loop-holds c =
 
 same-length : tie.Need-same-length Inv-loop μ-loop
 same-length c =
-    let c10 = c .before .before .before .before .before .before .before .before .before .before in
-    (c10 .loop .inv .1)
+    let c12 = c .before .before .before .before .before .before .before .before .before .before .before .before in
+    (c12 .loop .inv .1)
 
 same-length-2 : tie.Need-same-length-2 Inv-loop μ-loop
 same-length-2 c =
-    let c10 = c .before .before .before .before .before .before .before .before .before .before in
-    (c10 .loop .inv .2)
+    let c12 = c .before .before .before .before .before .before .before .before .before .before .before .before in
+    (c12 .loop .inv .2)
 
 same-length-3 : tie.Need-same-length-3 Inv-loop μ-loop
 same-length-3 c =
-    let c10 = c .before .before .before .before .before .before .before .before .before .before in
-    (c10 .loop .inv .3)
+    let c12 = c .before .before .before .before .before .before .before .before .before .before .before .before in
+    (c12 .loop .inv .3)
 
 same-length-4 : tie.Need-same-length-4 Inv-loop μ-loop
 same-length-4 c =
-    let c10 = c .before .before .before .before .before .before .before .before .before .before in
-    (c10 .loop .inv .4)
+    let c12 = c .before .before .before .before .before .before .before .before .before .before .before .before in
+    (c12 .loop .inv .4)
 
 same-length-5 : tie.Need-same-length-5 Inv-loop μ-loop
 same-length-5 c =
-    let c10 = c .before .before .before .before .before .before .before .before .before .before in
-    (c10 .loop .inv .5)
+    let c12 = c .before .before .before .before .before .before .before .before .before .before .before .before in
+    (c12 .loop .inv .5)
 
 same-length-6 : tie.Need-same-length-6 Inv-loop μ-loop
 same-length-6 c =
-    let c10 = c .before .before .before .before .before .before .before .before .before .before in
-    (c10 .loop .inv .6)
+    let c12 = c .before .before .before .before .before .before .before .before .before .before .before .before in
+    (c12 .loop .inv .6)
 
 same-length-7 : tie.Need-same-length-7 Inv-loop μ-loop
 same-length-7 c =
-    let c10 = c .before .before .before .before .before .before .before .before .before .before in
-    (c10 .loop .inv .7)
+    let c12 = c .before .before .before .before .before .before .before .before .before .before .before .before in
+    (c12 .loop .inv .7)
 
 same-length-8 : tie.Need-same-length-8 Inv-loop μ-loop
 same-length-8 c =
-    let c10 = c .before .before .before .before .before .before .before .before .before .before in
-    (c10 .loop .inv .8)
+    let c12 = c .before .before .before .before .before .before .before .before .before .before .before .before in
+    (c12 .loop .inv .8)
 
 same-length-9 : tie.Need-same-length-9 Inv-loop μ-loop
 same-length-9 c =
-    let c10 = c .before .before .before .before .before .before .before .before .before .before in
-    (c10 .loop .inv .9)
+    let c12 = c .before .before .before .before .before .before .before .before .before .before .before .before in
+    (c12 .loop .inv .9)
 
 same-length-10 : tie.Need-same-length-10 Inv-loop μ-loop
 same-length-10 c =
-    let c10 = c .before .before .before .before .before .before .before .before .before .before in
-    (c10 .loop .inv .10)
+    let c12 = c .before .before .before .before .before .before .before .before .before .before .before .before in
+    (c12 .loop .inv .10)
 
 same-length-11 : tie.Need-same-length-11 Inv-loop μ-loop
 same-length-11 c =
-    let c10 = c .before .before .before .before .before .before .before .before .before .before in
-    (c .before .before .ring .kept .1 .1 .0) ∙ (c10 .loop .inv .11)
+    let c12 = c .before .before .before .before .before .before .before .before .before .before .before .before in
+    (c .before .before .ring .kept .1 .1 .0) ∙ (c12 .loop .inv .11)
 
 same-length-12 : tie.Need-same-length-12 Inv-loop μ-loop
 same-length-12 c =
-    let c10 = c .before .before .before .before .before .before .before .before .before .before in
-    (c10 .loop .inv .12)
+    let c8 = c .before .before .before .before .before .before .before .before in
+    let c12 = c8 .before .before .before .before in
+    (c8 .next-ready .kept .1 .1 .1 .1 .1 .0) ∙ (c12 .loop .inv .12)
 
 same-length-13 : tie.Need-same-length-13 Inv-loop μ-loop
 same-length-13 c =
-    let c10 = c .before .before .before .before .before .before .before .before .before .before in
-    (c10 .loop .inv .13)
+    let c12 = c .before .before .before .before .before .before .before .before .before .before .before .before in
+    (c12 .loop .inv .13)
 
 returns : tie.Need-returns Inv-loop μ-loop
 returns c =
     let c5 = c .before .before .before .before .before in
-    let c6 = c5 .before in
-    let c9 = c6 .before .before .before in
-    let c10 = c9 .before in
-    c10 .loop .inv .14 _ _ _ _ _ _ _ _ _ _ _ _ _ 8 _ (drive-ring (c10 .loop .inv .0) (c6 .next-ready .ensures) (c9 .loop-test .taken) (c5 .if1 .taken)
+    let c8 = c5 .before .before .before in
+    let c11 = c8 .before .before .before in
+    let c12 = c11 .before in
+    c12 .loop .inv .14 _ _ _ _ _ _ _ _ _ _ _ _ _ 8 _ (drive-ring (c12 .loop .inv .0) (c8 .next-ready .ensures) (c11 .loop-test .taken) (c5 .if1 .taken)
     (c .before .before .ring .ensures) refl refl
-    (omega (arith, c9 .loop-test .taken)))
+    (omega (arith, c11 .loop-test .taken)))
 
 same-length-14 : tie.Need-same-length-14 Inv-loop μ-loop
 same-length-14 c =
     let c24 = c .before .before .before .before .before .before .before .before .before .before .before .before .before .before .before .before .before .before .before .before .before .before .before .before in
-    let c49 = c24 .before .before .before .before .before .before .before .before .before .before .before .before .before .before .before .before .before .before .before .before .before .before .before .before .before in
-    (c24 .document .kept .1 .1 .1 .1 .1 .0) ∙ (c49 .loop .inv .1)
+    let c51 = c24 .before .before .before .before .before .before .before .before .before .before .before .before .before .before .before .before .before .before .before .before .before .before .before .before .before .before .before in
+    (c24 .document .kept .1 .1 .1 .1 .1 .0) ∙ (c51 .loop .inv .1)
 
 same-length-15 : tie.Need-same-length-15 Inv-loop μ-loop
 same-length-15 c =
     let c24 = c .before .before .before .before .before .before .before .before .before .before .before .before .before .before .before .before .before .before .before .before .before .before .before .before in
-    let c49 = c24 .before .before .before .before .before .before .before .before .before .before .before .before .before .before .before .before .before .before .before .before .before .before .before .before .before in
-    (c24 .document .kept .1 .1 .1 .1 .1 .1 .0) ∙ (c49 .loop .inv .2)
+    let c51 = c24 .before .before .before .before .before .before .before .before .before .before .before .before .before .before .before .before .before .before .before .before .before .before .before .before .before .before .before in
+    (c24 .document .kept .1 .1 .1 .1 .1 .1 .0) ∙ (c51 .loop .inv .2)
 
 same-length-16 : tie.Need-same-length-16 Inv-loop μ-loop
 same-length-16 c =
     let c24 = c .before .before .before .before .before .before .before .before .before .before .before .before .before .before .before .before .before .before .before .before .before .before .before .before in
-    let c49 = c24 .before .before .before .before .before .before .before .before .before .before .before .before .before .before .before .before .before .before .before .before .before .before .before .before .before in
-    (c24 .document .kept .1 .1 .1 .1 .1 .1 .1 .0) ∙ (c49 .loop .inv .3)
+    let c51 = c24 .before .before .before .before .before .before .before .before .before .before .before .before .before .before .before .before .before .before .before .before .before .before .before .before .before .before .before in
+    (c24 .document .kept .1 .1 .1 .1 .1 .1 .1 .0) ∙ (c51 .loop .inv .3)
 
 same-length-17 : tie.Need-same-length-17 Inv-loop μ-loop
 same-length-17 c =
     let c24 = c .before .before .before .before .before .before .before .before .before .before .before .before .before .before .before .before .before .before .before .before .before .before .before .before in
-    let c49 = c24 .before .before .before .before .before .before .before .before .before .before .before .before .before .before .before .before .before .before .before .before .before .before .before .before .before in
-    (c24 .document .kept .1 .1 .1 .1 .1 .1 .1 .1 .0) ∙ (c49 .loop .inv .4)
+    let c51 = c24 .before .before .before .before .before .before .before .before .before .before .before .before .before .before .before .before .before .before .before .before .before .before .before .before .before .before .before in
+    (c24 .document .kept .1 .1 .1 .1 .1 .1 .1 .1 .0) ∙ (c51 .loop .inv .4)
 
 same-length-18 : tie.Need-same-length-18 Inv-loop μ-loop
 same-length-18 c =
     let c24 = c .before .before .before .before .before .before .before .before .before .before .before .before .before .before .before .before .before .before .before .before .before .before .before .before in
-    let c49 = c24 .before .before .before .before .before .before .before .before .before .before .before .before .before .before .before .before .before .before .before .before .before .before .before .before .before in
-    (c24 .document .kept .1 .1 .1 .1 .1 .1 .1 .1 .1 .0) ∙ (c49 .loop .inv .5)
+    let c51 = c24 .before .before .before .before .before .before .before .before .before .before .before .before .before .before .before .before .before .before .before .before .before .before .before .before .before .before .before in
+    (c24 .document .kept .1 .1 .1 .1 .1 .1 .1 .1 .1 .0) ∙ (c51 .loop .inv .5)
 
 same-length-19 : tie.Need-same-length-19 Inv-loop μ-loop
 same-length-19 c =
     let c24 = c .before .before .before .before .before .before .before .before .before .before .before .before .before .before .before .before .before .before .before .before .before .before .before .before in
-    let c49 = c24 .before .before .before .before .before .before .before .before .before .before .before .before .before .before .before .before .before .before .before .before .before .before .before .before .before in
-    (c24 .document .kept .1 .1 .1 .1 .1 .1 .1 .1 .1 .1 .0) ∙ (c49 .loop .inv .6)
+    let c51 = c24 .before .before .before .before .before .before .before .before .before .before .before .before .before .before .before .before .before .before .before .before .before .before .before .before .before .before .before in
+    (c24 .document .kept .1 .1 .1 .1 .1 .1 .1 .1 .1 .1 .0) ∙ (c51 .loop .inv .6)
 
 same-length-20 : tie.Need-same-length-20 Inv-loop μ-loop
 same-length-20 c =
     let c24 = c .before .before .before .before .before .before .before .before .before .before .before .before .before .before .before .before .before .before .before .before .before .before .before .before in
-    let c49 = c24 .before .before .before .before .before .before .before .before .before .before .before .before .before .before .before .before .before .before .before .before .before .before .before .before .before in
-    (c24 .document .kept .1 .1 .1 .1 .1 .1 .1 .1 .1 .1 .1 .0) ∙ (c49 .loop .inv .7)
+    let c51 = c24 .before .before .before .before .before .before .before .before .before .before .before .before .before .before .before .before .before .before .before .before .before .before .before .before .before .before .before in
+    (c24 .document .kept .1 .1 .1 .1 .1 .1 .1 .1 .1 .1 .1 .0) ∙ (c51 .loop .inv .7)
 
 same-length-21 : tie.Need-same-length-21 Inv-loop μ-loop
 same-length-21 c =
     let c24 = c .before .before .before .before .before .before .before .before .before .before .before .before .before .before .before .before .before .before .before .before .before .before .before .before in
-    let c49 = c24 .before .before .before .before .before .before .before .before .before .before .before .before .before .before .before .before .before .before .before .before .before .before .before .before .before in
-    (c24 .document .kept .1 .1 .1 .1 .1 .1 .1 .1 .1 .1 .1 .1 .0) ∙ (c49 .loop .inv .8)
+    let c51 = c24 .before .before .before .before .before .before .before .before .before .before .before .before .before .before .before .before .before .before .before .before .before .before .before .before .before .before .before in
+    (c24 .document .kept .1 .1 .1 .1 .1 .1 .1 .1 .1 .1 .1 .1 .0) ∙ (c51 .loop .inv .8)
 
 same-length-22 : tie.Need-same-length-22 Inv-loop μ-loop
 same-length-22 c =
     let c24 = c .before .before .before .before .before .before .before .before .before .before .before .before .before .before .before .before .before .before .before .before .before .before .before .before in
-    let c49 = c24 .before .before .before .before .before .before .before .before .before .before .before .before .before .before .before .before .before .before .before .before .before .before .before .before .before in
-    (c24 .document .kept .1 .1 .1 .1 .1 .1 .1 .1 .1 .1 .1 .1 .1 .0) ∙ (c49 .loop .inv .9)
+    let c51 = c24 .before .before .before .before .before .before .before .before .before .before .before .before .before .before .before .before .before .before .before .before .before .before .before .before .before .before .before in
+    (c24 .document .kept .1 .1 .1 .1 .1 .1 .1 .1 .1 .1 .1 .1 .1 .0) ∙ (c51 .loop .inv .9)
 
 same-length-23 : tie.Need-same-length-23 Inv-loop μ-loop
 same-length-23 c =
     let c24 = c .before .before .before .before .before .before .before .before .before .before .before .before .before .before .before .before .before .before .before .before .before .before .before .before in
-    let c49 = c24 .before .before .before .before .before .before .before .before .before .before .before .before .before .before .before .before .before .before .before .before .before .before .before .before .before in
-    (c24 .document .kept .1 .1 .1 .1 .1 .1 .1 .1 .1 .1 .1 .1 .1 .1 .0) ∙ (c49 .loop .inv .10)
+    let c51 = c24 .before .before .before .before .before .before .before .before .before .before .before .before .before .before .before .before .before .before .before .before .before .before .before .before .before .before .before in
+    (c24 .document .kept .1 .1 .1 .1 .1 .1 .1 .1 .1 .1 .1 .1 .1 .1 .0) ∙ (c51 .loop .inv .10)
 
 same-length-24 : tie.Need-same-length-24 Inv-loop μ-loop
 same-length-24 c =
     let c24 = c .before .before .before .before .before .before .before .before .before .before .before .before .before .before .before .before .before .before .before .before .before .before .before .before in
-    let c49 = c24 .before .before .before .before .before .before .before .before .before .before .before .before .before .before .before .before .before .before .before .before .before .before .before .before .before in
-    (c24 .document .kept .1 .1 .1 .1 .1 .1 .1 .1 .1 .1 .1 .1 .1 .1 .1 .0) ∙ (c49 .loop .inv .11)
+    let c51 = c24 .before .before .before .before .before .before .before .before .before .before .before .before .before .before .before .before .before .before .before .before .before .before .before .before .before .before .before in
+    (c24 .document .kept .1 .1 .1 .1 .1 .1 .1 .1 .1 .1 .1 .1 .1 .1 .1 .0) ∙ (c51 .loop .inv .11)
 
 same-length-25 : tie.Need-same-length-25 Inv-loop μ-loop
 same-length-25 c =
     let c40 = c .before .before .before .before .before .before .before .before .before .before .before .before .before .before .before .before .before .before .before .before .before .before .before .before .before .before .before .before .before .before .before .before .before .before .before .before .before .before .before .before in
-    let c49 = c40 .before .before .before .before .before .before .before .before .before in
-    (c40 .bring .kept .0) ∙ (c49 .loop .inv .12)
+    let c47 = c40 .before .before .before .before .before .before .before in
+    let c51 = c47 .before .before .before .before in
+    (c40 .bring .kept .0) ∙ (c47 .next-ready .kept .1 .1 .1 .1 .1 .0) ∙ (c51 .loop .inv .12)
 
 same-length-26 : tie.Need-same-length-26 Inv-loop μ-loop
 same-length-26 c =
-    let c49 = c .before .before .before .before .before .before .before .before .before .before .before .before .before .before .before .before .before .before .before .before .before .before .before .before .before .before .before .before .before .before .before .before .before .before .before .before .before .before .before .before .before .before .before .before .before .before .before .before .before in
-    (c49 .loop .inv .13)
+    let c51 = c .before .before .before .before .before .before .before .before .before .before .before .before .before .before .before .before .before .before .before .before .before .before .before .before .before .before .before .before .before .before .before .before .before .before .before .before .before .before .before .before .before .before .before .before .before .before .before .before .before .before .before in
+    (c51 .loop .inv .13)
 
 returns-2 : tie.Need-returns-2 Inv-loop μ-loop
 returns-2 c =
@@ -200,88 +202,89 @@ returns-2 c =
     let c40 = c37 .before .before .before in
     let c42 = c40 .before .before in
     let c44 = c42 .before .before in
-    let c45 = c44 .before in
-    let c49 = c45 .before .before .before .before in
-    c49 .loop .inv .14 _ _ _ _ _ _ _ _ _ _ _ _ _ 0 0 (round-full (c45 .next-ready .ensures) (c44 .if1 .left) (c42 .entry-word .ensures) refl refl
+    let c47 = c44 .before .before .before in
+    let c51 = c47 .before .before .before .before in
+    c51 .loop .inv .14 _ _ _ _ _ _ _ _ _ _ _ _ _ 0 0 (round-full (c47 .next-ready .ensures) (c44 .if1 .left) (c42 .entry-word .ensures) refl refl
     (c40 .bring .ensures) (c37 .skip .ensures) (c24 .document .ensures)
     calm-definition (c .if2 .taken) 0 0)
 
 same-length-27 : tie.Need-same-length-27 Inv-loop μ-loop
 same-length-27 c =
     let c26 = c .before .before .before .before .before .before .before .before .before .before .before .before .before .before .before .before .before .before .before .before .before .before .before .before .before .before in
-    let c51 = c26 .before .before .before .before .before .before .before .before .before .before .before .before .before .before .before .before .before .before .before .before .before .before .before .before .before in
-    (c26 .document .kept .1 .1 .1 .1 .1 .0) ∙ (c51 .loop .inv .1)
+    let c53 = c26 .before .before .before .before .before .before .before .before .before .before .before .before .before .before .before .before .before .before .before .before .before .before .before .before .before .before .before in
+    (c26 .document .kept .1 .1 .1 .1 .1 .0) ∙ (c53 .loop .inv .1)
 
 same-length-28 : tie.Need-same-length-28 Inv-loop μ-loop
 same-length-28 c =
     let c26 = c .before .before .before .before .before .before .before .before .before .before .before .before .before .before .before .before .before .before .before .before .before .before .before .before .before .before in
-    let c51 = c26 .before .before .before .before .before .before .before .before .before .before .before .before .before .before .before .before .before .before .before .before .before .before .before .before .before in
-    (c26 .document .kept .1 .1 .1 .1 .1 .1 .0) ∙ (c51 .loop .inv .2)
+    let c53 = c26 .before .before .before .before .before .before .before .before .before .before .before .before .before .before .before .before .before .before .before .before .before .before .before .before .before .before .before in
+    (c26 .document .kept .1 .1 .1 .1 .1 .1 .0) ∙ (c53 .loop .inv .2)
 
 same-length-29 : tie.Need-same-length-29 Inv-loop μ-loop
 same-length-29 c =
     let c26 = c .before .before .before .before .before .before .before .before .before .before .before .before .before .before .before .before .before .before .before .before .before .before .before .before .before .before in
-    let c51 = c26 .before .before .before .before .before .before .before .before .before .before .before .before .before .before .before .before .before .before .before .before .before .before .before .before .before in
-    (c26 .document .kept .1 .1 .1 .1 .1 .1 .1 .0) ∙ (c51 .loop .inv .3)
+    let c53 = c26 .before .before .before .before .before .before .before .before .before .before .before .before .before .before .before .before .before .before .before .before .before .before .before .before .before .before .before in
+    (c26 .document .kept .1 .1 .1 .1 .1 .1 .1 .0) ∙ (c53 .loop .inv .3)
 
 same-length-30 : tie.Need-same-length-30 Inv-loop μ-loop
 same-length-30 c =
     let c26 = c .before .before .before .before .before .before .before .before .before .before .before .before .before .before .before .before .before .before .before .before .before .before .before .before .before .before in
-    let c51 = c26 .before .before .before .before .before .before .before .before .before .before .before .before .before .before .before .before .before .before .before .before .before .before .before .before .before in
-    (c26 .document .kept .1 .1 .1 .1 .1 .1 .1 .1 .0) ∙ (c51 .loop .inv .4)
+    let c53 = c26 .before .before .before .before .before .before .before .before .before .before .before .before .before .before .before .before .before .before .before .before .before .before .before .before .before .before .before in
+    (c26 .document .kept .1 .1 .1 .1 .1 .1 .1 .1 .0) ∙ (c53 .loop .inv .4)
 
 same-length-31 : tie.Need-same-length-31 Inv-loop μ-loop
 same-length-31 c =
     let c26 = c .before .before .before .before .before .before .before .before .before .before .before .before .before .before .before .before .before .before .before .before .before .before .before .before .before .before in
-    let c51 = c26 .before .before .before .before .before .before .before .before .before .before .before .before .before .before .before .before .before .before .before .before .before .before .before .before .before in
-    (c26 .document .kept .1 .1 .1 .1 .1 .1 .1 .1 .1 .0) ∙ (c51 .loop .inv .5)
+    let c53 = c26 .before .before .before .before .before .before .before .before .before .before .before .before .before .before .before .before .before .before .before .before .before .before .before .before .before .before .before in
+    (c26 .document .kept .1 .1 .1 .1 .1 .1 .1 .1 .1 .0) ∙ (c53 .loop .inv .5)
 
 same-length-32 : tie.Need-same-length-32 Inv-loop μ-loop
 same-length-32 c =
     let c26 = c .before .before .before .before .before .before .before .before .before .before .before .before .before .before .before .before .before .before .before .before .before .before .before .before .before .before in
-    let c51 = c26 .before .before .before .before .before .before .before .before .before .before .before .before .before .before .before .before .before .before .before .before .before .before .before .before .before in
-    (c26 .document .kept .1 .1 .1 .1 .1 .1 .1 .1 .1 .1 .0) ∙ (c51 .loop .inv .6)
+    let c53 = c26 .before .before .before .before .before .before .before .before .before .before .before .before .before .before .before .before .before .before .before .before .before .before .before .before .before .before .before in
+    (c26 .document .kept .1 .1 .1 .1 .1 .1 .1 .1 .1 .1 .0) ∙ (c53 .loop .inv .6)
 
 same-length-33 : tie.Need-same-length-33 Inv-loop μ-loop
 same-length-33 c =
     let c26 = c .before .before .before .before .before .before .before .before .before .before .before .before .before .before .before .before .before .before .before .before .before .before .before .before .before .before in
-    let c51 = c26 .before .before .before .before .before .before .before .before .before .before .before .before .before .before .before .before .before .before .before .before .before .before .before .before .before in
-    (c26 .document .kept .1 .1 .1 .1 .1 .1 .1 .1 .1 .1 .1 .0) ∙ (c51 .loop .inv .7)
+    let c53 = c26 .before .before .before .before .before .before .before .before .before .before .before .before .before .before .before .before .before .before .before .before .before .before .before .before .before .before .before in
+    (c26 .document .kept .1 .1 .1 .1 .1 .1 .1 .1 .1 .1 .1 .0) ∙ (c53 .loop .inv .7)
 
 same-length-34 : tie.Need-same-length-34 Inv-loop μ-loop
 same-length-34 c =
     let c26 = c .before .before .before .before .before .before .before .before .before .before .before .before .before .before .before .before .before .before .before .before .before .before .before .before .before .before in
-    let c51 = c26 .before .before .before .before .before .before .before .before .before .before .before .before .before .before .before .before .before .before .before .before .before .before .before .before .before in
-    (c26 .document .kept .1 .1 .1 .1 .1 .1 .1 .1 .1 .1 .1 .1 .0) ∙ (c51 .loop .inv .8)
+    let c53 = c26 .before .before .before .before .before .before .before .before .before .before .before .before .before .before .before .before .before .before .before .before .before .before .before .before .before .before .before in
+    (c26 .document .kept .1 .1 .1 .1 .1 .1 .1 .1 .1 .1 .1 .1 .0) ∙ (c53 .loop .inv .8)
 
 same-length-35 : tie.Need-same-length-35 Inv-loop μ-loop
 same-length-35 c =
     let c26 = c .before .before .before .before .before .before .before .before .before .before .before .before .before .before .before .before .before .before .before .before .before .before .before .before .before .before in
-    let c51 = c26 .before .before .before .before .before .before .before .before .before .before .before .before .before .before .before .before .before .before .before .before .before .before .before .before .before in
-    (c26 .document .kept .1 .1 .1 .1 .1 .1 .1 .1 .1 .1 .1 .1 .1 .0) ∙ (c51 .loop .inv .9)
+    let c53 = c26 .before .before .before .before .before .before .before .before .before .before .before .before .before .before .before .before .before .before .before .before .before .before .before .before .before .before .before in
+    (c26 .document .kept .1 .1 .1 .1 .1 .1 .1 .1 .1 .1 .1 .1 .1 .0) ∙ (c53 .loop .inv .9)
 
 same-length-36 : tie.Need-same-length-36 Inv-loop μ-loop
 same-length-36 c =
     let c26 = c .before .before .before .before .before .before .before .before .before .before .before .before .before .before .before .before .before .before .before .before .before .before .before .before .before .before in
-    let c51 = c26 .before .before .before .before .before .before .before .before .before .before .before .before .before .before .before .before .before .before .before .before .before .before .before .before .before in
-    (c26 .document .kept .1 .1 .1 .1 .1 .1 .1 .1 .1 .1 .1 .1 .1 .1 .0) ∙ (c51 .loop .inv .10)
+    let c53 = c26 .before .before .before .before .before .before .before .before .before .before .before .before .before .before .before .before .before .before .before .before .before .before .before .before .before .before .before in
+    (c26 .document .kept .1 .1 .1 .1 .1 .1 .1 .1 .1 .1 .1 .1 .1 .1 .0) ∙ (c53 .loop .inv .10)
 
 same-length-37 : tie.Need-same-length-37 Inv-loop μ-loop
 same-length-37 c =
     let c26 = c .before .before .before .before .before .before .before .before .before .before .before .before .before .before .before .before .before .before .before .before .before .before .before .before .before .before in
-    let c51 = c26 .before .before .before .before .before .before .before .before .before .before .before .before .before .before .before .before .before .before .before .before .before .before .before .before .before in
-    (c26 .document .kept .1 .1 .1 .1 .1 .1 .1 .1 .1 .1 .1 .1 .1 .1 .1 .0) ∙ (c51 .loop .inv .11)
+    let c53 = c26 .before .before .before .before .before .before .before .before .before .before .before .before .before .before .before .before .before .before .before .before .before .before .before .before .before .before .before in
+    (c26 .document .kept .1 .1 .1 .1 .1 .1 .1 .1 .1 .1 .1 .1 .1 .1 .1 .0) ∙ (c53 .loop .inv .11)
 
 same-length-38 : tie.Need-same-length-38 Inv-loop μ-loop
 same-length-38 c =
     let c42 = c .before .before .before .before .before .before .before .before .before .before .before .before .before .before .before .before .before .before .before .before .before .before .before .before .before .before .before .before .before .before .before .before .before .before .before .before .before .before .before .before .before .before in
-    let c51 = c42 .before .before .before .before .before .before .before .before .before in
-    (c42 .bring .kept .0) ∙ (c51 .loop .inv .12)
+    let c49 = c42 .before .before .before .before .before .before .before in
+    let c53 = c49 .before .before .before .before in
+    (c42 .bring .kept .0) ∙ (c49 .next-ready .kept .1 .1 .1 .1 .1 .0) ∙ (c53 .loop .inv .12)
 
 same-length-39 : tie.Need-same-length-39 Inv-loop μ-loop
 same-length-39 c =
-    let c51 = c .before .before .before .before .before .before .before .before .before .before .before .before .before .before .before .before .before .before .before .before .before .before .before .before .before .before .before .before .before .before .before .before .before .before .before .before .before .before .before .before .before .before .before .before .before .before .before .before .before .before .before in
-    (c51 .loop .inv .13)
+    let c53 = c .before .before .before .before .before .before .before .before .before .before .before .before .before .before .before .before .before .before .before .before .before .before .before .before .before .before .before .before .before .before .before .before .before .before .before .before .before .before .before .before .before .before .before .before .before .before .before .before .before .before .before .before .before in
+    (c53 .loop .inv .13)
 
 returns-3 : tie.Need-returns-3 Inv-loop μ-loop
 returns-3 c =
@@ -290,22 +293,22 @@ returns-3 c =
     let c42 = c39 .before .before .before in
     let c44 = c42 .before .before in
     let c46 = c44 .before .before in
-    let c47 = c46 .before in
-    let c51 = c47 .before .before .before .before in
-    c51 .loop .inv .14 _ _ _ _ _ _ _ _ _ _ _ _ _ 7 _ (round-faulty (c47 .next-ready .ensures) (c46 .if1 .left) (c44 .entry-word .ensures) refl refl
+    let c49 = c46 .before .before .before in
+    let c53 = c49 .before .before .before .before in
+    c53 .loop .inv .14 _ _ _ _ _ _ _ _ _ _ _ _ _ 7 _ (round-faulty (c49 .next-ready .ensures) (c46 .if1 .left) (c44 .entry-word .ensures) refl refl
     (c42 .bring .ensures) (c39 .skip .ensures) (c26 .document .ensures)
     calm-definition (c .before .before .if2 .left) (c .if3 .taken))
 
 add-done : tie.Need-add-done Inv-loop μ-loop
 add-done c =
-    let c54 = c .before .before .before .before .before .before .before .before .before .before .before .before .before .before .before .before .before .before .before .before .before .before .before .before .before .before .before .before .before .before .before .before .before .before .before .before .before .before .before .before .before .before .before .before .before .before .before .before .before .before .before .before .before .before in
-    let c70 = c54 .before .before .before .before .before .before .before .before .before .before .before .before .before .before .before .before in
-    omega (arith, c54 .loop-test .taken, c70 .fits)
+    let c56 = c .before .before .before .before .before .before .before .before .before .before .before .before .before .before .before .before .before .before .before .before .before .before .before .before .before .before .before .before .before .before .before .before .before .before .before .before .before .before .before .before .before .before .before .before .before .before .before .before .before .before .before .before .before .before .before .before in
+    let c72 = c56 .before .before .before .before .before .before .before .before .before .before .before .before .before .before .before .before in
+    omega (arith, c56 .loop-test .taken, c72 .fits)
 
 loop-less : tie.Need-loop-less Inv-loop μ-loop
 loop-less c =
-    let c54 = c .before .before .before .before .before .before .before .before .before .before .before .before .before .before .before .before .before .before .before .before .before .before .before .before .before .before .before .before .before .before .before .before .before .before .before .before .before .before .before .before .before .before .before .before .before .before .before .before .before .before .before .before .before .before in
-    omega (arith, c54 .loop-test .taken)
+    let c56 = c .before .before .before .before .before .before .before .before .before .before .before .before .before .before .before .before .before .before .before .before .before .before .before .before .before .before .before .before .before .before .before .before .before .before .before .before .before .before .before .before .before .before .before .before .before .before .before .before .before .before .before .before .before .before .before .before in
+    omega (arith, c56 .loop-test .taken)
 
 loop-again : tie.Need-loop-again Inv-loop μ-loop
 loop-again c =
@@ -315,24 +318,24 @@ loop-again c =
     let c46 = c43 .before .before .before in
     let c48 = c46 .before .before in
     let c50 = c48 .before .before in
-    let c51 = c50 .before in
-    let c55 = c51 .before .before .before .before in (
+    let c53 = c50 .before .before .before in
+    let c57 = c53 .before .before .before .before in (
       c6 .if2 .left,
-      c30 .document .kept .1 .1 .1 .1 .1 .0 ∙ c55 .loop .inv .1,
-      c30 .document .kept .1 .1 .1 .1 .1 .1 .0 ∙ c55 .loop .inv .2,
-      c30 .document .kept .1 .1 .1 .1 .1 .1 .1 .0 ∙ c55 .loop .inv .3,
-      c30 .document .kept .1 .1 .1 .1 .1 .1 .1 .1 .0 ∙ c55 .loop .inv .4,
-      c30 .document .kept .1 .1 .1 .1 .1 .1 .1 .1 .1 .0 ∙ c55 .loop .inv .5,
-      c30 .document .kept .1 .1 .1 .1 .1 .1 .1 .1 .1 .1 .0 ∙ c55 .loop .inv .6,
-      c30 .document .kept .1 .1 .1 .1 .1 .1 .1 .1 .1 .1 .1 .0 ∙ c55 .loop .inv .7,
-      c30 .document .kept .1 .1 .1 .1 .1 .1 .1 .1 .1 .1 .1 .1 .0 ∙ c55 .loop .inv .8,
-      c30 .document .kept .1 .1 .1 .1 .1 .1 .1 .1 .1 .1 .1 .1 .1 .0 ∙ c55 .loop .inv .9,
-      c30 .document .kept .1 .1 .1 .1 .1 .1 .1 .1 .1 .1 .1 .1 .1 .1 .0 ∙ c55 .loop .inv .10,
-      c30 .document .kept .1 .1 .1 .1 .1 .1 .1 .1 .1 .1 .1 .1 .1 .1 .1 .0 ∙ c55 .loop .inv .11,
-      c46 .bring .kept .0 ∙ c55 .loop .inv .12,
-      c .before .before .add .kept .0 ∙ c55 .loop .inv .13,
-      λ s′ c′ k′ f′ m′ p′ t′ l′ u′ n′ b′ e′ o′ row place h. c55 .loop .inv .14 s′ c′ k′ f′ m′ p′ t′ l′ u′ n′ b′ e′ o′ row place
-          (round-more (c51 .next-ready .ensures) (c50 .if1 .left) (c48 .entry-word .ensures) refl refl (c46 .bring .ensures) (c43 .skip .ensures)
+      c30 .document .kept .1 .1 .1 .1 .1 .0 ∙ c57 .loop .inv .1,
+      c30 .document .kept .1 .1 .1 .1 .1 .1 .0 ∙ c57 .loop .inv .2,
+      c30 .document .kept .1 .1 .1 .1 .1 .1 .1 .0 ∙ c57 .loop .inv .3,
+      c30 .document .kept .1 .1 .1 .1 .1 .1 .1 .1 .0 ∙ c57 .loop .inv .4,
+      c30 .document .kept .1 .1 .1 .1 .1 .1 .1 .1 .1 .0 ∙ c57 .loop .inv .5,
+      c30 .document .kept .1 .1 .1 .1 .1 .1 .1 .1 .1 .1 .0 ∙ c57 .loop .inv .6,
+      c30 .document .kept .1 .1 .1 .1 .1 .1 .1 .1 .1 .1 .1 .0 ∙ c57 .loop .inv .7,
+      c30 .document .kept .1 .1 .1 .1 .1 .1 .1 .1 .1 .1 .1 .1 .0 ∙ c57 .loop .inv .8,
+      c30 .document .kept .1 .1 .1 .1 .1 .1 .1 .1 .1 .1 .1 .1 .1 .0 ∙ c57 .loop .inv .9,
+      c30 .document .kept .1 .1 .1 .1 .1 .1 .1 .1 .1 .1 .1 .1 .1 .1 .0 ∙ c57 .loop .inv .10,
+      c30 .document .kept .1 .1 .1 .1 .1 .1 .1 .1 .1 .1 .1 .1 .1 .1 .1 .0 ∙ c57 .loop .inv .11,
+      c46 .bring .kept .0 ∙ c53 .next-ready .kept .1 .1 .1 .1 .1 .0 ∙ c57 .loop .inv .12,
+      c .before .before .add .kept .0 ∙ c57 .loop .inv .13,
+      λ s′ c′ k′ f′ m′ p′ t′ l′ u′ n′ b′ e′ o′ row place h. c57 .loop .inv .14 s′ c′ k′ f′ m′ p′ t′ l′ u′ n′ b′ e′ o′ row place
+          (round-more (c53 .next-ready .ensures) (c50 .if1 .left) (c48 .entry-word .ensures) refl refl (c46 .bring .ensures) (c43 .skip .ensures)
           (c30 .document .ensures) calm-definition (c6 .if2 .left) (c .before .before .before .before .if3 .left) (c .before .before .add .ensures .words) h),
     )
 
@@ -405,7 +408,7 @@ drive-spec =
     (λ c κs. search needs)
     (λ c κs. tt)
     (λ c κs. search needs)
-    (λ c κs. tt)
+    (λ c κs. search needs)
     same-length-14
     same-length-15
     same-length-16

@@ -4,15 +4,15 @@ use Prim.Native.Nat.{ℕ, _-_}
 use mathlib.Core.Path.{_≡_, refl}
 use mathlib.Core.List.{List}
 use lib.ListN.{length}
-use Rattle.books.proofs.BookWays.{BringsFrom, bring-end, bring-more, bring-whole}
+use Rattle.books.specs.Solving.{Brings}
+use Rattle.books.proofs.BookWays.{bring-end, bring-more}
 use Rattle.books.proofs.solver.bring.Statement.{statement}
 use Rattle.books.proofs.solver.bring.Tie as tie
 use borrow.Author.Needs.{needs}
 use native.Mathlib.Omega.{arith}
 
 abbrev Inv-loop : tie.InvT-loop
-Inv-loop books₀ done k file i₀ books i = (length books ≡ length books₀) ×
-    ((after : List ℕ) → BringsFrom books done i file after → BringsFrom books₀ done k file after)
+Inv-loop books₀ done k file i₀ books i = (length books ≡ length books₀) × ((after : List ℕ) → Brings books done i file after → Brings books₀ done k file after)
 
 abbrev μ-loop : tie.MeasureT-loop
 μ-loop books₀ done k file i₀ books i = i - done
@@ -45,9 +45,8 @@ returns : tie.Need-returns Inv-loop μ-loop
 returns c =
     let c5 = c .before .before .before .before .before in
     let c7 = c5 .before .before in
-    bring-whole (c7 .args .books .now) (c7 .args .done) (c7 .args .k) (c7 .args .file) (c5 .loop .inv .1 _
-    (bring-end (c5 .loop .books) (c7 .args .done) (c5 .loop .i) (c7 .args .file) (c .before .before .before .before .loop-test .left)
-    (c .before .before .write-word2 .ensures)))
+    c5 .loop .inv .1 _ (bring-end (c5 .loop .books) (c7 .args .done) (c5 .loop .i) (c7 .args .file) (c .before .before .before .before .loop-test .left)
+    (c .before .before .write-word2 .ensures))
 
 pub bring-spec : {M : Type 1} → statement M
 bring-spec =

@@ -12,85 +12,115 @@ use borrow.Author.Needs.{needs}
 use native.Mathlib.Omega.{arith}
 
 abbrev Inv-loop : tie.InvT-loop
-Inv-loop tree end set₀ next₀ root i₀ set next i = (length set ≡ length set₀) × (length next ≡ length next₀)
-    × ((after : List ℕ) → NeededFrom tree i end set next after → NeededFrom tree 0 end set₀ next₀ after)
+Inv-loop tree end read₀ set₀ next₀ root i₀ read set next i = (length read ≡ length read₀) × (length set ≡ length set₀) × (length next ≡ length next₀)
+    × ((after : List ℕ) → NeededFrom tree i end read set next after → NeededFrom tree 0 end read₀ set₀ next₀ after)
 
 abbrev μ-loop : tie.MeasureT-loop
-μ-loop tree end set₀ next₀ root i₀ set next i = end - i
+μ-loop tree end read₀ set₀ next₀ root i₀ read set next i = end - i
 
 loop-holds : tie.Need-loop-holds Inv-loop μ-loop
-loop-holds c = (refl, refl, λ after h. h)
+loop-holds c = (refl, refl, refl, λ after h. h)
 
 same-length : tie.Need-same-length Inv-loop μ-loop
 same-length c =
-    let c7 = c .before .before .before .before .before .before .before in
-    let c14 = c7 .before .before .before .before .before .before .before in
-    omega (arith, c14 .add .kept, c7 .loop .inv .0)
+    let c8 = c .before .before .before .before .before .before .before .before in
+    let c11 = c8 .before .before .before in
+    let c15 = c11 .before .before .before .before in
+    omega (arith, c11 .add2 .kept, c15 .add .kept, c .before .before .before .reach .kept, c8 .loop .inv .0, c8 .loop .inv .1, c8 .loop .inv .2)
 
 same-length-2 : tie.Need-same-length-2 Inv-loop μ-loop
 same-length-2 c =
-    let c7 = c .before .before .before .before .before .before .before in
-    let c10 = c7 .before .before .before in
-    omega (arith, c .before .before .before .reach .kept, c10 .add2 .kept, c7 .loop .inv .1)
-
-returns : tie.Need-returns Inv-loop μ-loop
-returns c =
-    let c7 = c .before .before .before .before .before .before .before in
-    let c10 = c7 .before .before .before in
-    let c14 = c10 .before .before .before .before in
-    let c16 = c14 .before .before in
-    let c20 = c16 .before .before .before .before in
-    needed-start (c20 .args .tree .now) (c20 .args .end) (c20 .args .set .now) (c20 .args .next .now) (c16 .field .ensures) (c20 .pre) (c14 .add .ensures)
-    (c10 .add2 .ensures)
-    (c7 .loop .inv .2 _ (needed-stop (c20 .args .tree .now) (c7 .loop .i) (c20 .args .end) (c7 .loop .set) (c7 .loop .next)
-    (c .before .before .before .reach .ensures) (c .if1 .taken)))
-
-copy-requires : tie.Need-copy-requires Inv-loop μ-loop
-copy-requires c κs =
-    let c5 = c .before .before .before .before .before in
-    let c9 = c5 .before .before .before .before in
-    let c12 = c9 .before .before .before in
-    let c16 = c12 .before .before .before .before in
-    let c22 = c16 .before .before .before .before .before .before in
-    omega (arith, c5 .reach .kept, c9 .loop .inv .0, c9 .loop .inv .1, c16 .add .kept, c12 .add2 .kept, ap length (c22 .pre))
-
-loop-less : tie.Need-loop-less Inv-loop μ-loop
-loop-less c =
-    let c12 = c .before .before .before .before .before .before .before .before .before .before .before .before in
-    let c13 = c12 .before in
-    let c26 = c13 .before .before .before .before .before .before .before .before .before .before .before .before .before in
-    omega (arith, c12 .loop-test .taken, skip-more (c26 .args .tree .now) (c13 .loop .i) (c26 .args .end) (c12 .loop-test .taken) (c .skip .ensures))
-
-loop-again : tie.Need-loop-again Inv-loop μ-loop
-loop-again c =
-    let c9 = c .before .before .before .before .before .before .before .before .before in
-    let c12 = c9 .before .before .before in
-    let c13 = c12 .before in
-    let c26 = c13 .before .before .before .before .before .before .before .before .before .before .before .before .before in (
-      omega (arith, c .before .before .before .copy .kept, c13 .loop .inv .0),
-      omega (arith, c9 .reach .kept, c13 .loop .inv .1),
-      λ after h. c13 .loop .inv .2 after
-          (needed-more (c26 .args .tree .now) (c13 .loop .i) (c26 .args .end) (c13 .loop .set) (c13 .loop .next) (c9 .reach .ensures) (c12 .loop-test .taken)
-          (c .skip .ensures) (c .before .before .before .copy .ensures) h),
-    )
+    let c8 = c .before .before .before .before .before .before .before .before in
+    let c11 = c8 .before .before .before in
+    let c15 = c11 .before .before .before .before in
+    omega (arith, c11 .add2 .kept, c15 .add .kept, c .before .before .before .reach .kept, c8 .loop .inv .0, c8 .loop .inv .1, c8 .loop .inv .2)
 
 same-length-3 : tie.Need-same-length-3 Inv-loop μ-loop
 same-length-3 c =
     let c8 = c .before .before .before .before .before .before .before .before in
-    omega (arith, c8 .add .kept, c .before .loop .inv .0)
+    let c11 = c8 .before .before .before in
+    let c15 = c11 .before .before .before .before in
+    omega (arith, c11 .add2 .kept, c15 .add .kept, c .before .before .before .reach .kept, c8 .loop .inv .0, c8 .loop .inv .1, c8 .loop .inv .2)
+
+returns : tie.Need-returns Inv-loop μ-loop
+returns c =
+    let c8 = c .before .before .before .before .before .before .before .before in
+    let c11 = c8 .before .before .before in
+    let c15 = c11 .before .before .before .before in
+    let c17 = c15 .before .before in
+    let c22 = c17 .before .before .before .before .before in
+    needed-start (c22 .args .tree .now) (c22 .args .end) (c22 .args .read .now) (c22 .args .set .now) (c22 .args .next .now) (c17 .field .ensures) (c22 .pre .1)
+    (c15 .add .ensures) (c11 .add2 .ensures)
+    (c8 .loop .inv .3 _ (needed-stop (c22 .args .tree .now) (c8 .loop .i) (c22 .args .end) (c8 .loop .read) (c8 .loop .set) (c8 .loop .next)
+    (c .before .before .before .reach .ensures) (c .if1 .taken)))
+
+copy-requires : tie.Need-copy-requires Inv-loop μ-loop
+copy-requires c κs =
+    let c10 = c .before .before .before .before .before .before .before .before .before .before in
+    let c17 = c10 .before .before .before .before .before .before .before in
+    let c24 = c17 .before .before .before .before .before .before .before in
+    omega (arith, c10 .loop .inv .0, c10 .loop .inv .1, c17 .add .kept, c24 .pre .0)
+
+copy-requires-2 : tie.Need-copy-requires-2 Inv-loop μ-loop
+copy-requires-2 c κs =
+    let c10 = c .before .before .before .before .before .before .before .before .before .before in
+    let c15 = c10 .before .before .before .before .before in
+    let c18 = c15 .before .before .before in
+    let c22 = c18 .before .before .before .before in
+    let c29 = c22 .before .before .before .before .before .before .before in
+    omega (arith, c10 .reach .kept, c15 .loop .inv .1, c15 .loop .inv .2, c22 .add .kept, c18 .add2 .kept, ap length (c29 .pre .1))
+
+loop-less : tie.Need-loop-less Inv-loop μ-loop
+loop-less c =
+    let c18 = c .before .before .before .before .before .before .before .before .before .before .before .before .before .before .before .before .before .before in
+    let c19 = c18 .before in
+    let c33 = c19 .before .before .before .before .before .before .before .before .before .before .before .before .before .before in
+    omega (arith, c18 .loop-test .taken, skip-more (c33 .args .tree .now) (c19 .loop .i) (c33 .args .end) (c18 .loop-test .taken) (c .skip .ensures))
+
+loop-again : tie.Need-loop-again Inv-loop μ-loop
+loop-again c =
+    let c8 = c .before .before .before .before .before .before .before .before in
+    let c14 = c8 .before .before .before .before .before .before in
+    let c18 = c14 .before .before .before .before in
+    let c19 = c18 .before in
+    let c33 = c19 .before .before .before .before .before .before .before .before .before .before .before .before .before .before in (
+      omega (arith, c8 .copy .kept, c19 .loop .inv .0),
+      omega (arith, c .before .before .before .copy2 .kept, c19 .loop .inv .1),
+      omega (
+        arith,
+        c14 .reach .kept,
+        c19 .loop .inv .2,
+      ),
+      λ after h. c19 .loop .inv .3 after
+          (needed-more (c33 .args .tree .now) (c19 .loop .i) (c33 .args .end) (c19 .loop .read) (c19 .loop .set) (c19 .loop .next) (c14 .reach .ensures)
+          (c18 .loop-test .taken) (c .skip .ensures) (c8 .copy .ensures)
+          (c .before .before .before .copy2 .ensures) h),
+    )
 
 same-length-4 : tie.Need-same-length-4 Inv-loop μ-loop
-same-length-4 c = omega (arith, c .before .before .before .before .add2 .kept, c .before .loop .inv .1)
+same-length-4 c =
+    let c8 = c .before .before .before .before .before .before .before .before in
+    omega (arith, c .before .before .before .before .add2 .kept, c8 .add .kept, c .before .loop .inv .0, c .before .loop .inv .1, c .before .loop .inv .2)
+
+same-length-5 : tie.Need-same-length-5 Inv-loop μ-loop
+same-length-5 c =
+    let c8 = c .before .before .before .before .before .before .before .before in
+    omega (arith, c .before .before .before .before .add2 .kept, c8 .add .kept, c .before .loop .inv .0, c .before .loop .inv .1, c .before .loop .inv .2)
+
+same-length-6 : tie.Need-same-length-6 Inv-loop μ-loop
+same-length-6 c =
+    let c8 = c .before .before .before .before .before .before .before .before in
+    omega (arith, c .before .before .before .before .add2 .kept, c8 .add .kept, c .before .loop .inv .0, c .before .loop .inv .1, c .before .loop .inv .2)
 
 returns-2 : tie.Need-returns-2 Inv-loop μ-loop
 returns-2 c =
     let c8 = c .before .before .before .before .before .before .before .before in
     let c10 = c8 .before .before in
-    let c14 = c10 .before .before .before .before in
-    needed-start (c14 .args .tree .now) (c14 .args .end) (c14 .args .set .now) (c14 .args .next .now) (c10 .field .ensures) (c14 .pre) (c8 .add .ensures)
-    (c .before .before .before .before .add2 .ensures)
-    (c .before .loop .inv .2 _ (needed-end (c14 .args .tree .now) (c .before .loop .i) (c14 .args .end) (c .before .loop .set) (c .before .loop .next)
-    (c .loop-test .left)))
+    let c15 = c10 .before .before .before .before .before in
+    needed-start (c15 .args .tree .now) (c15 .args .end) (c15 .args .read .now) (c15 .args .set .now) (c15 .args .next .now) (c10 .field .ensures) (c15 .pre .1)
+    (c8 .add .ensures) (c .before .before .before .before .add2 .ensures)
+    (c .before .loop .inv .3 _ (needed-end (c15 .args .tree .now) (c .before .loop .i) (c15 .args .end) (c .before .loop .read) (c .before .loop .set)
+    (c .before .loop .next) (c .loop-test .left)))
 
 pub needed-spec : {M : Type 1} → statement M
 needed-spec =
@@ -105,11 +135,14 @@ needed-spec =
     (λ c κs. tt)
     same-length
     same-length-2
+    same-length-3
     returns
     copy-requires
+    copy-requires-2
     (λ c κs. search needs)
     loop-less
     loop-again
-    same-length-3
     same-length-4
+    same-length-5
+    same-length-6
     returns-2)
