@@ -52,7 +52,7 @@ fn a_seed_gives_the_same_bundles() {
 }
 
 const FINGERPRINT_MIXED: u64 = 2_418_065_681_372_746_849;
-const FINGERPRINT_LARGE: u64 = ;
+const FINGERPRINT_LARGE: u64 = 3_126_920_933_600_834_562;
 
 #[test]
 fn the_sample_is_current() {
