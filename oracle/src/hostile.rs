@@ -6,7 +6,7 @@ use crate::areas::{Lengths, Lent, AREAS, ENTRY_WORDS, UNLIMITED};
 use crate::clock::now;
 use crate::compare::Side;
 use crate::model::compile;
-use crate::pieces::{body, deep, document, doubled, leaf, name_node, statement};
+use crate::pieces::{body, deep, document, doubled, doubling_of, if_node, leaf, name_node, statement};
 use crate::records::{flatten, kind, Node, MAX_LEVEL, MAX_RECORDS, MAX_TEXT};
 use crate::views::{Answered, Viewed};
 use std::thread;
@@ -140,6 +140,18 @@ pub fn bundles(size: u64) -> Vec<Hostile> {
     let name = format!("level 64 with 30 doublings, {LARGE_CODE} words of code");
     out.push(Hostile { name, words: doubled(30), lengths: stopped });
     out
+}
+
+/// 257 locals without values in a block of an if, the last of them read there, in a target that is doubled so often: with 24 doublings local numbers pass 2^32
+/// (2026-03).
+pub fn locals_doubled(times: usize) -> Hostile {
+    const NAMES: usize = 257;
+    let first = 100;
+    let names = Node::new(kind::LOCAL, 0, 0, pairs(NAMES, |i| first + i, Node::leaf(kind::ABSENT, 0, 0)));
+    let block = vec![names, statement(leaf(kind::IDENTIFIER, first + NAMES as u64 - 1))];
+    let inner = if_node(leaf(kind::NULL, 0), vec![block]);
+    let words = body(&[], vec![statement(doubling_of(inner, times))]);
+    Hostile { name: format!("257 locals in a target doubled {times} times"), lengths: exact(&words), words }
 }
 
 /// A side on a thread with a stack of this many bytes, and the processor seconds of its last call.

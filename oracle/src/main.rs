@@ -27,9 +27,10 @@ oracle case --seed S --index I [--large] [--column]
 oracle listing [--program]
     a column file on standard input, its listing out; --program gives what the program `listing`
     prints, with its buffers
-oracle hostile [--ours] [--stack BYTES] [--size N]
+oracle hostile [--ours] [--stack BYTES] [--size N] [--locals TIMES]
     bundles at the limits on a small stack, with seconds; --ours compares the library with the model;
-    N is the size of those that cost its square
+    N is the size of those that cost its square; --locals alone makes 257 locals in a target that is
+    doubled so often (24: local numbers past 2^32, 12 GB of memory)
 oracle convert [--seed S] [--count N] [--large] [--limits]
     the library's converters and shape check and the reading over N column files and N word lists,
     or over those at the limits
@@ -154,7 +155,11 @@ fn run_hostile(arguments: &Arguments) -> ExitCode {
     let stack = arguments.number("--stack", 1 << 20) as usize;
     let mut code = ExitCode::SUCCESS;
     println!("threads with a stack of {stack} bytes, processor seconds of the call");
-    for bundle in hostile::bundles(arguments.number("--size", 100_000)) {
+    let bundles = match arguments.number("--locals", 0) {
+        0 => hostile::bundles(arguments.number("--size", 100_000)),
+        times => vec![hostile::locals_doubled(times as usize)],
+    };
+    for bundle in bundles {
         print!("{}: {} records", bundle.name, bundle.words.len() / 4);
         std::io::stdout().flush().expect("standard output is open");
         let mut narrow = Narrow { side: &mut *side, stack, seconds: 0.0 };
@@ -334,7 +339,7 @@ const COMMANDS: [Command; 16] = [
     ),
     ("case", &[Number("--seed"), Number("--index"), Switch("--large"), Switch("--column")], false, run_case),
     ("listing", &[Switch("--program")], false, run_listing),
-    ("hostile", &[Switch("--ours"), Number("--stack"), Number("--size")], false, run_hostile),
+    ("hostile", &[Switch("--ours"), Number("--stack"), Number("--size"), Number("--locals")], false, run_hostile),
     ("convert", &[Number("--seed"), Number("--count"), Switch("--large"), Switch("--limits")], false, run_convert),
     ("tables", &[Number("--seed"), Number("--count"), Switch("--limits")], false, run_tables),
     ("table-cases", &[], false, run_table_cases),

@@ -104,8 +104,12 @@ pub fn deep(bottom: usize) -> Vec<u64> {
 
 /// Compound targets inside compound targets: each doubles the work.
 pub fn doubling(times: usize) -> Node {
-    (0..times)
-        .fold(identifier(5), |inner, _| infix(6, get(kind::INDEX_GET, inner, leaf(kind::NULL, 0)), leaf(kind::NULL, 0)))
+    doubling_of(identifier(5), times)
+}
+
+/// The same around an expression.
+pub fn doubling_of(inner: Node, times: usize) -> Node {
+    (0..times).fold(inner, |inner, _| infix(6, get(kind::INDEX_GET, inner, leaf(kind::NULL, 0)), leaf(kind::NULL, 0)))
 }
 
 pub fn doubled(times: usize) -> Vec<u64> {

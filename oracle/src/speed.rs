@@ -122,20 +122,36 @@ fn text(i: u64) -> u64 {
 
 /// Books of a function each, every one including two others: a tree from the root down.
 fn many_books(count: usize) -> Vec<Node> {
-    let book = |number: u64, books: u64| {
+    book_tree(count as u64 / BOOK_RECORDS, 0)
+}
+
+/// The same with functions above the includes of each book (2026-04).
+fn late_includes(count: usize) -> Vec<Node> {
+    book_tree(count as u64 / (BOOK_RECORDS + LATE_FUNCTIONS * LATE_RECORDS), LATE_FUNCTIONS)
+}
+
+/// Functions above the includes, and the records of one.
+const LATE_FUNCTIONS: u64 = 12;
+const LATE_RECORDS: u64 = 5;
+
+fn book_tree(books: u64, above: u64) -> Vec<Node> {
+    let late = |i: u64| {
+        let body = vec![name_node(NAMES[0]), statement(infix(PLUS, identifier(NAMES[0]), identifier(NAMES[0])))];
+        Node::new(kind::FUNCTION, 0, FIRST + 3 + i, body)
+    };
+    let book = |number: u64| {
         let include = |other: u64| {
             let names = vec![name_node(FIRST), name_node(FIRST + 1 + other % 2)];
             Node::new(kind::INCLUDE, 0, FIRST + other, names)
         };
         let others = [2 * number + 1, 2 * number + 2].into_iter().filter(|&other| other < books);
-        let mut parts: Vec<Node> = others.map(include).collect();
+        let mut parts: Vec<Node> = (0..above).map(late).chain(others.map(include)).collect();
         let call = Node::new(kind::CALL, 0, 0, vec![identifier(FIRST + 1), identifier(NAMES[0])]);
         let body = vec![name_node(NAMES[0]), statement(infix(PLUS, call, identifier(NAMES[0])))];
         parts.push(Node::new(kind::PUBLIC_FUNCTION, 0, FIRST, body));
         document(FIRST + number, parts)
     };
-    let books = count as u64 / BOOK_RECORDS;
-    (0..books).map(|number| book(number, books)).collect()
+    (0..books).map(book).collect()
 }
 
 /// What a long book has, in turn; a name is read from the book now and then.
@@ -163,7 +179,7 @@ const SEARCH_FLOATS: &str = "constants, searched at each float";
 /// Floats of the catalogue that repeats them.
 const PRICES: u64 = 50;
 
-pub const SHAPES: [Shape; 10] = [
+pub const SHAPES: [Shape; 11] = [
     Shape { name: "arithmetic bodies", make: |n| one_book(filled(n, arithmetic_function)), squared: None },
     Shape {
         name: "many small functions",
@@ -193,6 +209,7 @@ pub const SHAPES: [Shape; 10] = [
         squared: None,
     },
     Shape { name: "many books", make: many_books, squared: Some("books, looked through for the next ready one") },
+    Shape { name: "late includes", make: late_includes, squared: Some("books, looked through for the next ready one") },
     Shape { name: "one large book", make: |n| one_book(filled(n, mixed_function)), squared: Some(SEARCH_FLOATS) },
 ];
 

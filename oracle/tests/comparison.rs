@@ -51,8 +51,8 @@ fn a_seed_gives_the_same_bundles() {
     assert_eq!(fingerprint(1, 10, Sizes::Large), FINGERPRINT_LARGE);
 }
 
-const FINGERPRINT_MIXED: u64 = 3_532_779_746_091_333_220;
-const FINGERPRINT_LARGE: u64 = 3_159_292_198_826_457_427;
+const FINGERPRINT_MIXED: u64 = 2_418_065_681_372_746_849;
+const FINGERPRINT_LARGE: u64 = 3_126_920_933_600_834_562;
 
 #[test]
 fn the_sample_is_current() {
