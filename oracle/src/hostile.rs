@@ -147,11 +147,15 @@ pub fn bundles(size: u64) -> Vec<Hostile> {
 pub fn locals_doubled(times: usize) -> Hostile {
     const NAMES: usize = 257;
     let first = 100;
-    let names = Node::new(kind::LOCAL, 0, 0, pairs(NAMES, |i| first + i, Node::leaf(kind::ABSENT, 0, 0)));
-    let block = vec![names, statement(leaf(kind::IDENTIFIER, first + NAMES as u64 - 1))];
-    let inner = if_node(leaf(kind::NULL, 0), vec![block]);
-    let words = body(&[], vec![statement(doubling_of(inner, times))]);
-    Hostile { name: format!("257 locals in a target doubled {times} times"), lengths: exact(&words), words }
+    let made = |times| {
+        let names = Node::new(kind::LOCAL, 0, 0, pairs(NAMES, |i| first + i, Node::leaf(kind::ABSENT, 0, 0)));
+        let block = vec![names, statement(leaf(kind::IDENTIFIER, first + NAMES as u64 - 1))];
+        body(&[], vec![statement(doubling_of(if_node(leaf(kind::NULL, 0), vec![block]), times))])
+    };
+    // Each doubling doubles the code but for a constant part, and no other area: so two small ones say what a large one needs.
+    let (small, next) = (exact(&made(4)), exact(&made(5)));
+    let lengths = std::array::from_fn(|i| small[i] + (next[i] - small[i]) * ((1 << times) / 16 - 1));
+    Hostile { name: format!("257 locals in a target doubled {times} times"), lengths, words: made(times) }
 }
 
 /// A side on a thread with a stack of this many bytes, and the processor seconds of its last call.
