@@ -30,7 +30,7 @@ oracle listing [--program]
 oracle hostile [--ours] [--stack BYTES] [--size N] [--locals TIMES]
     bundles at the limits on a small stack, with seconds; --ours compares the library with the model;
     N is the size of those that cost its square; --locals alone makes 257 locals in a target that is
-    doubled so often (24: local numbers past 2^32, 12 GB of memory)
+    doubled so often (24: local numbers past 2^32, 16 GB of memory)
 oracle convert [--seed S] [--count N] [--large] [--limits]
     the library's converters and shape check and the reading over N column files and N word lists,
     or over those at the limits
