@@ -105,7 +105,8 @@ module _ {tree : List ℕ} {end done count : ℕ} {set books : List ℕ} {s : st
       let place : at ≡ entryField 1 r 0 marked % placeUnit = at-is ∙ ap (λ (x : ℕ). x % placeUnit) entry-is in
       let split : left ≡ Q .before ++ (file ∷ Q .later) = Q .split ∙ rw same in
       let S = Q .stands in
-      let W = wait-split ds tree end set (Q .before) file (Q .later) (S .words) (subst (λ (x : List ℕ). AllWait ds tree end set x (S .words)) split (S .waits)) in
+      let W = wait-split ds tree end set (Q .before) file (Q .later) (S .words)
+      (subst (λ (x : List ℕ). AllWait ds tree end set x (S .words)) split (S .waits)) in
       let out : without file left ≡ Q .before ++ Q .later
       = ap (λ (x : List ℕ). without file x) split ∙ apart 0 (Q .before) file (Q .later) (subst (λ (x : List ℕ). Ascends 0 x) split (D .ascends)) in
       let was : marked ≡ files ++ (W .front ++ (W .word ∷ (W .back ++ rest)))

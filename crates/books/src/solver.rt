@@ -217,8 +217,8 @@ fn copy(from: &[u64], to: &mut [u64])
     }
 }
 
-// The books needed, from three empty sets: as many rounds as there are documents, or until one finds nothing new. A document is read in one round, the next after
-// it was found.
+// The books needed, from three empty sets: as many rounds as there are documents, or until one finds nothing new. A document is read in one round, the next
+// after it was found.
 pub(crate) fn needed(tree: &[u64], end: usize, read: &mut [u64], set: &mut [u64], next: &mut [u64])
     requires { ⌜ (length (now read) ≡ length (now set)) × (now next ≡ now set) ⌝ }
     ensures { λ _. ⌜ Needs (now (tree .entry)) end (now (read .entry)) (now (set .entry)) (now (set .exit)) ⌝ }
@@ -363,8 +363,8 @@ fn first_uncompiled(tree: &[u64], at: usize, end: usize, compiled: &[u64]) -> us
     j
 }
 
-// The first of the waiting books, from entry `done` on, whose includes are all compiled; the count where there is none. A book that is not ready is read up to the
-// include that it waits for, and from there on the next time: what is compiled stays so.
+// The first of the waiting books, from entry `done` on, whose includes are all compiled; the count where there is none. A book that is not ready is read up to
+// the include that it waits for, and from there on the next time: what is compiled stays so.
 pub(crate) fn next_ready(
     tree: &[u64],
     end: usize,

@@ -1,5 +1,6 @@
-// Runs the routines of the pool, of the errors, of context locals, of functions' records and of live names on stored cases: areas without room, with room for one,
-// one entry short, and with room for all; names and locals about 2^32, and counts beyond the area. A line is what was answered, then the mark, the count and the area's words; `stdout` has what they must be.
+// Runs the routines of the pool, of the errors, of context locals, of functions' records and of live names on stored cases: areas without room, with room for
+// one, one entry short, and with room for all; names and locals about 2^32, and counts beyond the area. A line is what was answered, then the mark, the count
+// and the area's words; `stdout` has what they must be.
 use building::context;
 use building::function_state;
 use building::pool;

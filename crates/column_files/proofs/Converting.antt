@@ -35,10 +35,12 @@ short-fine s e = rw e
 pub record-put : (tree out : List ℕ) (at : ℕ) {part : List ℕ} {r : Bool} → (at + 1) * lineLength ≤ length out
     → LineWrote (getD tree (at * 4) 0) (getD tree (at * 4 + 1) 0) (getD tree (at * 4 + 2) 0) (getD tree (at * 4 + 3) 0)
     (midOf (at * lineLength) (at * lineLength + lineLength - at * lineLength) out) part r
-    → Lent (linesBy 1 (drop (at * 4) tree)) (at * lineLength) (at * lineLength + lineLength) out (putMid (at * lineLength) (at * lineLength + lineLength - at * lineLength) out part)
+    → Lent (linesBy 1 (drop (at * 4) tree)) (at * lineLength) (at * lineLength + lineLength) out
+    (putMid (at * lineLength) (at * lineLength + lineLength - at * lineLength) out part)
 unfolding linesBy
 record-put tree out at {part} {r} h w =
-    let n : length (midOf (at * lineLength) (at * lineLength + lineLength - at * lineLength) out) ≡ lineLength = mid-len (at * lineLength) (at * lineLength + lineLength) out (omega arith) ∙ omega arith in
+    let n : length (midOf (at * lineLength) (at * lineLength + lineLength - at * lineLength) out) ≡ lineLength = mid-len (at * lineLength)
+    (at * lineLength + lineLength) out (omega arith) ∙ omega arith in
     let t : eqb (length (midOf (at * lineLength) (at * lineLength + lineLength - at * lineLength) out)) lineLength ≡ true = eq-eqb _ lineLength n in
     let b : part ≡ recordLine (getD tree (at * 4) 0) (getD tree (at * 4 + 1) 0) (getD tree (at * 4 + 2) 0) (getD tree (at * 4 + 3) 0) = simp t at (w .bytes) in
     let z : at * 4 + 0 ≡ at * 4 = omega arith in
@@ -69,7 +71,8 @@ line-long w =
     ∙ line-size (getD w 0 0) (getD w 1 0) (getD w 2 0) (getD w 3 0)
 
 pub records-more : (tree before out after : List ℕ) (i : ℕ) → Begun (linesBy i tree) before out (i * lineLength)
-    → Lent (linesBy 1 (drop (i * 4) tree)) (i * lineLength) (i * lineLength + lineLength) out after → Begun (linesBy (i + 1) tree) before after ((i + 1) * lineLength)
+    → Lent (linesBy 1 (drop (i * 4) tree)) (i * lineLength) (i * lineLength + lineLength) out after
+    → Begun (linesBy (i + 1) tree) before after ((i + 1) * lineLength)
 records-more tree before out after i b l =
     let e : i * lineLength + lineLength ≡ (i + 1) * lineLength = omega arith in
     let n : length (linesBy 1 (drop (i * 4) tree)) ≡ i * lineLength + lineLength - i * lineLength = line-long (drop (i * 4) tree) ∙ omega arith in
@@ -82,7 +85,8 @@ lines-next file before out after i b l =
     let n : length (wordsIn (readLine (lineOf i file))) ≡ i * 4 + 4 - i * 4 = words-in (readLine (lineOf i file)) ∙ omega arith in
     rw (words-more i file, ← e) (begun-more (wordsBy i file) before out _ after (i * 4) (i * 4 + 4) b n (omega arith) (l .is))
 
-pub records-all : (tree before out : List ℕ) (i n : ℕ) → Begun (linesBy i tree) before out (i * lineLength) → i ≡ n → out ≡ linesBy n tree ++ drop (n * lineLength) before
+pub records-all : (tree before out : List ℕ) (i n : ℕ) → Begun (linesBy i tree) before out (i * lineLength) → i ≡ n
+    → out ≡ linesBy n tree ++ drop (n * lineLength) before
 records-all tree before out i n b e = b .rest ∙ ap (λ (k : ℕ). linesBy k tree ++ drop (k * lineLength) before) e
 
 -- reading ends at a bad line, after the last, or at a rest of a line

@@ -131,7 +131,8 @@ bad-step : (n i : ℕ) (file : List ℕ) → badBy (suc n) (i + 1) (drop (i * li
 unfolding badBy
 bad-step n i file =
     let e : i * lineLength + lineLength ≡ (i + 1) * lineLength = omega arith in
-    ap (λ (l : List ℕ). goodThen (readLine (lineOf i file)) (i + 1) (badBy n (i + 1 + 1) l)) (drop-drop lineLength (i * lineLength) file ∙ ap (λ (k : ℕ). drop k file) e)
+    ap (λ (l : List ℕ). goodThen (readLine (lineOf i file)) (i + 1) (badBy n (i + 1 + 1) l))
+    (drop-drop lineLength (i * lineLength) file ∙ ap (λ (k : ℕ). drop k file) e)
 
 module _ (file : List ℕ) (i : ℕ) (h : i < linesIn file) {l : Line} (L : l ≡ readLine (lineOf i file)) where
   step : badBy (linesIn file - i) (i + 1) (drop (i * lineLength) file)
@@ -152,13 +153,15 @@ module _ (file : List ℕ) (i : ℕ) (h : i < linesIn file) {l : Line} (L : l �
 pub bad-none : (file : List ℕ) (i : ℕ) → linesIn file ≤ i → i ≤ linesIn file → length file % lineLength ≡ 0
     → badBy (linesIn file - i) (i + 1) (drop (i * lineLength) file) ≡ 0
 bad-none file i h l z =
-    let e : eqb (length (drop (i * lineLength) file)) 0 ≡ true = eq-eqb (length (drop (i * lineLength) file)) 0 (omega (arith, length-drop (i * lineLength) file)) in
+    let e : eqb (length (drop (i * lineLength) file)) 0 ≡ true = eq-eqb (length (drop (i * lineLength) file)) 0
+    (omega (arith, length-drop (i * lineLength) file)) in
     bad-end file i h l ∙ rw e
 
 pub bad-rest : (file : List ℕ) (i : ℕ) → linesIn file ≤ i → i ≤ linesIn file → (length file % lineLength ≡ 0 → ⊥)
     → badBy (linesIn file - i) (i + 1) (drop (i * lineLength) file) ≡ linesIn file + 1
 bad-rest file i h l z =
-    let e : eqb (length (drop (i * lineLength) file)) 0 ≡ false = ne-eqb (length (drop (i * lineLength) file)) 0 (λ x. z (omega (arith, length-drop (i * lineLength) file, x))) in
+    let e : eqb (length (drop (i * lineLength) file)) 0 ≡ false = ne-eqb (length (drop (i * lineLength) file)) 0
+    (λ x. z (omega (arith, length-drop (i * lineLength) file, x))) in
     bad-end file i h l ∙ rw e (let y : i + 1 ≡ linesIn file + 1 = omega arith in y)
 
 -- lines
@@ -176,7 +179,8 @@ lines-more (suc n) w =
 
 -- the part of a file that is a line
 pub line-part : (file : List ℕ) (i : ℕ) → readLine (take (i * lineLength + lineLength - i * lineLength) (drop (i * lineLength) file)) ≡ readLine (lineOf i file)
-line-part file i = let e : i * lineLength + lineLength - i * lineLength ≡ lineLength = omega arith in ap (λ (n : ℕ). readLine (take n (drop (i * lineLength) file))) e
+line-part file i = let e : i * lineLength + lineLength - i * lineLength ≡ lineLength = omega arith in ap
+    (λ (n : ℕ). readLine (take n (drop (i * lineLength) file))) e
 
 -- the words of a file for the shape check
 

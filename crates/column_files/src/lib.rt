@@ -37,7 +37,8 @@ pub struct Converted {
 fn write_record(tree: &[u64], at: usize, out: &mut [u8])
     requires { ⌜ (at + 1) * 4 ≤ length (now tree) ⌝ }
     requires { ⌜ (at + 1) * lineLength ≤ length (now out) ⌝ }
-    ensures { λ _. ⌜ Lent (linesBy 1 (drop (at * 4) (now (tree .entry)))) (at * lineLength) (at * lineLength + lineLength) (now (out .entry)) (now (out .exit)) ⌝ }
+    ensures { λ _. ⌜ Lent (linesBy 1 (drop (at * 4) (now (tree .entry)))) (at * lineLength) (at * lineLength + lineLength) (now (out .entry))
+        (now (out .exit)) ⌝ }
 {
     let i = at * RECORD_WORDS;
     let from = at * LINE_LENGTH;

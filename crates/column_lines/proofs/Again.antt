@@ -201,7 +201,8 @@ module _ (a b c d e : List ℕ) (la : length a ≡ kindWidth) (lb : length b ≡
       ∙ next-byte b _ spanWidth (lineWidth + (columnWidth + valueWidth)) lb ∙ next-byte c _ lineWidth (columnWidth + valueWidth) lc
       ∙ next-byte d _ columnWidth valueWidth ld ∙ next-byte e _ valueWidth 0 le
 
-module _ (k s p v : ℕ) (hk : k < 10 ^ kindWidth) (hs : s < 10 ^ spanWidth) (hl : lineOf p < 10 ^ lineWidth) (hc : columnOf p < 10 ^ columnWidth) (hv : v < wordEnd) where
+module _ (k s p v : ℕ) (hk : k < 10 ^ kindWidth) (hs : s < 10 ^ spanWidth) (hl : lineOf p < 10 ^ lineWidth) (hc : columnOf p < 10 ^ columnWidth)
+    (hv : v < wordEnd) where
   abbrev n0 : List ℕ
   n0 = numeral kindWidth false k
 
@@ -234,11 +235,13 @@ module _ (k s p v : ℕ) (hk : k < 10 ^ kindWidth) (hs : s < 10 ^ spanWidth) (hl
 
   kind-read : kindIn (recordLine k s p v) ≡ Word k
   unfolding recordLine
-  kind-read = ap (readNumeral false) (f0 n0 n1 n2 n3 n4 l0 l1 l2 l3 l4) ∙ read-written kindWidth false k (omega arith) (natural-fits kindWidth k (omega arith) hk)
+  kind-read = ap (readNumeral false) (f0 n0 n1 n2 n3 n4 l0 l1 l2 l3 l4)
+      ∙ read-written kindWidth false k (omega arith) (natural-fits kindWidth k (omega arith) hk)
 
   span-read : spanIn (recordLine k s p v) ≡ Word s
   unfolding recordLine
-  span-read = ap (readNumeral false) (f1 n0 n1 n2 n3 n4 l0 l1 l2 l3 l4) ∙ read-written spanWidth false s (omega arith) (natural-fits spanWidth s (omega arith) hs)
+  span-read = ap (readNumeral false) (f1 n0 n1 n2 n3 n4 l0 l1 l2 l3 l4)
+      ∙ read-written spanWidth false s (omega arith) (natural-fits spanWidth s (omega arith) hs)
 
   place-read : placeIn (recordLine k s p v) ≡ Word p
   unfolding recordLine
@@ -255,7 +258,8 @@ module _ (k s p v : ℕ) (hk : k < 10 ^ kindWidth) (hs : s < 10 ^ spanWidth) (hl
   unfolding recordLine
   value-read =
       ap (λ (t : Bool). readNumeral t (fieldIn valuePlace valueWidth (recordLine k s p v))) (ap signedIs kind-read)
-      ∙ ap (readNumeral (eqb k signedKind)) (f4 n0 n1 n2 n3 n4 l0 l1 l2 l3 l4) ∙ read-written valueWidth (eqb k signedKind) v hv (value-fits (eqb k signedKind) v hv)
+      ∙ ap (readNumeral (eqb k signedKind)) (f4 n0 n1 n2 n3 n4 l0 l1 l2 l3 l4)
+      ∙ read-written valueWidth (eqb k signedKind) v hv (value-fits (eqb k signedKind) v hv)
 
   ends-read : getD (recordLine k s p v) newlinePlace 0 ≡ newline
   unfolding recordLine

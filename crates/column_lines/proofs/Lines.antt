@@ -138,7 +138,8 @@ line-done kind span position value before after l e =
 
 module _ (kind span position value : ℕ) (b0 b1 b2 b3 b4 b5 : List ℕ) (long : length b0 ≡ lineLength) {row column : ℕ} (Ro : row ≡ lineOf position)
     (Co : column ≡ columnOf position)
-    (e1 : b1 ≡ take 0 b0 ++ (numeral kindWidth false kind ++ drop spanPlace b0)) (e2 : b2 ≡ take spanPlace b1 ++ (numeral spanWidth false span ++ drop linePlace b1))
+    (e1 : b1 ≡ take 0 b0 ++ (numeral kindWidth false kind ++ drop spanPlace b0))
+    (e2 : b2 ≡ take spanPlace b1 ++ (numeral spanWidth false span ++ drop linePlace b1))
     (e3 : b3 ≡ take linePlace b2 ++ (numeral lineWidth false row ++ drop columnPlace b2))
     (e4 : b4 ≡ take columnPlace b3 ++ (numeral columnWidth false column ++ drop valuePlace b3))
     (e5 : b5 ≡ take valuePlace b4 ++ (numeral valueWidth (eqb kind signedKind) value ++ drop newlinePlace b4)) where

@@ -117,7 +117,8 @@ pub standing-fits : (w lengths : List ℕ) (c r : Context) → Stands lengths c 
 standing-fits w lengths c r s e = stands-fits lengths r (standing-stands w lengths c r s e)
 
 -- demand 3 of the words, with no premise on operands
-pub answer-keeps : (w lengths : List ℕ) (c : Context) → length lengths ≡ 13 → answer w lengths ≡ Delivery c → KeepsWithin (delivered lengths c) 0 (logsOf (c .functions))
+pub answer-keeps : (w lengths : List ℕ) (c : Context) → length lengths ≡ 13 → answer w lengths ≡ Delivery c
+    → KeepsWithin (delivered lengths c) 0 (logsOf (c .functions))
 answer-keeps w lengths c n e =
     subst (λ (p : Prior). KeepsWithin (delivered lengths c) (length (p .functions)) (logsOf (c .functions))) (answer-prior w lengths c e)
     (delivery-keeps w lengths c n e (answer-fits w lengths c e))

@@ -40,7 +40,8 @@ use Rattle.definition.proofs.Lists.{all-map, all-append, Kept, Fresh, k
 use Rattle.definition.proofs.Lists.{kept-patch, kept-init, cond-case}
 use Rattle.definition.specs.Compiler.{compileFunctionDefinitionBase}
 use Rattle.definition.proofs.Moves
-use Rattle.definition.proofs.Moves.{code, errs, MovesBut, Moves, NoNext, Moving, moves-refl, moves-trans, moves-function, emit-moves, set-moves, define-moves}
+use Rattle.definition.proofs.Moves.{code, errs, MovesBut, Moves, NoNext, Moving, moves-refl, moves-trans, moves-function, emit-moves, set-moves}
+use Rattle.definition.proofs.Moves.{define-moves}
 use Rattle.definition.proofs.Moves.{constant-moves, emit-constant-moves, operation-moves, if-moves, for-moves}
 use Rattle.definition.proofs.Sound.{InSome, own, farther, Sound, Solid, SoundSolid, Pending, Wider, fits-mono, sound-more, sound-emit, solid-emit}
 use Rattle.definition.proofs.Sound.{sound-null, sound-close, sound-return, sound-set, pending-apart, all-push, all-tail, sound-break, sound-exit}
@@ -719,7 +720,8 @@ pub function-moves : (parameters : List Token) (body : Statements) (w : Work)
     → Moves (withFunction Emission.newFunctionState w) (compileFunctionDefinitionBase parameters body w)
 unfolding compileFunctionDefinitionBase
 function-moves ps body w = moves-trans (parameters-compile ps .moves _)
-    (moves-trans (moves-function _ _ (kept-refl _) refl (le-refl _) refl (λ i q. inl q)) (moves-trans (statements-compile body .moves _) (Moves.return-moves _ _)))
+    (moves-trans (moves-function _ _ (kept-refl _) refl (le-refl _) refl (λ i q. inl q))
+    (moves-trans (statements-compile body .moves _) (Moves.return-moves _ _)))
 
 -- demand 3 of one function
 pub function-safe : (parameters : List Token) (body : Statements) (w : Work) → Ready w → errs (compileFunctionDefinitionBase parameters body w) ≡ []

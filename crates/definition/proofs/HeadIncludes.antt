@@ -106,7 +106,8 @@ drive-before : (k : ℕ) (ds : List Document) (done left : List ℕ) (c : Contex
 unfolding drive driveBefore
 drive-before zero ds done left c uses h = refl
 drive-before (suc k) ds done left c uses h =
-    rw (ready-before ds done left h) (go (ready ds done left) (λ d c′ us. drive-before k ds _ _ c′ us (record { first = λ n e. h .first n (without-keeps n (d .filename) left e) })))
+    rw (ready-before ds done left h) (go (ready ds done left) (λ d c′ us. drive-before k ds _ _ c′ us
+    (record { first = λ n e. h .first n (without-keeps n (d .filename) left e) })))
   where
     before : Document → Context → List Use → Worked
     before d c′ us = driveBefore k ds (d .filename ∷ done) (without (d .filename) left) c′ us

@@ -37,7 +37,8 @@ use Rattle.definition.proofs.Sound.{find-name}
 use Rattle.definition.proofs.Cells.{Wide, Wides, end, _then_, all-at, table-word, table-whole, entries-all, entries-wide, single-length}
 use Rattle.words.proofs.Codes.{unword-word}
 use Rattle.definition.proofs.FunctionCode.{OperandsFit, Sized, functionAt, noFunction, functionsCode-length, functionsCode-at}
-use Rattle.definition.proofs.FunctionCode.{functionsCode-wide, functions-length, functions-wide, functions-at, code-inside, logs-at, code-loose, logs-length}
+use Rattle.definition.proofs.FunctionCode.{functionsCode-wide, functions-length, functions-wide, functions-at, code-inside, logs-at, code-loose}
+use Rattle.definition.proofs.FunctionCode.{logs-length}
 
 -- an area holds entries, all of them and whole
 pub record Holds (m : Areas) (t : Totals) (area : ℕ) (es : Entries) : Type 0 where
@@ -83,14 +84,16 @@ module _ {p : Program} {this : List ℕ} {j : ℕ} (f : FunctionWithin p this j)
       → Test (boundByFunction (classOf (instructionAt (p .areas) i .opcode)) p j (instructionAt (p .areas) i .operand))
   operand-bound i t =
       let from : startOf p j ≤ i = leb→le (startOf p j) i (first-of (leb (startOf p j) i) (ltb i (startOf p j + lengthOf p j)) t) in
-      let to : i < startOf p j + lengthOf p j = ltb→lt i (startOf p j + lengthOf p j) (second-of (leb (startOf p j) i) (ltb i (startOf p j + lengthOf p j)) t) in
+      let to : i < startOf p j + lengthOf p j = ltb→lt i (startOf p j + lengthOf p j)
+      (second-of (leb (startOf p j) i) (ltb i (startOf p j + lengthOf p j)) t) in
       let k = i - startOf p j in
       let same : startOf p j + k ≡ i = omega arith in
       by-function (classOf (instructionAt (p .areas) i .opcode)) p this j k (instructionAt (p .areas) i .operand)
       (subst (λ n. Fits (countsIn p this j) k (instructionAt (p .areas) n)) same (f .fits k (omega arith)))
 
 -- by totals
-loose-test : (k : Class) (p : Program) (n : ℕ) {K C : ℕ} → total p constantsArea ≡ K → total p contextLocalsArea ≡ C → LooseBy k K C n → Test (boundByTotals k p n)
+loose-test : (k : Class) (p : Program) (n : ℕ) {K C : ℕ} → total p constantsArea ≡ K → total p contextLocalsArea ≡ C → LooseBy k K C n
+    → Test (boundByTotals k p n)
 loose-test Pool p n a b h = less n (total p constantsArea) (omega (arith, a))
 loose-test ContextSlot p n a b h = less n (total p contextLocalsArea) (omega (arith, b))
 loose-test Position p n a b h = passes
@@ -449,7 +452,8 @@ module _ {m : Areas} {t : Totals} (c : Context) (holds : (area : ℕ) → Holds 
       each-function Q f j h = go (decLt j (length (c .prior .functions)))
         where
           go : Dec (j < length (c .prior .functions)) → Q j
-          go (yes q) = f j (below (getD (getD (c .prior .functions) j []) lengthWord 0)) (standing-within p c safe fit (holds codeArea) (holds functionsArea) constantTotal contextTotal bookTotal j q)
+          go (yes q) = f j (below (getD (getD (c .prior .functions) j []) lengthWord 0))
+              (standing-within p c safe fit (holds codeArea) (holds functionsArea) constantTotal contextTotal bookTotal j q)
           go (no q) =
               let i = j - length (c .prior .functions) in
               let there : length (c .prior .functions) + i ≡ j = omega arith in
@@ -463,8 +467,10 @@ module _ {m : Areas} {t : Totals} (c : Context) (holds : (area : ℕ) → Holds 
           let (k, q) = held (holds codeArea) codeLoose i h in
           let x : Loose K C (instructionAt m i) = rw (holds codeArea .cells i 0 k (omega arith)) q in
           both (loose-test (classOf (instructionAt m i .opcode)) p (instructionAt m i .operand) constantTotal contextTotal x)
-          (all-below (present p functionsArea) (λ j. where′ (has p j i) (boundByFunction (classOf (instructionAt m i .opcode)) p j (instructionAt m i .operand)))
-          (λ j n. where-holds (has p j i) (each-function (λ n. T (has p n i) → Test (boundByFunction (classOf (instructionAt m i .opcode)) p n (instructionAt m i .operand)))
+          (all-below (present p functionsArea) (λ j. where′ (has p j i)
+          (boundByFunction (classOf (instructionAt m i .opcode)) p j (instructionAt m i .operand)))
+          (λ j n. where-holds (has p j i) (each-function (λ n. T (has p n i)
+          → Test (boundByFunction (classOf (instructionAt m i .opcode)) p n (instructionAt m i .operand)))
           (λ n this f. operand-bound f i) j (omega (arith, present-below p functionsArea)))))
 
       constant-bound : (i : ℕ) → i < totalOf t constantsArea → Test (constantBound p i)
@@ -480,11 +486,13 @@ module _ {m : Areas} {t : Totals} (c : Context) (holds : (area : ℕ) → Holds 
           (less (field p constantsArea i 2) 2 (omega (arith, mark, q .2)))
 
       model-bound : (i : ℕ) → i < totalOf t modelsArea → Test (modelBound p i)
-      model-bound i h = let (k, q) = held modelsHeld modelsFiled i h in less (field p modelsArea i 0) (total p booksArea) (omega (arith, modelsHeld .cells i 0 k (omega arith), bookTotal))
+      model-bound i h = let (k, q) = held modelsHeld modelsFiled i h in less (field p modelsArea i 0) (total p booksArea)
+          (omega (arith, modelsHeld .cells i 0 k (omega arith), bookTotal))
 
       property-bound : (i : ℕ) → i < totalOf t propertiesArea → Test (propertyBound p i)
       property-bound i h =
-          let (k, q) = held propertiesHeld propertiesOwned i h in less (field p propertiesArea i 0) (total p modelsArea) (omega (arith, propertiesHeld .cells i 0 k (omega arith), modelTotal))
+          let (k, q) = held propertiesHeld propertiesOwned i h in less (field p propertiesArea i 0) (total p modelsArea)
+          (omega (arith, propertiesHeld .cells i 0 k (omega arith), modelTotal))
 
       method-bound : (i : ℕ) → i < totalOf t methodsArea → Test (methodBound p i)
       method-bound i h =
@@ -523,7 +531,8 @@ module _ {m : Areas} {t : Totals} (c : Context) (holds : (area : ℕ) → Holds 
           (by area publicNamesArea i h (public-bound i) passes)))))))
 
       entered : EntryWithin F (c .entryPoint) → Test (entryPointBound (totalOf t functionsArea) (c .entryPoint))
-      entered (inl q) = or-first (eqb (c .entryPoint) 0 && eqb (totalOf t functionsArea) 0) (less (c .entryPoint) (totalOf t functionsArea) (omega (arith, functionTotal)))
+      entered (inl q) = or-first (eqb (c .entryPoint) 0 && eqb (totalOf t functionsArea) 0)
+          (less (c .entryPoint) (totalOf t functionsArea) (omega (arith, functionTotal)))
       entered (inr q) = or-second (ltb (c .entryPoint) (totalOf t functionsArea)) (both (equal (q .0)) (equal (functionTotal ∙ q .1)))
 
 -- every table has its area's width

@@ -233,7 +233,8 @@ return-same p f = cond-case (λ (g : FunctionState). SameButCode f g) (eqb (last
 close-next : (f : FunctionState) (i : ℕ) → Next (removePopOrPushNull f .instructions) i → Next (f .instructions) i ⊎ Among i []
 unfolding removePopOrPushNull
 close-next f = cond-case (λ (g : FunctionState). (i : ℕ) → Next (g .instructions) i → Next (f .instructions) i ⊎ Among i []) (eqb (lastOpcode f) Pop)
-    (λ t i q. each-init (λ j (y : Instruction). y .opcode ≡ ForNext → Next (f .instructions) j ⊎ Among j []) (f .instructions) (λ j r s. inl (r, s)) i (q .0) (q .1))
+    (λ t i q. each-init (λ j (y : Instruction). y .opcode ≡ ForNext → Next (f .instructions) j ⊎ Among j []) (f .instructions) (λ j r s. inl (r, s)) i (q .0)
+    (q .1))
     (λ t. cond-case (λ (g : FunctionState). (i : ℕ) → Next (g .instructions) i → Next (f .instructions) i ⊎ Among i []) (eqb (lastOpcode f) ReturnOp)
     (λ s. (λ i q. inl q)) (λ s. emit-next (f .instructions) _ tt))
 
@@ -381,7 +382,8 @@ module _ {a : Step} (A : Moving a) where
 
   pub deeper-moves : Moving (deeper a)
   unfolding deeper
-  deeper-moves w = moves-trans (moves-function w _ (kept-refl _) refl (le-refl _) refl (λ i q. inl q)) (moves-trans (A _) (moves-function _ _ (kept-refl _) refl (le-refl _) refl (λ i q. inl q)))
+  deeper-moves w = moves-trans (moves-function w _ (kept-refl _) refl (le-refl _) refl (λ i q. inl q))
+      (moves-trans (A _) (moves-function _ _ (kept-refl _) refl (le-refl _) refl (λ i q. inl q)))
 
   pub expression-statement-moves : Moving (compileExpressionStatement a)
   unfolding compileExpressionStatement

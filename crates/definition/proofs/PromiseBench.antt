@@ -1,5 +1,5 @@
--- What each part of the compile call's promise rules out, on a book that is refused: `implement` on an unknown name, row 7 with error 10. The reply's number and
--- place, and every word of every area, are said. Assumes nothing.
+-- What each part of the compile call's promise rules out, on a book that is refused: `implement` on an unknown name, row 7 with error 10. The reply's number
+-- and place, and every word of every area, are said. Assumes nothing.
 use Prim.Native.Nat.{ℕ}
 use mathlib.Core.Path.{_≡_, refl, ap, _∙_}
 use mathlib.Core.List.{List, [], _∷_}

@@ -18,7 +18,8 @@ use Rattle.definition.specs.FunctionState.{Entry, FunctionState, findNam
 use Rattle.definition.specs.Uses.{Use}
 use Rattle.definition.specs.Compiler.{Error, findConstant}
 use Rattle.definition.specs.Book
-use Rattle.definition.specs.Book.{functionCount, modelCount, Context, newContext, Deed, Placed, working, addBookConstant, defineContextLocal, defineContextLocalBy, setLocalValue}
+use Rattle.definition.specs.Book.{functionCount, modelCount, Context, newContext, Deed, Placed, working, addBookConstant, defineContextLocal}
+use Rattle.definition.specs.Book.{defineContextLocalBy, setLocalValue}
 use Rattle.definition.specs.Book.{includedName, giveValue, compileAlias, compileIncludeDefinition, Value, Standing, Adding, NoConstant, valueOf}
 use Rattle.definition.specs.Book.{compileValue, compileBindingBy, compileBinding, compileLocalDefinition, hasText, Properties, addProperty}
 use Rattle.definition.specs.Book.{compileProperties, addModel, compileModelDefinition, compileBase, addFunction, addPlainFunction}

@@ -134,7 +134,8 @@ bound-faults = refl
 -- a book's number, and one twice
 abbrev unknown : List Change
 unknown =
-    instruction 11 0xFF 0 ∷ instruction 11 0x21 10 ∷ change codeArea 11 1 0xFFFF_FFFF ∷ change codeArea 11 1 100000000 ∷ change codeArea 11 1 429496729600000000 ∷ change constantsArea 5 0 7 ∷ change constantsArea 0 1 1
+    instruction 11 0xFF 0 ∷ instruction 11 0x21 10 ∷ change codeArea 11 1 0xFFFF_FFFF ∷ change codeArea 11 1 100000000
+    ∷ change codeArea 11 1 429496729600000000 ∷ change constantsArea 5 0 7 ∷ change constantsArea 0 1 1
     ∷ change constantsArea 1 1 2 ∷ change constantsArea 5 1 0 ∷ change functionsArea 0 3 2 ∷ change functionsArea 0 7 0 ∷ change modelsArea 0 1 1048576
     ∷ change propertiesArea 0 1 0 ∷ change methodsArea 0 1 0 ∷ change contextLocalsArea 0 1 0 ∷ change contextLocalsArea 0 2 0 ∷ change publicNamesArea 0 1 0
     ∷ change booksArea 0 0 0 ∷ change booksArea 1 0 3 ∷ []
@@ -167,7 +168,9 @@ unfolding logged
 loop-logged = refl
 
 -- a compound target that holds a loop is compiled twice, and so are two loops
-target-logged : map (λ (g : Log). loopsOf (g .trace)) (logged (1 ∷ 15 ∷ 0 ∷ 2 ∷ 14 ∷ 14 ∷ 0 ∷ 3 ∷ 40 ∷ 1 ∷ 0 ∷ 4 ∷ 25 ∷ 12 ∷ 0 ∷ 0 ∷ 39 ∷ 11 ∷ 0 ∷ 6 ∷ 45 ∷ 9 ∷ 0 ∷ 0 ∷ 42 ∷ 7 ∷ 0 ∷ 0 ∷ 30 ∷ 1 ∷ 0 ∷ 4 ∷ 43 ∷ 5 ∷ 0 ∷ 0 ∷ 24 ∷ 4 ∷ 0 ∷ 0 ∷ 40 ∷ 1 ∷ 0 ∷ 5 ∷ 30 ∷ 1 ∷ 0 ∷ 4 ∷ 22 ∷ 1 ∷ 0 ∷ 0 ∷ 35 ∷ 1 ∷ 0 ∷ 1 ∷ 33 ∷ 1 ∷ 0 ∷ 1 ∷ []))
+target-logged : map (λ (g : Log). loopsOf (g .trace)) (logged (1 ∷ 15 ∷ 0 ∷ 2 ∷ 14 ∷ 14 ∷ 0 ∷ 3 ∷ 40 ∷ 1 ∷ 0 ∷ 4 ∷ 25 ∷ 12 ∷ 0 ∷ 0 ∷ 39 ∷ 11 ∷ 0 ∷ 6 ∷ 45 ∷ 9
+    ∷ 0 ∷ 0 ∷ 42 ∷ 7 ∷ 0 ∷ 0 ∷ 30 ∷ 1 ∷ 0 ∷ 4 ∷ 43 ∷ 5 ∷ 0 ∷ 0 ∷ 24 ∷ 4 ∷ 0 ∷ 0 ∷ 40 ∷ 1 ∷ 0 ∷ 5 ∷ 30 ∷ 1 ∷ 0 ∷ 4 ∷ 22 ∷ 1 ∷ 0 ∷ 0 ∷ 35 ∷ 1 ∷ 0 ∷ 1 ∷ 33 ∷ 1
+    ∷ 0 ∷ 1 ∷ []))
     ≡ (record { exit = 11; breaks = 14 ∷ []; after = 17 } ∷ record { exit = 33; breaks = 36 ∷ []; after = 39 } ∷ []) ∷ []
 unfolding logged
 target-logged = refl

@@ -40,13 +40,15 @@ use Rattle.definition.specs.Compiler.{Error, Work, Step, Added, doing, emit, pu
 use Rattle.definition.specs.Compiler.{InfixKind, Assigning, Plain, Negated, Compound, Unknown, infixKind, compileInfixBy}
 use Rattle.definition.specs.Compiler.{compileStatement, compileStatements, compileExpression, compileExpressions, compileVariables}
 use Rattle.definition.specs.Compiler.{compileAssignExpressionLeftPart, compileParameter, compileParameters, skip, andThen, deeper, compileRescue}
-use Rattle.definition.specs.Compiler.{compileBare, compileValued, compileExpressionStatement, compileForStatement, compileIfExpression, compilePart, compileNoPart}
+use Rattle.definition.specs.Compiler.{compileBare, compileValued, compileExpressionStatement, compileForStatement, compileIfExpression, compilePart}
+use Rattle.definition.specs.Compiler.{compileNoPart}
 use Rattle.definition.specs.Compiler.{compileArrayExpression, compileCallExpression, compilePrefixExpression, compileInfixExpression, compileOperation}
 use Rattle.definition.specs.Compiler.{compileAssignExpression, compilePair, compileAssignName, compileThisExpression, compileIdentifierExpression}
 use Rattle.definition.specs.Compiler.{compileNullExpression, compileBooleanExpression, compileStringExpression, compileFloatExpression}
 use Rattle.definition.specs.Compiler.{compileIntegerExpression, compileFunctionDefinitionBase}
 use Rattle.definition.specs.Book
-use Rattle.definition.specs.Book.{Context, Placed, Properties, Methods, MaybePlaced, Made, Value, Standing, Adding, NoConstant, working, resumed, addBookConstant}
+use Rattle.definition.specs.Book.{Context, Placed, Properties, Methods, MaybePlaced, Made, Value, Standing, Adding, NoConstant, working, resumed}
+use Rattle.definition.specs.Book.{addBookConstant}
 use Rattle.definition.specs.Book.{defineContextLocal, setLocalValue, giveValue, compileAlias, compileIncludeDefinition, valueOf, compileValue, compileBinding}
 use Rattle.definition.specs.Book.{compileLocalDefinition, addProperty, compileProperties, compileModelDefinition, publish, compileBase, addPlainFunction}
 use Rattle.definition.specs.Book.{compileFunctionDefinition, findModelIndexByLocalName, addMethods, compileMethods, compileImplementDefinition, addFunction}
@@ -353,7 +355,8 @@ module _ (w : List ℕ) (here : (i : ℕ) → 0 < spanAt w i → KnownToken (tok
   includes file [] b h = h
   includes file (a ∷ l) b h =
       let d = defineContextLocal (a .alias .value) b in
-      includes file l (compileAlias file a b) (give (d .place) (Book.includedName file (a .publicName .value) (b .context)) (d .book) (local (a .alias .value) b h))
+      includes file l (compileAlias file a b) (give (d .place) (Book.includedName file (a .publicName .value) (b .context)) (d .book)
+      (local (a .alias .value) b h))
 
   value : (x : Value) (t : Token) → KnownToken t → (o : Option ℕ) (b : Book.Book) → AllKnown (b .compiler .errors)
       → AllKnown (compileValue x t o b .compiler .errors)
@@ -472,7 +475,8 @@ module _ (w : List ℕ) (here : (i : ℕ) → 0 < spanAt w i → KnownToken (tok
       let e = findModelIndexByLocalName t (d .book) in
       add-methods (e .place) (Book.methodsOf (d .place) (d .book .context)) (e .book) (find-model t T (d .book) (find-model s S b h))
 
-  definition : (d : Definition) (i : ℕ) → DefinitionAt d w i → (b : Book.Book) → AllKnown (b .compiler .errors) → AllKnown (compileDefinition d b .compiler .errors)
+  definition : (d : Definition) (i : ℕ) → DefinitionAt d w i → (b : Book.Book) → AllKnown (b .compiler .errors)
+      → AllKnown (compileDefinition d b .compiler .errors)
   unfolding compileDefinition DefinitionAt
   definition (LocalDefinition l) i x b h = locals l (i + 1) (x .1) b h
   definition (IncludeDefinition t l) i x b h = includes (t .value) l b h
@@ -625,7 +629,8 @@ record-known w f i l n a b =
 abbrev TextNumber : ℕ → Type 0
 TextNumber n = isText n ≡ true
 
-module _ (w : List ℕ) (here : (i : ℕ) → 0 < spanAt w i → KnownToken (tokenAt w i)) (texts : (i : ℕ) → 0 < spanAt w i → kindAt w i ≡ 1 → TextNumber (valueAt w i)) where
+module _ (w : List ℕ) (here : (i : ℕ) → 0 < spanAt w i → KnownToken (tokenAt w i))
+    (texts : (i : ℕ) → 0 < spanAt w i → kindAt w i ≡ 1 → TextNumber (valueAt w i)) where
   file-text : (d : Document) → Stands w here d → TextNumber (d .filename)
   file-text d x =
       let h = x .1 .head in
@@ -655,7 +660,8 @@ module _ (w : List ℕ) (here : (i : ℕ) → 0 < spanAt w i → KnownToken (tok
   ready-stands ds S done [] d e = absurd (let z : _≡_ {A = ℕ} 0 1 = cc e in omega (arith, z))
   ready-stands ds S done (n ∷ ns) d e = go (findDocument n ds) refl (ready-stands ds S done ns d) e
     where
-      go : (o : Option Document) → findDocument n ds ≡ o → (ready ds done ns ≡ some d → Stands w here d) → readyBy o done (ready ds done ns) ≡ some d → Stands w here d
+      go : (o : Option Document) → findDocument n ds ≡ o → (ready ds done ns ≡ some d → Stands w here d) → readyBy o done (ready ds done ns) ≡ some d
+          → Stands w here d
       go none q r e = r e
       go (some x) q r e = by (allIn (dependencies (x .definitions)) done) e
         where
@@ -794,7 +800,8 @@ listed-known : (es : List Error) → AllKnown es → (m i j : ℕ) → firstUnkn
 unfolding firstUnknown
 listed-known [] none m i j = ap (firstUnknown j) (no-errors m)
 listed-known (e ∷ es) (p & ps) m i j =
-    ap (firstUnknown j) (errors-cons (e .number) (e .token .position) (e .token .kind) (e .token .value) (flat (entriesFrom errorEntry (i + 1) es) ++ replicate m 0))
+    ap (firstUnknown j) (errors-cons (e .number) (e .token .position) (e .token .kind) (e .token .value)
+    (flat (entriesFrom errorEntry (i + 1) es) ++ replicate m 0))
     ∙ go (isZeros e) (listed-known es ps m (i + 1) (j + 1))
   where
     go : (t : Bool) → firstUnknown (j + 1) (errorsIn (flat (entriesFrom errorEntry (i + 1) es) ++ replicate m 0)) ≡ none
@@ -817,7 +824,8 @@ unfolding areasOf tablesOf errorTables
 answer-left lengths (Delivery c) k =
     area-known NoneUnknown lengths (tablesOf c) errorsArea (listed-known [] none 0 0 0) (λ n. listed-known [] none (n - 0) 0 0)
 answer-left lengths (Refusal n p es) k =
-    area-known NoneUnknown lengths (errorTables es) errorsArea (listed-known [] none 0 0 0) (λ n. listed-known es k (n - length (flat (entriesFrom errorEntry 0 es))) 0 0)
+    area-known NoneUnknown lengths (errorTables es) errorsArea (listed-known [] none 0 0 0)
+    (λ n. listed-known es k (n - length (flat (entriesFrom errorEntry 0 es))) 0 0)
 
 -- over any words and areas of any lengths: the list that the call leaves in area 11 has no error that `errors_in_words` does not know
 pub compiled-known : (w lengths : List ℕ) → firstUnknown 0 (errorsIn (getD (areasOf lengths (answer w lengths)) errorsArea [])) ≡ none

@@ -21,7 +21,8 @@ passing f zero = []
 passing f (suc n) = passing f n ++ cond (f n) (n ∷ []) []
 
 kinds-known : passing isKind 60
-    ≡ 1 ∷ 10 ∷ 11 ∷ 12 ∷ 13 ∷ 14 ∷ 15 ∷ 16 ∷ 17 ∷ 20 ∷ 21 ∷ 22 ∷ 23 ∷ 24 ∷ 25 ∷ 30 ∷ 31 ∷ 32 ∷ 33 ∷ 34 ∷ 35 ∷ 36 ∷ 37 ∷ 38 ∷ 39 ∷ 40 ∷ 41 ∷ 42 ∷ 43 ∷ 44 ∷ 45 ∷ 46
+    ≡ 1 ∷ 10 ∷ 11 ∷ 12 ∷ 13 ∷ 14 ∷ 15 ∷ 16 ∷ 17 ∷ 20 ∷ 21 ∷ 22 ∷ 23 ∷ 24 ∷ 25 ∷ 30 ∷ 31 ∷ 32 ∷ 33 ∷ 34 ∷ 35 ∷ 36 ∷ 37 ∷ 38 ∷ 39 ∷ 40 ∷ 41 ∷ 42 ∷ 43 ∷ 44 ∷ 45
+    ∷ 46
     ∷ 47 ∷ 49 ∷ []
 unfolding isKind standsIn
 kinds-known = refl
@@ -79,7 +80,8 @@ one-line : inWords (9 ∷ packPosition 12 5 ∷ 40 ∷ 2 ∷ 0 ∷ 0 ∷ 0 ∷ 0
       output = 105 ∷ 115 ∷ 32 ∷ 110 ∷ 111 ∷ 116 ∷ 32 ∷ 97 ∷ 32 ∷ 109 ∷ 111 ∷ 100 ∷ 101 ∷ 108 ∷ 44 ∷ 32 ∷ 34 ∷ 97 ∷ 34 ∷ 44 ∷ 32 ∷ 49 ∷ 50 ∷ 44 ∷ 32 ∷ 53
           ∷ 44 ∷ 32 ∷ 52 ∷ 48 ∷ 44 ∷ 32 ∷ 34 ∷ 92 ∷ 34 ∷ 34 ∷ 10 ∷ 0 ∷ 0 ∷ 0 ∷ [];
     }
-unfolding inWords firstUnknown errorsIn errorsFrom known knownToken isKind standsIn inRange mayBeAt inPlace linesOf errorLine message textField textAt quoted escaped
+unfolding inWords firstUnknown errorsIn errorsFrom known knownToken isKind standsIn inRange mayBeAt inPlace linesOf errorLine message textField textAt quoted
+    escaped
     escape valueField holdsText plain afterBlanks spelled restOf leadOf delivered
 one-line = refl
 

@@ -201,7 +201,8 @@ module _ (table bytes : List ℕ) (B : AllBelow 256 bytes) (D : TextsDiffer tabl
           (free-plain 10 apart-10 (eqb kind signedKind) w) e in
           (plain-same (eqb kind signedKind) v w h k (x .0), x .1)
 
-  pub line-read : (f g n p k v n′ p′ k′ v′ : ℕ) (r s : List ℕ) → known (error n p k v) ≡ true → known (error n′ p′ k′ v′) ≡ true → Fits n p k v → Fits n′ p′ k′ v′
+  pub line-read : (f g n p k v n′ p′ k′ v′ : ℕ) (r s : List ℕ) → known (error n p k v) ≡ true → known (error n′ p′ k′ v′) ≡ true → Fits n p k v
+      → Fits n′ p′ k′ v′
       → errorLine table bytes f (error n p k v) ++ r ≡ errorLine table bytes g (error n′ p′ k′ v′) ++ s → (error n p k v ≡ error n′ p′ k′ v′) × (r ≡ s)
   line-read f g n p k v n′ p′ k′ v′ r s K K′ F F′ e =
       let e₁ : from₁ table bytes f n p k v r ≡ from₁ table bytes g n′ p′ k′ v′ s
@@ -223,7 +224,8 @@ module _ (table bytes : List ℕ) (B : AllBelow 256 bytes) (D : TextsDiffer tabl
       let Q : k ≡ k′ = plain-same false k k′ (F .kind) (F′ .kind) (h .0) in
       let u = shownValue (error n p k v) in
       let u′ = shownValue (error n′ p′ k′ v′) in
-      let x = value-split k u u′ r s (cond-small (eqb n 11) 0 v wordEnd (omega arith) (F .value)) (cond-small (eqb n′ 11) 0 v′ wordEnd (omega arith) (F′ .value))
+      let x = value-split k u u′ r s (cond-small (eqb n 11) 0 v wordEnd (omega arith) (F .value))
+      (cond-small (eqb n′ 11) 0 v′ wordEnd (omega arith) (F′ .value))
       (cons-tail (h .1) ∙ ap (λ (z : ℕ). valueField table bytes z u′ ++ (10 ∷ s)) (sym Q)) in
       (error-eq N P Q (values N (ℕ-discrete n 11) (b .1 D) (x .0)), x .1)
     where
@@ -256,7 +258,8 @@ module _ (table bytes : List ℕ) (B : AllBelow 256 bytes) (D : TextsDiffer tabl
   unfolding linesOf
   lines-read [] [] none′ none′ e = refl
   lines-read [] (d ∷ ds) none′ (more′ {n} {p} {k} {v} K F R) e =
-      absurd (no-line (message n) (32 ∷ from₂ table bytes g n p k v (linesOf table bytes g ds)) [] 44 (e ∙ line-on table bytes g n p k v (linesOf table bytes g ds)))
+      absurd (no-line (message n) (32 ∷ from₂ table bytes g n p k v (linesOf table bytes g ds)) [] 44
+      (e ∙ line-on table bytes g n p k v (linesOf table bytes g ds)))
   lines-read (d ∷ ds) [] (more′ {n} {p} {k} {v} K F R) none′ e =
       absurd (no-line (message n) (32 ∷ from₂ table bytes f n p k v (linesOf table bytes f ds)) [] 44
       (sym e ∙ line-on table bytes f n p k v (linesOf table bytes f ds)))

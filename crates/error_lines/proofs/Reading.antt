@@ -96,7 +96,8 @@ unfolding readNumeral afterBlanks
 read-after s [] = refl
 read-after s (b ∷ l) = go (eqb b 32) refl (read-after s l)
   where
-    go : (t : Bool) → eqb b 32 ≡ t → readNumeral s (afterBlanks l) ≡ readNumeral s l → readNumeral s (cond (eqb b 32) (afterBlanks l) (b ∷ l)) ≡ readNumeral s (b ∷ l)
+    go : (t : Bool) → eqb b 32 ≡ t → readNumeral s (afterBlanks l) ≡ readNumeral s l
+        → readNumeral s (cond (eqb b 32) (afterBlanks l) (b ∷ l)) ≡ readNumeral s (b ∷ l)
     go true e r = simp e r
     go false e r = simp e
 

@@ -106,7 +106,8 @@ part-lacking table bytes n h =
     lacking bytes (startOf table n) (lengthOf table n) (inTable table n) (leb (startOf table n + lengthOf table n) (length bytes)) h
 
 -- a text's field
-pub field-quoted : (table bytes : List ℕ) (n s e : ℕ) {at r : ℕ} {o q : List ℕ} → Stands table bytes n s e → Puts (quoted (take (e - s) (drop s bytes))) at o q r
+pub field-quoted : (table bytes : List ℕ) (n s e : ℕ) {at r : ℕ} {o q : List ℕ} → Stands table bytes n s e
+    → Puts (quoted (take (e - s) (drop s bytes))) at o q r
     → Puts (textField table bytes n) at o q r
 unfolding textField
 field-quoted table bytes n s e S P = puts-as (ap (λ (t : Option (List ℕ)). textFieldBy t n) (sym (S .text))) P

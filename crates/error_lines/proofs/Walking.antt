@@ -21,7 +21,8 @@ use Rattle.error_lines.specs.Puts.{Puts}
 use Rattle.error_lines.specs.declared.known.Index.{Index}
 use Rattle.error_lines.specs.declared.known.Index.the-variants.{At, Nothing}
 use Rattle.error_lines.proofs.Putting.{puts-then, puts-as, Rest, rest-begin, rest-more, rest-end}
-use Rattle.error_lines.proofs.Lists.{errors-zeros, errors-more, errors-end, errors-begin, unknown-none, unknown-more, unknown-here, lines-none, lines-more}
+use Rattle.error_lines.proofs.Lists.{errors-zeros, errors-more, errors-end, errors-begin, unknown-none, unknown-more, unknown-here, lines-none}
+use Rattle.error_lines.proofs.Lists.{lines-more}
 
 pub value-text : (table bytes : List ℕ) (kind value : ℕ) {x : Bool} {at r : ℕ} {o q : List ℕ} → x ≡ holdsText kind → x ≡ true
     → Puts (textField table bytes value) at o q r → Puts (valueField table bytes kind value) at o q r
@@ -43,7 +44,8 @@ pub line-put : (table bytes : List ℕ) (file : ℕ) (x : Error) {at a b c d e f
     → Puts (valueField table bytes (x .token .kind) value) j o₁₀ o₁₁ k → Puts (newline ∷ []) k o₁₁ o₁₂ r → Puts (errorLine table bytes file x) at o₀ o₁₂ r
 unfolding errorLine
 line-put table bytes file x M B₁ n N B₂ l L B₃ c C B₄ K B₅ v Y E =
-    puts-then _ _ M (puts-then _ _ B₁ (puts-then _ _ (puts-as (ap (textField table bytes) n) N) (puts-then _ _ B₂ (puts-then _ _ (puts-as (ap (plain false) l) L)
+    puts-then _ _ M (puts-then _ _ B₁ (puts-then _ _ (puts-as (ap (textField table bytes) n) N)
+    (puts-then _ _ B₂ (puts-then _ _ (puts-as (ap (plain false) l) L)
     (puts-then _ _ B₃ (puts-then _ _ (puts-as (ap (plain false) c) C) (puts-then _ _ B₄ (puts-then _ _ K (puts-then _ _ B₅
     (puts-then _ _ (puts-as (ap (valueField table bytes (x .token .kind)) v) Y) E))))))))))
 

@@ -64,7 +64,8 @@ whole lines before middle end {after} {r} P F = go (decLt (length before) (lengt
         = simp u in
         record {
           reply = F .reply ∙ (ap (λ (b : Bool). cond b (success end) (refusal 9 13)) t ∙ (ap success x ∙ ap (λ (c : Conversion). c .reply) (sym d)));
-          output = F .output ∙ (ap (λ (b : Bool). clearedFrom (cond b end 0) middle) t ∙ (ap (λ (l : List ℕ). l ++ replicate (length middle - end) 0) (P .bytes f)
+          output = F .output ∙ (ap (λ (b : Bool). clearedFrom (cond b end 0) middle) t
+              ∙ (ap (λ (l : List ℕ). l ++ replicate (length middle - end) 0) (P .bytes f)
               ∙ (ap (λ (k : ℕ). lines ++ replicate k 0) m ∙ ap (λ (c : Conversion). c .output) (sym d))));
         }
 

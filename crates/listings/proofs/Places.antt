@@ -27,7 +27,8 @@ position-free section a b p e f last signed h =
     simp (x .0, x .1, z)
 
 -- sections 3 and 11, which have a position
-pub instruction-fits : (function i p : ℕ) (x : Instruction) → inPlace p ≡ true → lineFits (instructionFields function i p x) ≡ lineFits (instructionFields function i 0 x)
+pub instruction-fits : (function i p : ℕ) (x : Instruction) → inPlace p ≡ true
+    → lineFits (instructionFields function i p x) ≡ lineFits (instructionFields function i 0 x)
 instruction-fits function i p x h = position-free 3 function i p (x .opcode) 0 (x .operand) false h
 
 pub error-fits : (i number p kind value : ℕ) (signed : Bool) → inPlace p ≡ true

@@ -9,7 +9,8 @@ use native.Mathlib.Decide.{decLt}
 use lib.ListN.{getD, List·getD-eq-default}
 use lib.Dec.{T, eqb, leb, ltb, ltb→lt, eqb→eq}
 use borrow.Author.Tests.{lt-ltb, le-ltb, le-leb, lt-leb, ne-eqb, not-true, not-false}
-use Rattle.tree.specs.Rules.{Slot, Rule, slots, rules, slotOf, ruleOf, nothing, unused, has, mayStand, goesOn, slotAfter, isDue, firstSlot, mayBeAt, inRange}
+use Rattle.tree.specs.Rules.{Slot, Rule, slots, rules, slotOf, ruleOf, nothing, unused, has, mayStand, goesOn, slotAfter, isDue, firstSlot, mayBeAt}
+use Rattle.tree.specs.Rules.{inRange}
 use Rattle.tree.specs.Rows.{slotRow, ruleRow, holdsIn, rangeIn, placedIn, mostIn}
 
 -- a test of every entry of a list, and of every number below n
