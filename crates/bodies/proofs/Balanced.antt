@@ -225,7 +225,7 @@ balanced-if {c} {t} {f} C R F w =
 pub balanced-for : {a b : Step} → Balancing a → Balancing b → (t i : Token) → Balancing (compileForStatement t i a b)
 unfolding compileForStatement exitBreakScope
 balanced-for {a} {b} A B t i w =
-    let x = w .function .localCount in
+    let x = w .function .header .localCount in
     let p = t .position in
     let w₁ = doing (λ f. Emission.enterBreakScope (Emission.enterScope (Emission.defineAnonymousLocal (Emission.defineAnonymousLocal f)))) w in
     let w₂ = a w₁ in

@@ -203,21 +203,21 @@ set-value-locals full {start} {count} i constant {l} {l′} {s} q L = record {
 }
 
 -- `add_function`: its entry is the definition's, where the locals' number stands in 64 bits
-pub function-words : {earlier : Entries} {m : Machine} {w : Work} → Contents earlier m w → w .function .localCount < 2 ^ 64 → (file name : ℕ)
+pub function-words : {earlier : Entries} {m : Machine} {w : Work} → Contents earlier m w → w .function .header .localCount < 2 ^ 64 → (file name : ℕ)
     → functionWords (m .state) file name ≡ functionEntry (length earlier) (record { state = w .function; name = name; file = file })
 function-words {earlier} {m} {w} C small file name =
     rw (C .parameters, locals, C .rescue, C .is-instance, code, C .base)
   where
-    locals : m .state .«local_count» ≡ w .function .localCount
+    locals : m .state .«local_count» ≡ w .function .header .localCount
     locals = C .locals ∙ omega arith
 
-    code : m .state .code - m .state .base ≡ length (w .function .instructions)
+    code : m .state .code - m .state .base ≡ length (w .function .code .instructions)
     code = omega (
       arith,
       C .code .count,
       C .base,
-      length-append earlier (codeEntries (w .function .instructions) (w .function .positions)),
-      code-length (w .function .instructions) (w .function .positions) (C .sized),
+      length-append earlier (codeEntries (w .function .code .instructions) (w .function .code .positions)),
+      code-length (w .function .code .instructions) (w .function .code .positions) (C .sized),
     )
 
 pub add-function-law : {full count : ℕ} (s : struct.FunctionState) (file name : ℕ) {l : List ℕ} {es : Entries} {t : Taken} {l′ : List ℕ}

@@ -43,8 +43,8 @@ use Rattle.definition.specs.Book
 
 -- one function
 pub record FunctionKept (s : FunctionState) : Type 0 where
-  pub small : All (Small mostRecords) (s .instructions)
-  pub locals : s .localCount < 2 ^ 56
+  pub small : All (Small mostRecords) (s .code .instructions)
+  pub locals : s .header .localCount < 2 ^ 56
 
 abbrev pub KeptFunctions : List Function → Type 0
 KeptFunctions fs = All (λ (f : Function). FunctionKept (f .state)) fs
@@ -52,7 +52,7 @@ KeptFunctions fs = All (λ (f : Function). FunctionKept (f .state)) fs
 -- the entries in use, by area; `own`: public names of the book under compilation, `left`: books that are still to come
 abbrev pub countsOf : Context → ℕ → ℕ → List ℕ
 countsOf c own left =
-    0 ∷ codeCount c ∷ length (c .pool .constants) ∷ functionCount c ∷ modelCount c ∷ propertyCount c ∷ length (c .methods) ∷ c .pool .localCount
+    0 ∷ codeCount c ∷ length (c .pool .constants) ∷ functionCount c ∷ modelCount c ∷ propertyCount c ∷ length (c .program .methods) ∷ c .pool .localCount
     ∷ (publicCount c + own) ∷ 0 ∷ 0 ∷ 0 ∷ (bookCount c + left) ∷ []
 
 sum-append : {A : Type 0} (f : A → ℕ) (l : List A) (x : A) → sumOf f (l ++ (x ∷ [])) ≡ sumOf f l + f x
@@ -70,7 +70,7 @@ module _ {A : Type 0} {S : ℕ → ℕ} {us : List Use} {area : ℕ} where
 -- what stood before stays as it was, `P`
 record BookKept (S : ℕ → ℕ) (P : Prior) (left : ℕ) (b : Book.Book) : Type 0 where
   prior : b .context .prior ≡ P
-  functions : KeptFunctions (b .context .functions)
+  functions : KeptFunctions (b .context .program .functions)
   counted : Counted S (b .uses) (countsOf (b .context) (length (b .assembly .publics)) left)
 
 record Keeping (S : ℕ → ℕ) (P : Prior) (left : ℕ) (d : Deed) : Type 0 where
@@ -80,7 +80,7 @@ record Keeping (S : ℕ → ℕ) (P : Prior) (left : ℕ) (d : Deed) : Type 0 wh
 record MadeKept (S : ℕ → ℕ) (P : Prior) (left : ℕ) (m : Made) : Type 0 where
   book : BookKept S P left (m .book)
   function : FunctionKept (m .state)
-  room : Noted S (m .book .uses) codeArea (codeCount (m .book .context) + length (m .state .instructions))
+  room : Noted S (m .book .uses) codeArea (codeCount (m .book .context) + length (m .state .code .instructions))
 
 -- properties of a model that is not yet added
 record PropertiesKept (S : ℕ → ℕ) (P : Prior) (left : ℕ) (p : Properties) : Type 0 where
@@ -170,8 +170,8 @@ module _ {S : ℕ → ℕ} {P : Prior} {left : ℕ} where
       record {
         prior = k .book .prior;
         functions = k .book .functions;
-        counted = counted-at propertiesArea _ (noted-sum _ (λ (x : Model). length (x .properties)) (b .context .models) m (noted-more (k .room)))
-            (counted-at modelsArea _ (noted-one _ (b .context .models) m) (counted-more (k .book .counted)));
+        counted = counted-at propertiesArea _ (noted-sum _ (λ (x : Model). length (x .properties)) (b .context .program .models) m (noted-more (k .room)))
+            (counted-at modelsArea _ (noted-one _ (b .context .program .models) m) (counted-more (k .book .counted)));
       }
 
   kept-model : (n : Token) (ts : List Token) (b : Book.Book) → BookKept S P left b → BookKept S P left (compileModelDefinition n ts b .book)
@@ -220,8 +220,8 @@ module _ {S : ℕ → ℕ} {P : Prior} {left : ℕ} where
       record {
         prior = k .book .prior;
         functions = all-append (k .book .functions) (k .function & none);
-        counted = counted-at codeArea _ (noted-sum _ (λ (x : Function). length (x .state .instructions)) (b .context .functions) f (noted-more (k .room)))
-            (counted-at functionsArea _ (noted-one _ (b .context .functions) f) (counted-more (k .book .counted)));
+        counted = counted-at codeArea _ (noted-sum _ (λ (x : Function). length (x .state .code .instructions)) (b .context .program .functions) f (noted-more (k .room)))
+            (counted-at functionsArea _ (noted-one _ (b .context .program .functions) f) (counted-more (k .book .counted)));
       }
 
   kept-plain : (o : Option ℕ) (s : FunctionState) (n : ℕ) (b : Book.Book) → BookKept S P left (addFunction s n b)
@@ -238,7 +238,7 @@ module _ {S : ℕ → ℕ} {P : Prior} {left : ℕ} where
       let d = defineContextLocal (f .name .value) b in
       let m = compileBase f (d .book) in
       let h = base-kept f l (d .book) (kept-define (f .name .value) b k) in
-      cond-case (λ (p : Placed). BookKept S P left (p .book)) (m .state .isInstance) (λ t. kept-error 8 (f .name) (m .book) (h .book))
+      cond-case (λ (p : Placed). BookKept S P left (p .book)) (m .state .header .isInstance) (λ t. kept-error 8 (f .name) (m .book) (h .book))
       (λ t. kept-plain (d .place) (m .state) (f .name .value) (m .book) (kept-added (f .name .value) m h))
 
   -- implement and apply
@@ -297,7 +297,7 @@ module _ {S : ℕ → ℕ} {P : Prior} {left : ℕ} where
 -- a context between books, with its notes
 pub record ContextKept (S : ℕ → ℕ) (P : Prior) (left : ℕ) (c : Context) (us : List Use) : Type 0 where
   pub prior : c .prior ≡ P
-  pub functions : KeptFunctions (c .functions)
+  pub functions : KeptFunctions (c .program .functions)
   pub counted : Counted S us (countsOf c 0 left)
 
 document-kept : {S : ℕ → ℕ} {P : Prior} {left : ℕ} (d : Document) (c : Context) (us : List Use) → LimitedDocument d → ContextKept S P (suc left) c us
@@ -391,7 +391,7 @@ none-counted us = record { each = λ area. record { known = omega (arith, zeros 
 
 -- the whole work: each count of what is delivered is noted, or stood before
 module _ (numbers : List ℕ) (ds : List Document) (r : Context) (h : All LimitedDocument ds) where
-  pub standing-noted : (c : Context) → KeptFunctions (c .functions) → compileNeeded numbers ds c .ending ≡ Delivered r
+  pub standing-noted : (c : Context) → KeptFunctions (c .program .functions) → compileNeeded numbers ds c .ending ≡ Delivered r
       → ContextKept (standingIn c) (c .prior) 0 r (compileNeeded numbers ds c .uses)
   unfolding compileNeeded
   standing-noted c f e =

@@ -38,14 +38,14 @@ use Rattle.definition.proofs.Lists.{kept-patch, kept-init, cond-case, n
 use Rattle.definition.proofs.Sound.{leave-closed}
 
 abbrev pub code : Work → List Instruction
-code w = w .function .instructions
+code w = w .function .code .instructions
 
 abbrev pub errs : Work → List Error
 errs w = w .compiler .errors
 
 -- the exits of the loops that were left
 abbrev pub exits : Work → List ℕ
-exits w = exitsOf (loopsOf (w .function .trace))
+exits w = exitsOf (loopsOf (w .function .log .trace))
 
 -- a ForNext
 abbrev pub Next : List Instruction → ℕ → Type 0
@@ -58,7 +58,7 @@ pub record MovesBut (waiting : List ℕ) (w w′ : Work) : Type 0 where
   pub breaks : w′ .function .breakScopes ≡ pushBreaks pushed (w .function .breakScopes)
   pub new : All (Fresh (code w)) pushed
   pub errors : errs w′ ≡ [] → errs w ≡ []
-  pub locals : w .function .localCount ≤ w′ .function .localCount
+  pub locals : w .function .header .localCount ≤ w′ .function .header .localCount
   pub added : List Constant
   pub pool : w′ .context .constants ≡ w .context .constants ++ added
   pub plain : All (λ (c : Constant). c .kind < 5) added
@@ -79,8 +79,8 @@ push-push p q [] = refl
 push-push p q (s ∷ ss) = ap {B = List (List ℕ)} (λ x. x ∷ ss) (append-assoc s p q)
 
 pub simply : {waiting : List ℕ} {w w′ : Work} → Kept (code w) (code w′) → w′ .function .breakScopes ≡ w .function .breakScopes
-    → (errs w′ ≡ [] → errs w ≡ []) → w .function .localCount ≤ w′ .function .localCount → w′ .context .constants ≡ w .context .constants
-    → w′ .context .localCount ≡ w .context .localCount → w′ .function .trace ≡ w .function .trace
+    → (errs w′ ≡ [] → errs w ≡ []) → w .function .header .localCount ≤ w′ .function .header .localCount → w′ .context .constants ≡ w .context .constants
+    → w′ .context .localCount ≡ w .context .localCount → w′ .function .log .trace ≡ w .function .log .trace
     → ((i : ℕ) → Next (code w′) i → Next (code w) i ⊎ Among i waiting) → MovesBut waiting w w′
 simply {w = w} k b e l c x t n = record {
   kept = k;
@@ -138,8 +138,8 @@ abbrev pub Moving : Step → Type 0
 Moving s = (w : Work) → Moves w (s w)
 
 -- a change of the function state alone
-pub moves-function : (w : Work) (f : FunctionState) → Kept (code w) (f .instructions) → f .breakScopes ≡ w .function .breakScopes
-    → w .function .localCount ≤ f .localCount → f .trace ≡ w .function .trace → ((i : ℕ) → Next (f .instructions) i → Next (code w) i ⊎ Among i [])
+pub moves-function : (w : Work) (f : FunctionState) → Kept (code w) (f .code .instructions) → f .breakScopes ≡ w .function .breakScopes
+    → w .function .header .localCount ≤ f .header .localCount → f .log .trace ≡ w .function .log .trace → ((i : ℕ) → Next (f .code .instructions) i → Next (code w) i ⊎ Among i [])
     → Moves w (withFunction f w)
 moves-function w f k b l t n = simply k b (λ e. e) l refl refl t n
 
@@ -190,20 +190,20 @@ error-moves n t w = simply (kept-refl (code w)) refl (λ e. append-not-nil (errs
 
 -- function_state.rs
 
-close-kept : (f : FunctionState) → Kept (f .instructions) (removePopOrPushNull f .instructions)
+close-kept : (f : FunctionState) → Kept (f .code .instructions) (removePopOrPushNull f .code .instructions)
 unfolding removePopOrPushNull
-close-kept f = cond-case (λ (g : FunctionState). Kept (f .instructions) (g .instructions)) (eqb (lastOpcode f) Pop)
-    (λ t. kept-init (f .instructions) (eqb→eq _ _ t))
-    (λ t. cond-case (λ (g : FunctionState). Kept (f .instructions) (g .instructions)) (eqb (lastOpcode f) ReturnOp) (λ s. kept-refl _) (λ s. kept-append _ _))
+close-kept f = cond-case (λ (g : FunctionState). Kept (f .code .instructions) (g .code .instructions)) (eqb (lastOpcode f) Pop)
+    (λ t. kept-init (f .code .instructions) (eqb→eq _ _ t))
+    (λ t. cond-case (λ (g : FunctionState). Kept (f .code .instructions) (g .code .instructions)) (eqb (lastOpcode f) ReturnOp) (λ s. kept-refl _) (λ s. kept-append _ _))
 
 -- all but the code is as it was
 pub record SameButCode (f g : FunctionState) : Type 0 where
   pub breaks : g .breakScopes ≡ f .breakScopes
-  pub locals : g .localCount ≡ f .localCount
+  pub locals : g .header .localCount ≡ f .header .localCount
   pub scopes : g .scopes ≡ f .scopes
-  pub trace : g .trace ≡ f .trace
-  pub rescue : g .rescuePosition ≡ f .rescuePosition
-  pub this : g .thisReads ≡ f .thisReads
+  pub trace : g .log .trace ≡ f .log .trace
+  pub rescue : g .header .rescuePosition ≡ f .header .rescuePosition
+  pub this : g .log .thisReads ≡ f .log .thisReads
 
 pub close-same : (f : FunctionState) → SameButCode f (removePopOrPushNull f)
 unfolding removePopOrPushNull
@@ -213,9 +213,9 @@ close-same f = cond-case (λ (g : FunctionState). SameButCode f g) (eqb (lastOpc
     same : {is : List Instruction} {ps : List ℕ} → SameButCode f (Emission.withCode is ps f)
     same = record { breaks = refl; locals = refl; scopes = refl; trace = refl; rescue = refl; this = refl }
 
-pub return-kept : (p : ℕ) (f : FunctionState) → Kept (f .instructions) (emitReturn p f .instructions)
+pub return-kept : (p : ℕ) (f : FunctionState) → Kept (f .code .instructions) (emitReturn p f .code .instructions)
 unfolding emitReturn
-return-kept p f = cond-case (λ (g : FunctionState). Kept (f .instructions) (g .instructions)) (eqb (lastOpcode (removePopOrPushNull f)) ReturnOp)
+return-kept p f = cond-case (λ (g : FunctionState). Kept (f .code .instructions) (g .code .instructions)) (eqb (lastOpcode (removePopOrPushNull f)) ReturnOp)
     (λ t. close-kept f) (λ t. kept-trans (close-kept f) (kept-append _ _))
 
 pub return-same : (p : ℕ) (f : FunctionState) → SameButCode f (emitReturn p f)
@@ -230,21 +230,21 @@ return-same p f = cond-case (λ (g : FunctionState). SameButCode f g) (eqb (last
       this = close-same f .this;
     })
 
-close-next : (f : FunctionState) (i : ℕ) → Next (removePopOrPushNull f .instructions) i → Next (f .instructions) i ⊎ Among i []
+close-next : (f : FunctionState) (i : ℕ) → Next (removePopOrPushNull f .code .instructions) i → Next (f .code .instructions) i ⊎ Among i []
 unfolding removePopOrPushNull
-close-next f = cond-case (λ (g : FunctionState). (i : ℕ) → Next (g .instructions) i → Next (f .instructions) i ⊎ Among i []) (eqb (lastOpcode f) Pop)
-    (λ t i q. each-init (λ j (y : Instruction). y .opcode ≡ ForNext → Next (f .instructions) j ⊎ Among j []) (f .instructions) (λ j r s. inl (r, s)) i (q .0)
+close-next f = cond-case (λ (g : FunctionState). (i : ℕ) → Next (g .code .instructions) i → Next (f .code .instructions) i ⊎ Among i []) (eqb (lastOpcode f) Pop)
+    (λ t i q. each-init (λ j (y : Instruction). y .opcode ≡ ForNext → Next (f .code .instructions) j ⊎ Among j []) (f .code .instructions) (λ j r s. inl (r, s)) i (q .0)
     (q .1))
-    (λ t. cond-case (λ (g : FunctionState). (i : ℕ) → Next (g .instructions) i → Next (f .instructions) i ⊎ Among i []) (eqb (lastOpcode f) ReturnOp)
-    (λ s. (λ i q. inl q)) (λ s. emit-next (f .instructions) _ tt))
+    (λ t. cond-case (λ (g : FunctionState). (i : ℕ) → Next (g .code .instructions) i → Next (f .code .instructions) i ⊎ Among i []) (eqb (lastOpcode f) ReturnOp)
+    (λ s. (λ i q. inl q)) (λ s. emit-next (f .code .instructions) _ tt))
 
-return-next : (p : ℕ) (f : FunctionState) (i : ℕ) → Next (emitReturn p f .instructions) i → Next (f .instructions) i ⊎ Among i []
+return-next : (p : ℕ) (f : FunctionState) (i : ℕ) → Next (emitReturn p f .code .instructions) i → Next (f .code .instructions) i ⊎ Among i []
 unfolding emitReturn
-return-next p f = cond-case (λ (g : FunctionState). (i : ℕ) → Next (g .instructions) i → Next (f .instructions) i ⊎ Among i [])
+return-next p f = cond-case (λ (g : FunctionState). (i : ℕ) → Next (g .code .instructions) i → Next (f .code .instructions) i ⊎ Among i [])
     (eqb (lastOpcode (removePopOrPushNull f)) ReturnOp) (λ t. close-next f)
-    (λ t i q. go i (emit-next (removePopOrPushNull f .instructions) (toInstruction ReturnOp 0) tt i q))
+    (λ t i q. go i (emit-next (removePopOrPushNull f .code .instructions) (toInstruction ReturnOp 0) tt i q))
   where
-    go : (i : ℕ) → Next (removePopOrPushNull f .instructions) i ⊎ Among i [] → Next (f .instructions) i ⊎ Among i []
+    go : (i : ℕ) → Next (removePopOrPushNull f .code .instructions) i ⊎ Among i [] → Next (f .code .instructions) i ⊎ Among i []
     go i (inl q) = close-next f i q
     go i (inr q) = inr q
 
@@ -280,14 +280,14 @@ break-moves p w = go (w .function .breakScopes) refl
 -- compiler.rs: leaves
 
 pub define-same : (n : ℕ) (f : FunctionState) → (defineLocal n f .state .breakScopes ≡ f .breakScopes)
-    × (f .localCount ≤ defineLocal n f .state .localCount) × (defineLocal n f .state .instructions ≡ f .instructions)
-    × (defineLocal n f .state .trace ≡ f .trace)
+    × (f .header .localCount ≤ defineLocal n f .state .header .localCount) × (defineLocal n f .state .code .instructions ≡ f .code .instructions)
+    × (defineLocal n f .state .log .trace ≡ f .log .trace)
 unfolding defineLocal
 define-same n f = go (findName n (innermost (f .scopes)))
   where
     go : (o : Option ℕ) → (Emission.defineLocalBy o n f .state .breakScopes ≡ f .breakScopes)
-        × (f .localCount ≤ Emission.defineLocalBy o n f .state .localCount) × (Emission.defineLocalBy o n f .state .instructions ≡ f .instructions)
-        × (Emission.defineLocalBy o n f .state .trace ≡ f .trace)
+        × (f .header .localCount ≤ Emission.defineLocalBy o n f .state .header .localCount) × (Emission.defineLocalBy o n f .state .code .instructions ≡ f .code .instructions)
+        × (Emission.defineLocalBy o n f .state .log .trace ≡ f .log .trace)
     go none = (refl, omega arith, refl, refl)
     go (some i) = (refl, omega arith, refl, refl)
 
@@ -447,8 +447,8 @@ module _ {a b : Step} (A : Moving a) (B : Moving b) where
   pub for-moves : (t i : Token) → Moving (compileForStatement t i a b)
   unfolding compileForStatement exitBreakScope
   for-moves t i w =
-      let enumerableIndex = w .function .localCount in
-      let iteratorIndex = w .function .localCount + 1 in
+      let enumerableIndex = w .function .header .localCount in
+      let iteratorIndex = w .function .header .localCount + 1 in
       let w₁ = doing (λ f. Emission.enterBreakScope (Emission.enterScope (Emission.defineAnonymousLocal (Emission.defineAnonymousLocal f)))) w in
       let w₂ = a w₁ in
       let w₃ = Compiler.emitOpcodeWithoutPosition Pop (emit (toInstruction LocalSet enumerableIndex) (t .position) w₂) in
@@ -500,8 +500,8 @@ module _ {a b : Step} (A : Moving a) (B : Moving b) where
 
           more : exits (doing Emission.exitScope (doing (exitBreakScope exit) (Compiler.replaceInstruction exit (toInstruction JumpIf (next v)) v)))
               ≡ exits v ++ (exit ∷ [])
-          more = ap exitsOf (leave-closed exit _ (readTrace (v .function .trace) .open′) (loopsOf (v .function .trace)))
-              ∙ exits-append (loopsOf (v .function .trace)) _
+          more = ap exitsOf (leave-closed exit _ (readTrace (v .function .log .trace) .open′) (loopsOf (v .function .log .trace)))
+              ∙ exits-append (loopsOf (v .function .log .trace)) _
 
           -- the loop's own ForNext stands before its exit
           known : (n : ℕ) → (Next (code w) n ⊎ Among n (start ∷ [])) ⊎ Among (n + 1) (exits v)

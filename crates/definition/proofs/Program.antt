@@ -53,7 +53,7 @@ record BookGood (b : Book.Book) : Type 0 where
   wide : PriorWide (b .context .prior)
   parts : PartsOf (bookCount (b .context) + 1) (b .context)
   index : b .assembly .index ≡ bookCount (b .context)
-  counted : length (b .context .prior .locals) + length (b .context .localNames) ≡ b .context .pool .localCount
+  counted : length (b .context .prior .locals) + length (b .context .locals .names) ≡ b .context .pool .localCount
   pool : 3 ≤ length (b .context .pool .constants)
   names : All (λ (e : Entry). e .index < b .context .pool .localCount) (b .compiler .locals)
   own : All (λ (e : Entry). e .index < length (b .context .pool .constants)) (b .assembly .publics)
@@ -63,7 +63,7 @@ record BookGood (b : Book.Book) : Type 0 where
 safe-mono : {K K′ C C′ : ℕ} {f : FunctionState} → K ≤ K′ → C ≤ C′ → FunctionSafe K C f → FunctionSafe K′ C′ f
 safe-mono {f = f} k c s = record {
   sized = s .sized;
-  fits = fits-mono (f .instructions)
+  fits = fits-mono (f .code .instructions)
       (record { tops = le-refl _; slots = le-refl _; pools = k; globals = c; reads = λ i a. a }) (s .fits);
   rescue = s .rescue;
   loops = s .loops;
@@ -199,7 +199,7 @@ record BookDefined (b : Book.Book) (d : MaybePlaced) : Type 0 where
   good : BookGood (d .book)
   inside : (i : ℕ) → d .place ≡ some i → i < d .book .context .pool .localCount
   constants : d .book .context .pool .constants ≡ b .context .pool .constants
-  functions : d .book .context .functions ≡ b .context .functions
+  functions : d .book .context .program .functions ≡ b .context .program .functions
   faults-same : faults (d .book) ≡ faults b
 
 defined : (n : ℕ) (b : Book.Book) → BookGood b → BookDefined b (defineContextLocal n b)
@@ -239,7 +239,7 @@ defined n b g = go (findName n (b .compiler .locals))
         names = all-append (all-map (λ x h. omega arith) (g .names)) (here & none);
         own = g .own;
         index = g .index;
-        counted = omega (arith, length-append (b .context .localNames) (record { name = n; index = b .assembly .index } ∷ []), g .counted);
+        counted = omega (arith, length-append (b .context .locals .names) (record { name = n; index = b .assembly .index } ∷ []), g .counted);
         wide = g .wide;
       };
       inside = λ j e. let z : L ≡ j = cc in omega arith;
@@ -477,9 +477,9 @@ model-added b ps n g = record {
     mine = omega (arith, g .index)
 
     p : Parts (length (b .context .pool .constants)) (b .context .pool .localCount)
-        (length (b .context .prior .models) + length (b .context .models ++ (m ∷ [])))
+        (length (b .context .prior .models) + length (b .context .program .models ++ (m ∷ [])))
         (functionCount (b .context)) (bookCount (b .context) + 1) (b .context)
-    p = parts-mono (le-refl _) (le-refl _) (omega (arith, length-append (b .context .models) (m ∷ []))) (le-refl _) (le-refl _) (g .parts)
+    p = parts-mono (le-refl _) (le-refl _) (omega (arith, length-append (b .context .program .models) (m ∷ []))) (le-refl _) (le-refl _) (g .parts)
 
 record Places (d : Book.Book → Placed) : Type 0 where
   before : (b : Book.Book) → faults (d b .book) ≡ [] → faults b ≡ []
@@ -495,7 +495,7 @@ model-places n ts = record {
       let b₂ = second b in
       let g₂ : BookGood b₂ = model-added b₁ (compileProperties ts [] b .texts) (n .value) g₁ in
       let c = constantOf 5 (modelCount (b₁ .context)) in
-      let a = constant-placed c b₂ g₂ (λ q. omega (arith, length-append (b₁ .context .models) (newModel b ∷ [])), λ q. absurd (omega arith)) in
+      let a = constant-placed c b₂ g₂ (λ q. omega (arith, length-append (b₁ .context .program .models) (newModel b ∷ [])), λ q. absurd (omega arith)) in
       let d = defined (n .value) (addBookConstant c b₂ .book) (a .good) in
       record {
         good = value-good _ _ _ (d .good) (d .inside) (rw (d .constants) (a .inside));
@@ -628,7 +628,7 @@ function-added s n b g h = record {
     p : Parts (length (b .context .pool .constants)) (b .context .pool .localCount) (modelCount (b .context))
         (functionCount (addFunction s n b .context)) (bookCount (b .context) + 1) (b .context)
     p = parts-mono (le-refl _) (le-refl _) (le-refl _) (omega
-        (arith, length-append (b .context .functions) (record { state = s; name = n; file = b .assembly .index } ∷ []))) (le-refl _) (g .parts)
+        (arith, length-append (b .context .program .functions) (record { state = s; name = n; file = b .assembly .index } ∷ []))) (le-refl _) (g .parts)
 
 value-functions : (o : Option ℕ) (c : ℕ) (b : Book.Book) → functionCount (setLocalValue o c b .context) ≡ functionCount (b .context)
 value-functions none c b = refl
@@ -666,7 +666,7 @@ unfolding addPlainFunction
 plain-placed o s n b g h local = cond-case (λ x. BookPlaced b (record { place = a .place; book = x })) (eqb n 1)
     (λ t. record {
       good = entry-good (functionCount (b .context)) b₁ g₁
-          (omega (arith, value-functions o (a .place) (a .book), constant-functions c b₀, length-append (b .context .functions) (f ∷ [])));
+          (omega (arith, value-functions o (a .place) (a .book), constant-functions c b₀, length-append (b .context .program .functions) (f ∷ [])));
       inside = in₁;
     })
     (λ t. record { good = g₁; inside = in₁ })
@@ -684,7 +684,7 @@ plain-placed o s n b g h local = cond-case (λ x. BookPlaced b (record { place =
     a = addBookConstant c b₀
 
     p : BookPlaced b₀ a
-    p = constant-placed c b₀ (function-added s n b g h) (λ q. absurd (omega arith), λ q. omega (arith, length-append (b .context .functions) (f ∷ [])))
+    p = constant-placed c b₀ (function-added s n b g h) (λ q. absurd (omega arith), λ q. omega (arith, length-append (b .context .program .functions) (f ∷ [])))
 
     b₁ : Book.Book
     b₁ = setLocalValue o (a .place) (a .book)
@@ -708,8 +708,8 @@ plain-before o s n b = cond-case (λ x. faults x ≡ faults b) (eqb n 1) (λ t. 
 function-places : (f : FunctionDefinition) → Places (compileFunctionDefinition f)
 unfolding compileFunctionDefinition
 function-places f = record {
-  before = λ b e. define-before (f .name .value) b (base-before f (d b .book) (back b (made b .state .isInstance) e));
-  places = λ b g e. go b (made b .state .isInstance) g e;
+  before = λ b e. define-before (f .name .value) b (base-before f (d b .book) (back b (made b .state .header .isInstance) e));
+  places = λ b g e. go b (made b .state .header .isInstance) g e;
 }
   where
     d : Book.Book → MaybePlaced
@@ -756,7 +756,7 @@ unfolding findModelIndexByLocalName
 model-case P t b g yes′ no′ = outer (findName (t .value) (b .compiler .locals))
   where
     named : (local : ℕ) (c : Constant) → getLocalValue local (b .context) ≡ some c → Named (modelCount (b .context)) (functionCount (b .context)) c
-    named local c e = go (findName local (b .context .localValues)) e
+    named local c e = go (findName local (b .context .locals .values)) e
       where
         go : (o : Option ℕ) → valueAt o (b .context .pool .constants) ≡ some c → Named (modelCount (b .context)) (functionCount (b .context)) c
         go none q = absurd (let z : _≡_ {A = ℕ} 0 1 = cc in omega arith)
@@ -839,8 +839,8 @@ unfolding compileMethods compileBase
 methods-good [] es b g h e = record { good = g; entries = h }
 methods-good (f ∷ fs) es b g h e =
     let m = base-made f b g (methods-before fs _ _ e) in
-    let n : length (addFunction (compileBase f b .state) (f .name .value) (compileBase f b .book) .context .functions) ≡ length
-    (b .context .functions) + 1 = length-append (b .context .functions) _ in
+    let n : length (addFunction (compileBase f b .state) (f .name .value) (compileBase f b .book) .context .program .functions) ≡ length
+    (b .context .program .functions) + 1 = length-append (b .context .program .functions) _ in
     let here : functionCount (b .context) < functionCount (addFunction (compileBase f b .state) (f .name .value) (compileBase f b .book) .context) =
     omega (arith, n) in
     methods-good fs _ _ (function-added _ _ _ (m .good) (m .safe)) (all-insert _ here (all-map (λ x q. omega (arith, n)) h)) e
@@ -873,7 +873,7 @@ apply-fine s t = record {
       (findModelIndexByLocalName s b .book) e);
   keeps = λ b g. model-case (λ (d : MaybePlaced). faults (toModel t (methodsOf (d .place) (d .book .context)) (d .book)) ≡ []
       → BookGood (toModel t (methodsOf (d .place) (d .book .context)) (d .book))) s b g
-      (λ m h e. to-model-good t (methodsOf (some m) (b .context)) b g (own-methods m (b .context .methods) (g .parts .methods)) e)
+      (λ m h e. to-model-good t (methodsOf (some m) (b .context)) b g (own-methods m (b .context .program .methods) (g .parts .methods)) e)
       (λ n e. faulty n s b (to-model-before t [] (pushBookError n s b) e));
 }
 

@@ -166,9 +166,9 @@ break-inner p w = go (w .function .breakScopes)
 pub before-variable : (t : Token) → Step → Work → Work
 before-variable t a w =
     let w₁ = doing (λ f. Emission.enterBreakScope (Emission.enterScope (Emission.defineAnonymousLocal (Emission.defineAnonymousLocal f)))) w in
-    let w₃ = Compiler.emitOpcodeWithoutPosition Pop (emit (toInstruction LocalSet (w .function .localCount)) (t .position) (a w₁)) in
+    let w₃ = Compiler.emitOpcodeWithoutPosition Pop (emit (toInstruction LocalSet (w .function .header .localCount)) (t .position) (a w₁)) in
     let w₄ = emitConstant PushConstant (constantOf 2 0) (t .position) w₃ in
-    Compiler.emitOpcodeWithoutPosition Pop (emit (toInstruction LocalSet (w .function .localCount + 1)) (t .position) w₄)
+    Compiler.emitOpcodeWithoutPosition Pop (emit (toInstruction LocalSet (w .function .header .localCount + 1)) (t .position) w₄)
 
 before-names : (a : Step) → Still a → (t : Token) (w : Work) → names (before-variable t a w) ≡ [] ∷ names w
 unfolding before-variable
@@ -240,7 +240,7 @@ mutual
 
 -- the unwrap of compile_for_statement: the variable is new, whatever the enumerable
 pub for-unwraps : (t i : Token) (e : Expression) (w : Work)
-    → let f = before-variable t (compileExpression e) w .function in defineLocal (i .value) f .found ≡ some (f .localCount)
+    → let f = before-variable t (compileExpression e) w .function in defineLocal (i .value) f .found ≡ some (f .header .localCount)
 unfolding defineLocal
 for-unwraps t i e w =
     let f = before-variable t (compileExpression e) w .function in

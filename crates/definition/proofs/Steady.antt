@@ -233,7 +233,7 @@ steady-if {c} {t} {f} C R F w =
 pub steady-for : {a b : Step} → Steadily a → Steadily b → (t i : Token) → Steadily (compileForStatement t i a b)
 unfolding compileForStatement exitBreakScope
 steady-for {a} {b} A B t i w =
-    let x = w .function .localCount in
+    let x = w .function .header .localCount in
     let p = t .position in
     let w₁ = doing (λ f. Emission.enterBreakScope (Emission.enterScope (Emission.defineAnonymousLocal (Emission.defineAnonymousLocal f)))) w in
     let w₂ = a w₁ in
@@ -393,7 +393,7 @@ pub steady-base : (f : FunctionDefinition) (w : Work) → Steady (withFunction n
 unfolding compileFunctionDefinitionBase
 steady-base f w =
     let w₁ = compileParameters (f .parameters) (withFunction newFunctionState w) in
-    let w₂ = doing (λ g. Emission.withParameters (g .isInstance) (length (f .parameters)) g) w₁ in
+    let w₂ = doing (λ g. Emission.withParameters (g .header .isInstance) (length (f .parameters)) g) w₁ in
     let w₃ = compileStatements (f .body) w₂ in
     steady-trans (steady-parameters (f .parameters) (withFunction newFunctionState w)) (steady-trans {b = w₂} (steady-function w₁ _ refl)
     (steady-trans (steady-statements (f .body) w₂) (steady-return (Emission.getLastPosition (w₃ .function)) w₃)))

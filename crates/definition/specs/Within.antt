@@ -13,7 +13,7 @@ use Rattle.words.specs.Areas.{contextLocalsArea, publicNamesArea, booksArea, lo
 use Rattle.words.specs.Object.{modelKind, functionKind}
 use Rattle.words.specs.Opcode.{Instruction, toInstruction, unword, Jump, JumpIf, LocalSet, LocalGet, LocalInit, ForNext, Iterate, ContextSet, ContextGet}
 use Rattle.words.specs.Opcode.{PushConstant, GlobalSet, GlobalGet}
-use Rattle.definition.specs.FunctionState.{FunctionState, Event, Entered, Broke, Left}
+use Rattle.definition.specs.FunctionState.{Event, Entered, Broke, Left, Log, noLog}
 use Rattle.definition.specs.Book.{Function}
 
 -- a claim of each of a list; a number among numbers
@@ -255,29 +255,19 @@ pub data InLoop (b : ℕ) : List Loop → Type 0 where
   first : {e : Loop} {es : List Loop} → Among b (e .breaks) → InLoop b (e ∷ es)
   later : {e : Loop} {es : List Loop} → InLoop b es → InLoop b (e ∷ es)
 
--- what the definition logs of a function
-pub record Log : Type 0 where
-  pub trace : List Event
-  pub this : List ℕ
-
-abbrev pub noLog : Log
-noLog = record { trace = []; this = [] }
-
-abbrev pub logOf : FunctionState → Log
-logOf f = record { trace = f .trace; this = f .thisReads }
-
+-- the functions' logs
 abbrev pub logsOf : List Function → List Log
 logsOf [] = []
-logsOf (f ∷ fs) = logOf (f .state) ∷ logsOf fs
+logsOf (f ∷ fs) = f .state .log ∷ logsOf fs
 
 -- "exactly one position for each instruction", of the definition's functions: area 1 holds both in one entry
 abbrev pub OnePositionEach : List Function → Type 0
-OnePositionEach fs = All (λ (f : Function). length (f .state .positions) ≡ length (f .state .instructions)) fs
+OnePositionEach fs = All (λ (f : Function). length (f .state .code .positions) ≡ length (f .state .code .instructions)) fs
 
 -- function j against its log
 pub record FunctionLogged (p : Program) (g : Log) (j : ℕ) : Type 0 where
   -- a read of a local where the function has none is the read of a 31
-  pub reads : (i : ℕ) → i < lengthOf p j → instructionOf p j i .opcode ≡ LocalGet → localsOf p j ≡ 0 → Among i (g .this)
+  pub reads : (i : ℕ) → i < lengthOf p j → instructionOf p j i .opcode ≡ LocalGet → localsOf p j ≡ 0 → Among i (g .thisReads)
   -- every loop that was entered was left
   pub closed : readTrace (g .trace) .open′ ≡ []
   -- a ForNext is that of a logged loop, whose exit is next to it

@@ -60,7 +60,7 @@ base-breaks f w = function-moves (f .parameters) (f .body) w .breaks
 
 -- the locals' number stands in 64 bits
 pub few-locals : (f : FunctionDefinition) → Bounded f → (w : Work)
-    → compileFunctionDefinitionBase (f .parameters) (f .body) w .function .localCount < 2 ^ 64
+    → compileFunctionDefinitionBase (f .parameters) (f .body) w .function .header .localCount < 2 ^ 64
 few-locals f l w =
     let n = length (w .context .constants) in
     let k = function-kept mostRecords (λ (area : ℕ). n) (f .parameters) (f .body) (omega arith) (omega (arith, l .records)) w
@@ -97,15 +97,15 @@ entries-of : (start : ℕ) (fs : List Function) (f : Function)
     → functionEntries start (fs ++ (f ∷ [])) ≡ functionEntries start fs ++ (functionEntry (start + codeOf fs) f ∷ [])
 entries-of start [] f = let here : start + 0 ≡ start = omega arith in rw here
 entries-of start (g ∷ fs) f =
-    let n = length (g .state .instructions) in
+    let n = length (g .state .code .instructions) in
     let next : start + (n + codeOf fs) ≡ start + n + codeOf fs = omega arith in
     rw next (ap (λ (es : Entries). functionEntry start g ∷ es) (entries-of (start + n) fs f))
 
 pub functions-count : {ps : List ℕ} {m : Shelf} {x : Book} → Stock ps m x → m .book .functions ≡ functionCount (x .context)
 functions-count {x = x} S =
     let start = length (x .context .prior .code) in
-    S .functions .count ∙ length-append (x .context .prior .functions) (functionEntries start (x .context .functions))
-    ∙ ap (λ (n : ℕ). length (x .context .prior .functions) + n) (functions-length start (x .context .functions))
+    S .functions .count ∙ length-append (x .context .prior .functions) (functionEntries start (x .context .program .functions))
+    ∙ ap (λ (n : ℕ). length (x .context .prior .functions) + n) (functions-length start (x .context .program .functions))
 
 module _ {κ : Limits} {ps : List ℕ} {s : struct.Book} {c₀ k₀ n₀ b₀ e₀ c k n b e g m p t l u : List ℕ} {r : FunctionState} {x : Book} {f : FunctionDefinition}
     (B : Built κ ps (shelf s c₀ k₀ g m p t l u n₀ b₀ e₀) x f (machine r c k n b e)) where
@@ -113,7 +113,7 @@ module _ {κ : Limits} {ps : List ℕ} {s : struct.Book} {c₀ k₀ n₀ b₀ e�
   pub built-back : r .full ≡ 0 → s .full ≡ 0
   built-back = back (base-longer f x) (held-working (B .book)) (B .function)
 
-  pub built-between : r .full ≡ 0 → Between (codeSoFar x ++ codeEntries (baseOf f x .function .instructions) (baseOf f x .function .positions)) (r .code)
+  pub built-between : r .full ≡ 0 → Between (codeSoFar x ++ codeEntries (baseOf f x .function .code .instructions) (baseOf f x .function .code .positions)) (r .code)
       (r .constants) (r .errors) c k n b e (done (ended (baseOf f x)))
   built-between z = between-law (B .function) z refl (ap total (base-breaks f (working x)))
 
@@ -156,12 +156,12 @@ module _ {κ : Limits} {ps : List ℕ} {s : struct.Book} {c₀ k₀ n₀ b₀ e�
         let S = B .book .rest (built-back z) in
         let C = B .function .rest z in
         let A = built-between z in
-        let fs = x .context .functions in
+        let fs = x .context .program .functions in
         let p₀ = x .context .prior in
         record {
           code = rw (
             entries-more functionCode 0 fs (made name),
-            ← append-assoc (p₀ .code) (entriesFrom functionCode 0 fs) (codeEntries (made name .state .instructions) (made name .state .positions)),
+            ← append-assoc (p₀ .code) (entriesFrom functionCode 0 fs) (codeEntries (made name .state .code .instructions) (made name .state .code .positions)),
           ) (A .filled-code);
           sized = all-append (S .sized) (C .sized & nil);
           constants = A .filled-constants;

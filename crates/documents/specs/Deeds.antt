@@ -55,7 +55,7 @@ OneOf (some i) first n = (first ≤ i) × (i < first + n)
 
 -- a context local that may be there is one of those added
 abbrev pub AddedLocal : Option ℕ → Context → Type 0
-AddedLocal o c = OneOf o (length (c .prior .locals)) (length (c .localNames))
+AddedLocal o c = OneOf o (length (c .prior .locals)) (length (c .locals .names))
 
 -- the local and the constant are the definition's, where nothing is full, and the local is one of the book's context
 pub record Valuable (s : struct.Book) (found : Found) (constant : ℕ) (o : Option ℕ) (v : ℕ) (x : Book) : Type 0 where

@@ -420,7 +420,7 @@ module _ (w : List ℕ) (here : (i : ℕ) → 0 < spanAt w i → KnownToken (tok
   function-definition : (f : FunctionDefinition) (k i : ℕ) → FunctionAt k f w i → (b : Book.Book) → AllKnown (b .compiler .errors)
       → AllKnown (compileFunctionDefinition f b .book .compiler .errors)
   unfolding compileFunctionDefinition
-  function-definition f k i x b h = cond-case (λ (p : Placed). AllKnown (p .book .compiler .errors)) (m .state .isInstance)
+  function-definition f k i x b h = cond-case (λ (p : Placed). AllKnown (p .book .compiler .errors)) (m .state .header .isInstance)
       (λ q. book-error 8 (f .name) (headed (x .headed) (omega arith)) (omega arith) (omega arith) (m .book) known′)
       (λ q. plain-function (defineContextLocal (f .name .value) b .place) (m .state) (f .name .value) (m .book) known′)
     where
