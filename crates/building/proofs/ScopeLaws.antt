@@ -243,7 +243,8 @@ module _ {κ : Limits} {E : Entries} {s : struct.FunctionState} {c k n b e : Lis
     define-go op true q (some i) (some j) h =
         let z = eqb-true (s .full) 0 q in
         let C = H .rest z in
-        named-step z (s .names) (s .«scope_base») (s .«local_count») n (w .function .scopes) (w .function .header .localCount) refl (C .names) (C .scope) (C .locals)
+        named-step z (s .names) (s .«scope_base») (s .«local_count») n (w .function .scopes) (w .function .header .localCount) refl (C .names) (C .scope)
+        (C .locals)
 
     found-go : s .full ≡ 0 → (o p : Option ℕ) → o ≡ wrapped p
         → defineBy o name (naming s n) .found ≡ wrapped (defineLocalBy p name (w .function) .found)

@@ -113,7 +113,8 @@ module _ {κ : Limits} {earlier : Entries} {s : struct.FunctionState} {c k n b e
 
   pub put-rescue : Held κ earlier (machine (rescueC s) c k n b e) (putFunction (method.withRescue (next w) (w .function)) w)
   put-rescue = put-law H (withRescue (nextC s) s) (method.withRescue (next w) (w .function)) refl
-      (λ z. let C = H .rest z in fields-rest C _ _ (nextC s) (next w) _ _ _ _ (w .function .log .thisReads) (C .depth) (next-is C) (C .is-instance) (C .parameters))
+      (λ z. let C = H .rest z in fields-rest C _ _ (nextC s) (next w) _ _ _ _ (w .function .log .thisReads) (C .depth) (next-is C) (C .is-instance)
+      (C .parameters))
 
   pub put-parameters : (i i′ : Bool) (p p′ : ℕ) → (s .full ≡ 0 → i ≡ i′) → (s .full ≡ 0 → p ≡ p′)
       → Held κ earlier (machine (parametersC i p s) c k n b e) (putFunction (method.withParameters i′ p′ (w .function)) w)

@@ -220,7 +220,8 @@ module _ {S : ℕ → ℕ} {P : Prior} {left : ℕ} where
       record {
         prior = k .book .prior;
         functions = all-append (k .book .functions) (k .function & none);
-        counted = counted-at codeArea _ (noted-sum _ (λ (x : Function). length (x .state .code .instructions)) (b .context .program .functions) f (noted-more (k .room)))
+        counted = counted-at codeArea _ (noted-sum _ (λ (x : Function). length (x .state .code .instructions)) (b .context .program .functions) f
+            (noted-more (k .room)))
             (counted-at functionsArea _ (noted-one _ (b .context .program .functions) f) (counted-more (k .book .counted)));
       }
 

@@ -390,7 +390,8 @@ good-entered w g = good-function g (record {
   sized = s .sized;
   low = s .low;
   room = s .room;
-  fits = fits-mono (f .code .instructions) (record { tops = le-refl _; slots = omega arith; pools = le-refl _; globals = le-refl _; reads = λ i a. a }) (s .fits);
+  fits = fits-mono (f .code .instructions) (record { tops = le-refl _; slots = omega arith; pools = le-refl _; globals = le-refl _; reads = λ i a. a })
+      (s .fits);
   rescue = s .rescue;
   scopes = none & all-map (λ es qs. all-map (λ e q. omega arith) qs) (s .scopes);
   breaks = none & s .breaks;

@@ -270,7 +270,8 @@ module _ (p : Program) (c : Context) (safe : ProgramSafe c) (fit : OperandsFit c
       this-read i k o z = go (subst (λ n. Within (classOf n) (counts (length l) (length (c .pool .constants)) (c .pool .localCount) (f .state)) i
           (at l i .operand)) o (f-safe .fits i k))
         where
-          go : (at l i .operand < f .state .header .localCount) ⊎ ((at l i .operand ≡ 0) × (f .state .header .localCount ≡ 0) × Among i (f .state .log .thisReads))
+          go : (at l i .operand < f .state .header .localCount) ⊎
+              ((at l i .operand ≡ 0) × (f .state .header .localCount ≡ 0) × Among i (f .state .log .thisReads))
               → Among i (f .state .log .thisReads)
           go (inl q) = absurd (omega arith)
           go (inr q) = q .2
@@ -409,7 +410,8 @@ module _ {m : Areas} {t : Totals} (c : Context) (holds : (area : ℕ) → Holds 
       constantTotal = constantsHeld .total ∙ single-length _ 0 (c .pool .constants)
 
       modelTotal : totalOf t modelsArea ≡ M
-      modelTotal = modelsHeld .total ∙ length-append (c .prior .models) addedModels ∙ ap (λ k. length (c .prior .models) + k) (single-length _ 0 (c .program .models))
+      modelTotal = modelsHeld .total ∙ length-append (c .prior .models) addedModels ∙ ap (λ k. length (c .prior .models) + k)
+          (single-length _ 0 (c .program .models))
 
       contextTotal : totalOf t contextLocalsArea ≡ c .pool .localCount
       contextTotal = localsHeld .total ∙ length-append (c .prior .locals) addedLocals
@@ -457,7 +459,8 @@ module _ {m : Areas} {t : Totals} (c : Context) (holds : (area : ℕ) → Holds 
           go (no q) =
               let i = j - length (c .prior .functions) in
               let there : length (c .prior .functions) + i ≡ j = omega arith in
-              subst Q there (f (length (c .prior .functions) + i) (functionAt (c .program .functions) i .state .log .thisReads) (within i (omega (arith, functionTotal)) .0))
+              subst Q there (f (length (c .prior .functions) + i) (functionAt (c .program .functions) i .state .log .thisReads)
+              (within i (omega (arith, functionTotal)) .0))
 
       codeLoose : All (λ (e : List ℕ). Loose K C (unword (getD e 0 0))) (c .prior .code ++ entriesFrom functionCode 0 (c .program .functions))
       codeLoose = all-append (safe .parts .prior .code) (code-loose (all-map (λ f s. s .0) (safe .parts .functions)) fit)

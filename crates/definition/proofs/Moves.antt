@@ -139,7 +139,8 @@ Moving s = (w : Work) → Moves w (s w)
 
 -- a change of the function state alone
 pub moves-function : (w : Work) (f : FunctionState) → Kept (code w) (f .code .instructions) → f .breakScopes ≡ w .function .breakScopes
-    → w .function .header .localCount ≤ f .header .localCount → f .log .trace ≡ w .function .log .trace → ((i : ℕ) → Next (f .code .instructions) i → Next (code w) i ⊎ Among i [])
+    → w .function .header .localCount ≤ f .header .localCount → f .log .trace ≡ w .function .log .trace
+    → ((i : ℕ) → Next (f .code .instructions) i → Next (code w) i ⊎ Among i [])
     → Moves w (withFunction f w)
 moves-function w f k b l t n = simply k b (λ e. e) l refl refl t n
 
@@ -194,7 +195,8 @@ close-kept : (f : FunctionState) → Kept (f .code .instructions) (removePopOrPu
 unfolding removePopOrPushNull
 close-kept f = cond-case (λ (g : FunctionState). Kept (f .code .instructions) (g .code .instructions)) (eqb (lastOpcode f) Pop)
     (λ t. kept-init (f .code .instructions) (eqb→eq _ _ t))
-    (λ t. cond-case (λ (g : FunctionState). Kept (f .code .instructions) (g .code .instructions)) (eqb (lastOpcode f) ReturnOp) (λ s. kept-refl _) (λ s. kept-append _ _))
+    (λ t. cond-case (λ (g : FunctionState). Kept (f .code .instructions) (g .code .instructions)) (eqb (lastOpcode f) ReturnOp) (λ s. kept-refl _)
+    (λ s. kept-append _ _))
 
 -- all but the code is as it was
 pub record SameButCode (f g : FunctionState) : Type 0 where
@@ -232,10 +234,13 @@ return-same p f = cond-case (λ (g : FunctionState). SameButCode f g) (eqb (last
 
 close-next : (f : FunctionState) (i : ℕ) → Next (removePopOrPushNull f .code .instructions) i → Next (f .code .instructions) i ⊎ Among i []
 unfolding removePopOrPushNull
-close-next f = cond-case (λ (g : FunctionState). (i : ℕ) → Next (g .code .instructions) i → Next (f .code .instructions) i ⊎ Among i []) (eqb (lastOpcode f) Pop)
-    (λ t i q. each-init (λ j (y : Instruction). y .opcode ≡ ForNext → Next (f .code .instructions) j ⊎ Among j []) (f .code .instructions) (λ j r s. inl (r, s)) i (q .0)
+close-next f = cond-case (λ (g : FunctionState). (i : ℕ) → Next (g .code .instructions) i → Next (f .code .instructions) i ⊎ Among i [])
+    (eqb (lastOpcode f) Pop)
+    (λ t i q. each-init (λ j (y : Instruction). y .opcode ≡ ForNext → Next (f .code .instructions) j ⊎ Among j []) (f .code .instructions)
+    (λ j r s. inl (r, s)) i (q .0)
     (q .1))
-    (λ t. cond-case (λ (g : FunctionState). (i : ℕ) → Next (g .code .instructions) i → Next (f .code .instructions) i ⊎ Among i []) (eqb (lastOpcode f) ReturnOp)
+    (λ t. cond-case (λ (g : FunctionState). (i : ℕ) → Next (g .code .instructions) i → Next (f .code .instructions) i ⊎ Among i [])
+    (eqb (lastOpcode f) ReturnOp)
     (λ s. (λ i q. inl q)) (λ s. emit-next (f .code .instructions) _ tt))
 
 return-next : (p : ℕ) (f : FunctionState) (i : ℕ) → Next (emitReturn p f .code .instructions) i → Next (f .code .instructions) i ⊎ Among i []
@@ -286,7 +291,8 @@ unfolding defineLocal
 define-same n f = go (findName n (innermost (f .scopes)))
   where
     go : (o : Option ℕ) → (Emission.defineLocalBy o n f .state .breakScopes ≡ f .breakScopes)
-        × (f .header .localCount ≤ Emission.defineLocalBy o n f .state .header .localCount) × (Emission.defineLocalBy o n f .state .code .instructions ≡ f .code .instructions)
+        × (f .header .localCount ≤ Emission.defineLocalBy o n f .state .header .localCount) ×
+        (Emission.defineLocalBy o n f .state .code .instructions ≡ f .code .instructions)
         × (Emission.defineLocalBy o n f .state .log .trace ≡ f .log .trace)
     go none = (refl, omega arith, refl, refl)
     go (some i) = (refl, omega arith, refl, refl)

@@ -127,7 +127,8 @@ module _ {K C : ℕ} where
   }
 
   -- an instruction within its counts; a Pop only after what is no Pop
-  pub sound-emit : {f : FunctionState} (i : Instruction) (p : ℕ) → Sound K C f → Fits (counts (length (f .code .instructions)) K C f) (length (f .code .instructions)) i
+  pub sound-emit : {f : FunctionState} (i : Instruction) (p : ℕ) → Sound K C f → Fits (counts (length (f .code .instructions)) K C f)
+      (length (f .code .instructions)) i
       → (i .opcode ≡ 1 → Solid f) → Sound K C (Emission.emit i p f)
   sound-emit {f} i p s fit pop = record {
     reach = n;
@@ -361,7 +362,8 @@ module _ {K C : ℕ} where
               (toInstruction Jump 0) [] nothing,
         ) & none);
         loops = r .loops;
-        traced = break-in (length (f .code .instructions)) (readTrace (f .log .trace) .open′) ∙ ap (pushBreaks (length (f .code .instructions) ∷ [])) (r .traced);
+        traced = break-in (length (f .code .instructions)) (readTrace (f .log .trace) .open′) ∙ ap (pushBreaks (length (f .code .instructions) ∷ []))
+            (r .traced);
         belongs = newest b bs e & all-map (λ k q. pushed-one (length (f .code .instructions)) q) (r .belongs);
       }
 

@@ -36,7 +36,8 @@ totals-counted c s =
     (functionsCode-length (all-map (λ (f : Function) p. p .0 .sized) (s .parts .functions))) in
     let pool = c .pool .constants in
     let constants : length (entriesFrom (constantEntry (c .pool .globals)) 0 pool) ≡ length pool = single-length _ 0 pool in
-    let functions = more (p .functions) (functionEntries (length (p .code)) (c .program .functions)) (functions-length (length (p .code)) (c .program .functions)) in
+    let functions = more (p .functions) (functionEntries (length (p .code)) (c .program .functions))
+    (functions-length (length (p .code)) (c .program .functions)) in
     let models = more (p .models) (entriesFrom modelEntry 0 (c .program .models)) (single-length _ 0 (c .program .models)) in
     let M = length (p .models) in
     let properties = more (p .properties) (entriesFrom modelProperties M (c .program .models))

@@ -220,7 +220,9 @@ insertEntry e (x ∷ xs) = cond (eqb (x .name) (e .name)) (e ∷ xs) (x ∷ inse
 -- `local_values.insert`
 abbrev pub setLocalValue : Option ℕ → ℕ → Deed
 setLocalValue none constant b = b
-setLocalValue (some i) constant b = withContext (withLocalValues (insertEntry (record { name = i; index = constant }) (b .context .locals .values)) (b .context)) b
+setLocalValue (some i) constant b =
+    let values = insertEntry (record { name = i; index = constant }) (b .context .locals .values) in
+    withContext (withLocalValues values (b .context)) b
 
 -- includes
 

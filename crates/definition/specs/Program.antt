@@ -37,8 +37,8 @@ constantEntry globals i c = (c .kind ∷ c .value ∷ bit (hasText i globals) �
 -- 3: a function whose code starts at an entry of area 1
 abbrev pub functionEntry : ℕ → Function → List ℕ
 functionEntry start f =
-    f .state .header .parameterCount ∷ f .state .header .localCount ∷ f .state .header .rescuePosition ∷ bit (f .state .header .isInstance) ∷ start ∷ length (f .state .code .instructions)
-    ∷ f .file ∷ f .name ∷ []
+    let h = f .state .header in
+    h .parameterCount ∷ h .localCount ∷ h .rescuePosition ∷ bit (h .isInstance) ∷ start ∷ length (f .state .code .instructions) ∷ f .file ∷ f .name ∷ []
 
 abbrev pub functionEntries : ℕ → List Function → Entries
 functionEntries start [] = []

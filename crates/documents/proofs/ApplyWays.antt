@@ -62,7 +62,10 @@ method-word {t} {n} xs f i k q = go (decLt i (length xs))
 -- `copy_method`
 module _ {source target i : ℕ} {s : struct.Book} {t : List ℕ} where
   pub copy-full : (s .full ≡ 0 → ⊥) → CopiesMethod source target i s t s t
-  copy-full ne = record { deeds = λ c k f m p l u n b e. full-deeds (λ w. calm-methods (some target) (methodsFrom source i 1 (w .context .program .methods)) w) ne }
+  copy-full ne = record {
+    deeds = λ c k f m p l u n b e. full-deeds
+        (λ w. calm-methods (some target) (methodsFrom source i 1 (w .context .program .methods)) w) ne;
+  }
 
   pub copy-other : s .full ≡ 0 → {model : ℕ} → model ≡ entryField 3 i 0 t → (model ≡ source → ⊥) → CopiesMethod source target i s t s t
   copy-other z {model} first ne = record {
@@ -117,7 +120,8 @@ module _ (source target count : ℕ) where
       whole : (c k f m p l u n b e : List ℕ) (κ : Limits) (ps : List ℕ) (w : Book) → (s .full ≡ 0 → count ≤ length (w .context .program .methods))
           → Keeping κ ps (shelf s c k f m p t l u n b e) w → (x : Bool) → eqb (s .full) 0 ≡ x
           → Keeping κ ps (shelf s′ c k f m p t′ l u n b e) (addMethods (some target) (methodsFrom source i 1 (w .context .program .methods)
-          ++ methodsFrom source (i + 1) (count - (i + 1)) (insertMethods target (methodsFrom source i 1 (w .context .program .methods)) (w .context .program .methods))) w)
+          ++ methodsFrom source (i + 1) (count - (i + 1))
+          (insertMethods target (methodsFrom source i 1 (w .context .program .methods)) (w .context .program .methods))) w)
           → Keeping κ ps (shelf s′ c k f m p t′ l u n b e) (addMethods (some target) (methodsFrom source i (count - i) (w .context .program .methods)) w)
       whole c k f m p l u n b e κ ps w few H true q H′ =
           let enough = few (eqb-true (s .full) 0 q) in

@@ -82,7 +82,8 @@ module _ {s s′ : struct.Book} {before r : FunctionState} {k k′ : List ℕ} {
 
 -- `define_local`
 
-pub names-count : {ps : List ℕ} {m : Shelf} {x : Book} → Stock ps m x → m .book .locals ≡ length (x .context .prior .locals) + length (x .context .locals .names)
+pub names-count : {ps : List ℕ} {m : Shelf} {x : Book} → Stock ps m x → m .book .locals ≡ length (x .context .prior .locals) + length
+    (x .context .locals .names)
 names-count {x = x} S =
     let stood = x .context .prior .locals in
     S .locals .count ∙ length-append stood _ ∙ ap (λ (n : ℕ). length stood + n)

@@ -125,8 +125,10 @@ pub model-law : {ps : List ℕ} {m : Shelf} {w : Book} (name : ℕ) → Stock ps
 model-law {ps} {m} {w} name S i found =
     let past : length (w .context .prior .locals) ≤ i = omega (arith, S .first-local, first-past _ _ _ i found) in
     rw (
-      local-word (w .context .prior .locals) (w .context .locals .values) (w .context .locals .names) (S .locals) (S .valued) i 2 past (omega arith) apart2 refl,
-      local-word (w .context .prior .locals) (w .context .locals .values) (w .context .locals .names) (S .locals) (S .valued) i 3 past (omega arith) apart3 refl,
+      local-word (w .context .prior .locals) (w .context .locals .values) (w .context .locals .names) (S .locals) (S .valued) i 2 past
+          (omega arith) apart2 refl,
+      local-word (w .context .prior .locals) (w .context .locals .values) (w .context .locals .names) (S .locals) (S .valued) i 3 past
+          (omega arith) apart3 refl,
     )
     (go (findName i (w .context .locals .values)))
   where

@@ -39,7 +39,11 @@ use Rattle.documents.proofs.MethodOrder.{Distinct, nobody, distinct-ins
 one-more : (f : FunctionDefinition) (x : Book) → functionCount (implementing f x .context) ≡ functionCount (x .context) + 1
 unfolding compileBase
 one-more f x =
-    omega (arith, length-append (x .context .program .functions) (record { state = compileBase f x .state; name = f .name .value; file = x .assembly .index } ∷ []))
+    omega (
+      arith,
+      length-append (x .context .program .functions)
+          (record { state = compileBase f x .state; name = f .name .value; file = x .assembly .index } ∷ []),
+    )
 
 pub all-more : (fs : List FunctionDefinition) (x : Book)
     → functionCount (implementingAll fs x .context) ≡ functionCount (x .context) + length fs

@@ -113,7 +113,8 @@ module _ {κ : Limits} {ps : List ℕ} {s : struct.Book} {c₀ k₀ n₀ b₀ e�
   pub built-back : r .full ≡ 0 → s .full ≡ 0
   built-back = back (base-longer f x) (held-working (B .book)) (B .function)
 
-  pub built-between : r .full ≡ 0 → Between (codeSoFar x ++ codeEntries (baseOf f x .function .code .instructions) (baseOf f x .function .code .positions)) (r .code)
+  pub built-between : r .full ≡ 0 → Between (codeSoFar x ++ codeEntries (baseOf f x .function .code .instructions) (baseOf f x .function .code .positions))
+      (r .code)
       (r .constants) (r .errors) c k n b e (done (ended (baseOf f x)))
   built-between z = between-law (B .function) z refl (ap total (base-breaks f (working x)))
 

@@ -33,7 +33,8 @@ code-so-far c sized =
     omega (
       arith,
       length-append (c .prior .code) (entriesFrom functionCode 0 (c .program .functions)),
-      entries-length functionCode (λ f. length (f .state .code .instructions)) 0 (λ j f s. code-length (f .state .code .instructions) (f .state .code .positions) s) sized,
+      entries-length functionCode (λ f. length (f .state .code .instructions)) 0
+          (λ j f s. code-length (f .state .code .instructions) (f .state .code .positions) s) sized,
     )
 
 -- an area without entries
