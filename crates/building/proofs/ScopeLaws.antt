@@ -14,7 +14,7 @@ use borrow.Author.Tests.{eqb-true, eqb-false, eq-eqb, ltb-true, ltb-false}
 use Rattle.words.specs.Areas.{entriesIn, setEntry, scopeNamesArea}
 use Rattle.definition.specs.FunctionState as Emission
 use Rattle.definition.specs.FunctionState.{Entry, FunctionState, tail, innermost, findName, findLocal, enterScope, exitScope, insertName}
-use Rattle.definition.specs.FunctionState.{defineLocal, defineLocalBy, defineAnonymousLocal}
+use Rattle.definition.specs.FunctionState.{defineLocal, defineLocalIn, defineLocalBy, defineAnonymousLocal}
 use Rattle.definition.specs.Uses.{Use, Limits, limitOf, total}
 use Rattle.definition.specs.Compiler.{Work, withFunction, doing}
 use Rattle.definition.specs.Program.{Entries}
@@ -253,18 +253,23 @@ module _ {κ : Limits} {E : Entries} {s : struct.FunctionState} {c k n b e : Lis
     found-go z (some i) none h = absurd (let y : _≡_ {A = ℕ} 0 1 = cc in omega arith)
     found-go z (some i) (some j) h = refl
 
+    -- where a scope is open, by what the innermost one has
+    define-in : (f : FunctionState) (ss : List (List Entry)) → isOpen ss ≡ true → defineLocalIn ss name f ≡ defineLocalBy (findName name (innermost ss)) name f
+    define-in f [] op = absurd (let z : _≡_ {A = ℕ} 0 1 = cc in omega arith)
+    define-in f (x ∷ ss) op = refl
+
   module _ {name : ℕ} {r : Defined} {n′ : List ℕ} (D : Defines name (naming s n) r n′) where
     pub define-law : isOpen (w .function .scopes) ≡ true → Held κ E (machine (r .state) c k n′ b e) (withFunction (defineLocal name (w .function) .state) w)
     unfolding defineC defineLocal
     define-law op =
-        rw (ap (λ (m : Naming). m .state) (D .memory), ap (λ (m : Naming). m .names) (D .memory))
+        rw (ap (λ (m : Naming). m .state) (D .memory), ap (λ (m : Naming). m .names) (D .memory), define-in name (w .function) (w .function .scopes) op)
         (define-go name op (eqb (s .full) 0) refl (findInScopeC name (naming s n)) (findName name (innermost (w .function .scopes))) (find-in-scope-law name))
 
-    pub define-found : s .full ≡ 0 → r .found ≡ foundOf (wrapped (defineLocal name (w .function) .found))
+    pub define-found : s .full ≡ 0 → isOpen (w .function .scopes) ≡ true → r .found ≡ foundOf (wrapped (defineLocal name (w .function) .found))
     unfolding defineC defineLocal
-    define-found z =
+    define-found z op =
         let same : defineC name (naming s n) .found ≡ wrapped (defineLocal name (w .function) .found) =
-        rw (eq-eqb (s .full) 0 z)
+        rw (eq-eqb (s .full) 0 z, define-in name (w .function) (w .function .scopes) op)
         (found-go name z (findInScopeC name (naming s n)) (findName name (innermost (w .function .scopes))) (find-in-scope-law name z)) in
         D .found ∙ ap foundOf same
 

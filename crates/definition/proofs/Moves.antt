@@ -32,6 +32,7 @@ use Rattle.definition.specs.Compiler.{compilePair, compileAssignName}
 use Rattle.definition.specs.Compiler.{compileThisExpression, compileIdentifierExpression, emitName, compileNullExpression, compileBooleanExpression}
 use Rattle.definition.specs.Compiler.{compileStringExpression, compileFloatExpression, compileIntegerExpression, emitGlobal, emitConstant}
 use Rattle.definition.specs.Within.{All, none, _&_, Among, here, there, Loop, loopsOf, exitsOf, readTrace}
+use Rattle.definition.proofs.Defining.{define-cases}
 use Rattle.definition.proofs.Safe.{at}
 use Rattle.definition.proofs.Lists.{all-map, all-append, Kept, Fresh, kept-refl, kept-trans, fresh-ge, fresh-trans, kept-append, kept-set}
 use Rattle.definition.proofs.Lists.{kept-patch, kept-init, cond-case, ne-of-test, each-snoc, each-set, each-patch, each-init}
@@ -287,13 +288,11 @@ break-moves p w = go (w .function .breakScopes) refl
 pub define-same : (n : ℕ) (f : FunctionState) → (defineLocal n f .state .breakScopes ≡ f .breakScopes)
     × (f .header .localCount ≤ defineLocal n f .state .header .localCount) × (defineLocal n f .state .code .instructions ≡ f .code .instructions)
     × (defineLocal n f .state .log .trace ≡ f .log .trace)
-unfolding defineLocal
-define-same n f = go (findName n (innermost (f .scopes)))
+define-same n f = define-cases (λ d. (d .state .breakScopes ≡ f .breakScopes) × (f .header .localCount ≤ d .state .header .localCount)
+    × (d .state .code .instructions ≡ f .code .instructions) × (d .state .log .trace ≡ f .log .trace)) n f (λ o. go o)
   where
-    go : (o : Option ℕ) → (Emission.defineLocalBy o n f .state .breakScopes ≡ f .breakScopes)
-        × (f .header .localCount ≤ Emission.defineLocalBy o n f .state .header .localCount) ×
-        (Emission.defineLocalBy o n f .state .code .instructions ≡ f .code .instructions)
-        × (Emission.defineLocalBy o n f .state .log .trace ≡ f .log .trace)
+    go : (o : Option ℕ) → let g = Emission.defineLocalBy o n f .state in (g .breakScopes ≡ f .breakScopes)
+        × (f .header .localCount ≤ g .header .localCount) × (g .code .instructions ≡ f .code .instructions) × (g .log .trace ≡ f .log .trace)
     go none = (refl, omega arith, refl, refl)
     go (some i) = (refl, omega arith, refl, refl)
 

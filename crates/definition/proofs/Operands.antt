@@ -32,6 +32,7 @@ use Rattle.definition.specs.Compiler.{compileAssignName, compileFunction
 use Rattle.definition.specs.Compiler.{emitName, compileNullExpression, compileBooleanExpression, compileStringExpression}
 use Rattle.definition.specs.Compiler.{compileFloatExpression, compileIntegerExpression, emitGlobal, emitConstant, compileParameter}
 use Rattle.definition.specs.Within.{All, none, _&_, Class, Position, Slot, Read, Pool, ContextSlot, Other, classOf}
+use Rattle.definition.proofs.Defining.{define-cases}
 use Rattle.definition.proofs.Lists.{all-append, all-set, all-take, all-patch, cond-case}
 use Rattle.definition.proofs.Uses.{Later, Noted, later-same, later-more, noted-here, noted-more}
 use Rattle.definition.proofs.Room.{room, room-deeper, room-two, room-more, room-beside, get-once, get-twice}
@@ -96,8 +97,7 @@ module _ {B m : ℕ} where
       (λ t. body-emit _ (omega arith) (body-close f b))
 
   body-define : (n : ℕ) (f : FunctionState) → BodyOf B m f → BodyOf B (m + 1) (defineLocal n f .state)
-  unfolding defineLocal
-  body-define n f b = go (findName n (innermost (f .scopes)))
+  body-define n f b = define-cases (λ d. BodyOf B (m + 1) (d .state)) n f go
     where
       go : (o : Option ℕ) → BodyOf B (m + 1) (Emission.defineLocalBy o n f .state)
       go none = record { small = b .small; few = omega (arith, b .few) }

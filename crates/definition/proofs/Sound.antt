@@ -18,6 +18,7 @@ use Rattle.definition.specs.Within.{Loop}
 use Rattle.definition.specs.FunctionState as Emission
 use Rattle.definition.specs.Within.{All, none, _&_, Loop, readTrace, loopsOf, breaksOf, Among, here, there, InLoop, first, later, Class, breakIn, leave}
 use Rattle.definition.specs.Within.{Position, Slot, Read, Pool, ContextSlot, Other, classOf}
+use Rattle.definition.proofs.Defining.{define-cases}
 use Rattle.definition.proofs.Safe.{at, Each, counts, Landed, Counts, Within, Fits}
 use Rattle.definition.proofs.Lists.{all-map, all-append, Kept, Fresh, kept-append, kept-init, kept-set, cond-case, ne-of-test, each-map, each-snoc}
 use Rattle.definition.proofs.Lists.{each-set, each-init, each-patch, last-snoc, opcode-set, opcode-patch, patch-other, patch-hits, length-patch}
@@ -487,8 +488,7 @@ module _ {K C : ℕ} where
   }
 
   pub sound-define : (n : ℕ) (f : FunctionState) → Sound K C f → Sound K C (defineLocal n f .state)
-  unfolding defineLocal
-  sound-define n f s = go (findName n (innermost (f .scopes)))
+  sound-define n f s = define-cases (λ d. Sound K C (d .state)) n f go
     where
       insert : {ss : List (List Entry)} → All (All (λ (e : Entry). e .index < f .header .localCount + 1)) ss
           → All (All (λ (e : Entry). e .index < f .header .localCount + 1)) (Emission.insertName (record { name = n; index = f .header .localCount }) ss)
@@ -500,8 +500,7 @@ module _ {K C : ℕ} where
       go (some i) = s
 
 pub define-found : (n i : ℕ) (f : FunctionState) → defineLocal n f .found ≡ some i → i < defineLocal n f .state .header .localCount
-unfolding defineLocal
-define-found n i f e = go (findName n (innermost (f .scopes))) e
+define-found n i f = define-cases (λ d. d .found ≡ some i → i < d .state .header .localCount) n f go
   where
     go : (o : Option ℕ) → Emission.defineLocalBy o n f .found ≡ some i → i < Emission.defineLocalBy o n f .state .header .localCount
     go none q = let z : f .header .localCount ≡ i = cc in omega arith

@@ -29,6 +29,7 @@ use Rattle.definition.specs.Compiler.{compileArrayExpression, compileCal
 use Rattle.definition.specs.Compiler.{compileAssignExpression, compilePair, compileAssignName, compileThisExpression, compileIdentifierExpression}
 use Rattle.definition.specs.Compiler.{compileNullExpression, compileBooleanExpression, compileStringExpression, compileFloatExpression}
 use Rattle.definition.specs.Compiler.{compileIntegerExpression, compileFunctionDefinitionBase}
+use Rattle.definition.proofs.Defining.{define-cases}
 use Rattle.definition.proofs.Lists.{cond-case}
 
 -- notes are added in front
@@ -110,8 +111,7 @@ steady-break p w = go (w .function .breakScopes)
     go (s ∷ ss) = steady-function w _ refl
 
 pub steady-define : (n : ℕ) (w : Work) → Steady w (withFunction (defineLocal n (w .function) .state) w)
-unfolding defineLocal
-steady-define n w = go (findName n (innermost (w .function .scopes)))
+steady-define n w = define-cases (λ d. Steady w (withFunction (d .state) w)) n (w .function) go
   where
     go : (o : Option ℕ) → Steady w (withFunction (Emission.defineLocalBy o n (w .function) .state) w)
     go none = steady-function w _ refl

@@ -205,7 +205,7 @@ abbrev pub innermost : {A : Type 0} → List (List A) → List A
 innermost [] = []
 innermost (s ∷ ss) = s
 
--- `exit_break_scope`: the loop whose exit is at `exit` is left
+-- `exit_break_scope`: the loop whose exit is at `exit` is left. Without a break scope the Rust panics; a loop has entered its own
 unfoldable pub exitBreakScope : ℕ → FunctionState → FunctionState
 exitBreakScope exit f =
     let target = getNextInstructionIndex f in
@@ -229,9 +229,13 @@ defineLocalBy none n f = record {
   state = withScopes (insertName (record { name = n; index = f .header .localCount }) (f .scopes)) (withLocalCount (f .header .localCount + 1) f);
 }
 
--- `define_local`: a name that the innermost scope has is not defined again; a function has its outermost scope always
+abbrev pub defineLocalIn : List (List Entry) → ℕ → FunctionState → Defined
+defineLocalIn [] n f = record { found = none; state = f }
+defineLocalIn (s ∷ ss) n f = defineLocalBy (findName n s) n f
+
+-- `define_local`: a name that the innermost scope has is not defined again, and none without a scope
 unfoldable pub defineLocal : ℕ → FunctionState → Defined
-defineLocal n f = defineLocalBy (findName n (innermost (f .scopes))) n f
+defineLocal n f = defineLocalIn (f .scopes) n f
 
 -- `define_anonymous_local`
 abbrev pub defineAnonymousLocal : FunctionState → FunctionState

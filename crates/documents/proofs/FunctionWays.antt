@@ -80,7 +80,7 @@ module _ {tree : List ℕ} {at : ℕ} {s : FunctionState} {n e : List ℕ} where
       defined = define-law held₁ (subst (λ (x : ℕ). Defines x (naming s₁ n) d n′) same-name D) open′
 
       found : d .found ≡ foundOf (wrapped (defineLocal (t .value) (flagged t w .function) .found))
-      found = define-found held₁ (subst (λ (x : ℕ). Defines x (naming s₁ n) d n′) same-name D) live₁
+      found = define-found held₁ (subst (λ (x : ℕ). Defines x (naming s₁ n) d n′) same-name D) live₁ open′
 
     pub parameter-new : {index : ℕ} → d .found ≡ At index → MeetsParameter tree at s n e (d .state) n′ e
     unfolding compileParameter compileBare
