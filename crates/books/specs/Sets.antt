@@ -37,7 +37,7 @@ pub record Zeros (bits : List ℕ) (at r : ℕ) : Type 0 where
   pub zero-word : (i : ℕ) → at ≤ i → i < r → getD bits i 0 ≡ 0
 
 -- `after`: a number further on, with none of the set between
-pub record Passes (bits : List ℕ) (n r : ℕ) : Type 0 where
+pub record NoneBetween (bits : List ℕ) (n r : ℕ) : Type 0 where
   pub on : n < r
   pub last : r ≤ setSize
   pub between : (m : ℕ) → n < m → m < r → bitOf bits m ≡ false

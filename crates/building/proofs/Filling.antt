@@ -17,7 +17,7 @@ use Rattle.definition.specs.Uses.{Use, Limits, limitOf, overBy, firstOver, tota
 use Rattle.definition.specs.Compiler.{Work, withFunction}
 use Rattle.definition.specs.Program.{Entries, flat, filled, codeEntries, bit}
 use Rattle.definition.specs.Book.{hasText}
-use Rattle.definition.specs.Within.{All, none as nil, _&_}
+use Rattle.definition.specs.Within.{All, nil, _&_}
 use Rattle.definition.proofs.Lists.{all-append, all-set}
 use Rattle.definition.proofs.Cells.{Wide, all-at, flat-length, filled-word, single-length}
 use Rattle.words.specs.Opcode.{Instruction}

@@ -18,7 +18,7 @@ use Rattle.definition.specs.FunctionState.{defineLocal, defineLocalIn, defineLo
 use Rattle.definition.specs.Uses.{Use, Limits, limitOf, total}
 use Rattle.definition.specs.Compiler.{Work, withFunction, doing}
 use Rattle.definition.specs.Program.{Entries}
-use Rattle.definition.specs.Within.{none as nil}
+use Rattle.definition.specs.Within.{nil}
 use Rattle.building.specs.declared.scopes.Defined.{Defined}
 use Rattle.building.specs.declared.function_state.FunctionState as struct
 use Rattle.building.specs.Found.{foundOf, wrapped}

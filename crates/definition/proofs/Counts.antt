@@ -31,7 +31,7 @@ use Rattle.definition.specs.Book.{compileImplementDefinition, methodsOf,
 use Rattle.definition.specs.Book.{compileDocument, pushBookError, newContext, Deed}
 use Rattle.definition.specs.DependencySolver.{Worked, Delivered, dependencies, allIn, findDocument, readyBy, ready, without, afterBook, driveBy}
 use Rattle.definition.specs.DependencySolver.{drive, filesOf, loadedOf, compileNeeded}
-use Rattle.definition.specs.Within.{All, none, _&_}
+use Rattle.definition.specs.Within.{All, nil, _&_}
 use Rattle.definition.proofs.Lists.{all-append, cond-case}
 use Rattle.definition.proofs.Limits.{LimitedFunction, LimitedDocument, functionsIn}
 use Rattle.definition.proofs.Room.{room, room-limited}
@@ -219,7 +219,7 @@ module _ {S : ℕ → ℕ} {P : Prior} {left : ℕ} where
       let f : Function = record { state = m .state; name = n; file = b .assembly .index } in
       record {
         prior = k .book .prior;
-        functions = all-append (k .book .functions) (k .function & none);
+        functions = all-append (k .book .functions) (k .function & nil);
         counted = counted-at codeArea _ (noted-sum _ (λ (x : Function). length (x .state .code .instructions)) (b .context .program .functions) f
             (noted-more (k .room)))
             (counted-at functionsArea _ (noted-one _ (b .context .program .functions) f) (counted-more (k .book .counted)));
@@ -264,7 +264,7 @@ module _ {S : ℕ → ℕ} {P : Prior} {left : ℕ} where
   kept-compile-methods : (fs : List FunctionDefinition) → All LimitedFunction fs → (es : List Entry) (b : Book.Book) → BookKept S P left b
       → BookKept S P left (compileMethods fs es b .book)
   unfolding compileMethods
-  kept-compile-methods [] none es b k = k
+  kept-compile-methods [] nil es b k = k
   kept-compile-methods (f ∷ fs) (l & ls) es b k = kept-compile-methods fs ls _ _ (kept-added (f .name .value) (compileBase f b) (base-kept f l b k))
 
   -- documents
@@ -275,8 +275,8 @@ module _ {S : ℕ → ℕ} {P : Prior} {left : ℕ} where
   kept-definition (IncludeDefinition file l) h = kept-include (file .value) l
   kept-definition (ModelDefinition n ps) h = record { keeps = kept-model n ps }
   kept-definition (PublicModelDefinition n ps) h = record { keeps = λ b k. kept-publish (n .value) _ (kept-model n ps b k) }
-  kept-definition (PlainFunction f) (l & none) = record { keeps = kept-function f l }
-  kept-definition (PublicFunction f) (l & none) = record { keeps = λ b k. kept-publish (f .name .value) _ (kept-function f l b k) }
+  kept-definition (PlainFunction f) (l & nil) = record { keeps = kept-function f l }
+  kept-definition (PublicFunction f) (l & nil) = record { keeps = λ b k. kept-publish (f .name .value) _ (kept-function f l b k) }
   kept-definition (ImplementDefinition m fs) h = record {
     keeps = λ b k.
         let c = compileMethods fs [] b in
@@ -292,7 +292,7 @@ module _ {S : ℕ → ℕ} {P : Prior} {left : ℕ} where
 
   kept-definitions : (ds : List Definition) → All (λ d. All LimitedFunction (functionsIn d)) ds → Keeping S P left (compileDefinitions ds)
   unfolding compileDefinitions
-  kept-definitions [] none = record { keeps = λ b k. k }
+  kept-definitions [] nil = record { keeps = λ b k. k }
   kept-definitions (d ∷ ds) (h & hs) = kept-then (kept-definition d h) (kept-definitions ds hs)
 
 -- a context between books, with its notes
@@ -319,7 +319,7 @@ document-kept {S} {P} {left} d c us h k =
 -- in the order of a bundle: a document that is ready is one of the bundle's
 
 find-document : {P : Document → Type 0} (n : ℕ) (d : Document) (l : List Document) → All P l → findDocument n l ≡ some d → P d
-find-document n d [] none e = absurd (let z : _≡_ {A = ℕ} 0 1 = cc in omega arith)
+find-document n d [] nil e = absurd (let z : _≡_ {A = ℕ} 0 1 = cc in omega arith)
 find-document {P} n d (x ∷ l) (p & ps) e = go (eqb (x .filename) n) (λ q. find-document n d l ps q) e
   where
     go : (b : Bool) → (findDocument n l ≡ some d → P d) → cond b (some x) (findDocument n l) ≡ some d → P d
@@ -370,11 +370,11 @@ files-length : (l : List Assembly) → length (filesOf l) ≡ length l
 files-length [] = refl
 files-length (a ∷ l) = ap suc (files-length l)
 
-numbers-length : (es : Entries) → length (fileNumbers es) ≡ length es
+pub numbers-length : (es : Entries) → length (fileNumbers es) ≡ length es
 numbers-length [] = refl
 numbers-length (e ∷ es) = ap suc (numbers-length es)
 
-loaded-length : (c : Context) → length (loadedOf c) ≡ bookCount c
+pub loaded-length : (c : Context) → length (loadedOf c) ≡ bookCount c
 loaded-length c =
     omega (arith, length-append (fileNumbers (c .prior .books)) (filesOf (c .assemblies)), numbers-length (c .prior .books), files-length (c .assemblies))
 
@@ -408,7 +408,7 @@ module _ (numbers : List ℕ) (ds : List Document) (r : Context) (h : All Limite
   fresh-noted e =
       drive-kept (length numbers) ds _ numbers newContext r _ h (record {
         prior = refl;
-        functions = none;
+        functions = nil;
         counted = counted-at booksArea _ noted-here (counted-at constantsArea _ (noted-more noted-here) (none-counted _));
       }) e
 

@@ -18,7 +18,7 @@ use Rattle.definition.specs.Prior.{Prior, nothingStands}
 use Rattle.definition.specs.Book.{Function, Context, newContext, codeOf, codeCount}
 use Rattle.definition.specs.Program.{Entries, tablesOf}
 use Rattle.definition.specs.Answer.{Delivery, limitsBy, limitsOf, answerFrom, answer}
-use Rattle.definition.specs.Within.{All, none, _&_, Class, Position, Slot, Read, Pool, ContextSlot, Other, classOf}
+use Rattle.definition.specs.Within.{All, nil, _&_, Class, Position, Slot, Read, Pool, ContextSlot, Other, classOf}
 use Rattle.definition.specs.Within.{logsOf, OnePositionEach, KeepsWithin}
 use Rattle.definition.proofs.Safe.{at, Each, counts, Counts, Within, FunctionSafe, ProgramSafe}
 use Rattle.definition.proofs.Lists.{all-map}
@@ -53,7 +53,7 @@ operand-fits Other c i n t l p g w s = omega arith
 
 functions-fit : (K C n : ℕ) (fs : List Function) → K < 2 ^ 56 → C < 2 ^ 56 → n < 2 ^ 56 → codeOf fs ≤ n → All (λ (f : Function). FunctionSafe K C (f .state)) fs
     → KeptFunctions fs → All (λ (f : Function). Each (λ i x. x .operand < 2 ^ 56) (f .state .code .instructions)) fs
-functions-fit K C n [] a b c h none none = none
+functions-fit K C n [] a b c h nil nil = nil
 functions-fit K C n (f ∷ fs) a b c h (s & ss) (k & ks) = here & functions-fit K C n fs a b c (omega arith) ss ks
   where
     top : length (f .state .code .instructions) < 2 ^ 56

@@ -11,7 +11,7 @@ use Rattle.words.proofs.Codes.{unword-word}
 use Rattle.definition.specs.FunctionState.{newFunctionState, noLog}
 use Rattle.definition.specs.Book.{Function, Context, codeOf}
 use Rattle.definition.specs.Program.{Entries, entriesFrom, codeEntries, functionCode, functionEntry, functionEntries}
-use Rattle.definition.specs.Within.{All, none, _&_, logsOf, Class, Position, Slot, Read, Pool, ContextSlot, Other, classOf}
+use Rattle.definition.specs.Within.{All, nil, _&_, logsOf, Class, Position, Slot, Read, Pool, ContextSlot, Other, classOf}
 use Rattle.definition.proofs.Safe.{at, Each, Counts, counts, Within, LooseBy, Loose, FunctionSafe}
 use Rattle.definition.proofs.Cells.{Wide, all-at, entries-all, entries-wide, entries-length, entries-at, sum-inside}
 
@@ -36,12 +36,12 @@ code-entry (x ∷ xs) (p ∷ ps) zero e h = refl
 code-entry (x ∷ xs) (p ∷ ps) (suc i) e h = code-entry xs ps i (omega arith) (omega arith)
 
 code-wide : (xs : List Instruction) (ps : List ℕ) → Wide 2 (codeEntries xs ps)
-code-wide [] ps = none
-code-wide (x ∷ xs) [] = none
+code-wide [] ps = nil
+code-wide (x ∷ xs) [] = nil
 code-wide (x ∷ xs) (p ∷ ps) = refl & code-wide xs ps
 
 all-both : {A : Type 0} {P Q : A → Type 0} {l : List A} → All P l → All Q l → All (λ (x : A). P x × Q x) l
-all-both none none = none
+all-both nil nil = nil
 all-both (p & ps) (q & qs) = (p, q) & all-both ps qs
 
 -- where there is none
@@ -72,7 +72,7 @@ functions-length start [] = refl
 functions-length start (f ∷ fs) = ap suc (functions-length (start + length (f .state .code .instructions)) fs)
 
 pub functions-wide : (start : ℕ) (fs : List Function) → Wide 8 (functionEntries start fs)
-functions-wide start [] = none
+functions-wide start [] = nil
 functions-wide start (f ∷ fs) = refl & functions-wide (start + length (f .state .code .instructions)) fs
 
 -- function j starts after the code of those before it
@@ -112,8 +112,8 @@ EntryLoose K C e = Loose K C (unword (getD e 0 0))
 
 entries-loose : (K C : ℕ) (xs : List Instruction) (ps : List ℕ) → ((i : ℕ) → i < length xs → Loose K C (at xs i) × (at xs i .operand < 2 ^ 56))
     → All (EntryLoose K C) (codeEntries xs ps)
-entries-loose K C [] ps h = none
-entries-loose K C (x ∷ xs) [] h = none
+entries-loose K C [] ps h = nil
+entries-loose K C (x ∷ xs) [] h = nil
 entries-loose K C (x ∷ xs) (p ∷ ps) h =
     let (q, small) = h 0 (omega arith) in
     subst (Loose K C) (sym (unword-word x small)) q & entries-loose K C xs ps (λ i k. h (suc i) (omega arith))

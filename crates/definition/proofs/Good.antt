@@ -34,7 +34,7 @@ use Rattle.definition.specs.Compiler.{compilePrefixExpression, compileIn
 use Rattle.definition.specs.Compiler.{compilePair, compileAssignName}
 use Rattle.definition.specs.Compiler.{compileThisExpression, compileIdentifierExpression, emitName, compileNullExpression, compileBooleanExpression}
 use Rattle.definition.specs.Compiler.{compileStringExpression, compileFloatExpression, compileIntegerExpression, emitGlobal, emitConstant}
-use Rattle.definition.specs.Within.{All, none, _&_, loopsOf, breaksOf, exitsOf, readTrace, Among, here, there, InLoop, classOf}
+use Rattle.definition.specs.Within.{All, nil, _&_, loopsOf, breaksOf, exitsOf, readTrace, Among, here, there, InLoop, classOf}
 use Rattle.definition.proofs.Safe.{at, Each, Landed, Safe, countsOf, Counts, Within, Fits}
 use Rattle.definition.proofs.Lists.{all-map, all-append, Kept, Fresh, kept-refl, kept-trans, fresh-ge, fresh-trans, kept-append, kept-set}
 use Rattle.definition.proofs.Lists.{kept-patch, kept-init, cond-case}
@@ -223,7 +223,7 @@ part-yields {a} A = record {
   moves = Moves.part-moves (A .moves);
   gives = λ w g e.
       let w₁ = doing Emission.enterScope w in
-      let g₂ : Good (a w₁) = A .goes w₁ (good-function g (sound-scopes (w .function) _ _ (g .sound) (le-refl _) (none & g .sound .scopes))) e in
+      let g₂ : Good (a w₁) = A .goes w₁ (good-function g (sound-scopes (w .function) _ _ (g .sound) (le-refl _) (nil & g .sound .scopes))) e in
       let s : Sound _ _ (Emission.exitScope (a w₁ .function)) = sound-scopes (a w₁ .function) _ _ (g₂ .sound) (le-refl _) (all-tail (g₂ .sound .scopes)) in
       good-solid (good-function g₂ s) (sound-close (g₂ .pool) _ s);
 }
@@ -393,8 +393,8 @@ good-entered w g = good-function g (record {
   fits = fits-mono (f .code .instructions) (record { tops = le-refl _; slots = omega arith; pools = le-refl _; globals = le-refl _; reads = λ i a. a })
       (s .fits);
   rescue = s .rescue;
-  scopes = none & all-map (λ es qs. all-map (λ e q. omega arith) qs) (s .scopes);
-  breaks = none & s .breaks;
+  scopes = nil & all-map (λ es qs. all-map (λ e q. omega arith) qs) (s .scopes);
+  breaks = nil & s .breaks;
   loops = s .loops;
   traced = ap (λ l. [] ∷ l) (s .traced);
   belongs = all-map (λ b q. deep q) (s .belongs);
@@ -677,11 +677,11 @@ good-new w r = record {
     room = λ e. absurd (omega arith);
     fits = λ i h. absurd (omega arith);
     rescue = omega arith;
-    scopes = none & none;
-    breaks = none;
-    loops = none;
+    scopes = nil & nil;
+    breaks = nil;
+    loops = nil;
     traced = refl;
-    belongs = none;
+    belongs = nil;
   };
   pool = r .pool;
   names = r .names;

@@ -24,7 +24,7 @@ use Rattle.definition.specs.Program.{Entries, bit, entriesFrom, function
 use Rattle.definition.specs.Program.{modelProperties, methodEntry, localWords, localEntry, publicEntries, assemblyPublics, bookEntry, tablesOf}
 use Rattle.definition.specs.Program.{globalDependencies, filledAll}
 use Rattle.definition.specs.Answer.{Delivery, replyOf, areasOf}
-use Rattle.definition.specs.Within.{All, none, _&_, Areas, Totals, Program, totalOf, total, present, cell, field, instructionAt, startOf, lengthOf}
+use Rattle.definition.specs.Within.{All, nil, _&_, Areas, Totals, Program, totalOf, total, present, cell, field, instructionAt, startOf, lengthOf}
 use Rattle.definition.specs.Within.{localsOf, instructionOf, Class, Position, Slot, Read, Pool, ContextSlot, Other, classOf, boundByTotals}
 use Rattle.definition.specs.Within.{boundByFunction, has, where′, allBelow, operandBound, codeBound, constantBound, functionBound, modelBound}
 use Rattle.definition.specs.Within.{propertyBound, methodBound, localBound, publicBound, entryBound, areaBound, entryPointBound, Among, Loop, Lands}
@@ -286,12 +286,12 @@ bit-small true = omega arith
 bit-small false = omega arith
 
 property-words : {M i : ℕ} (ns : List ℕ) → i < M → All (λ (e : List ℕ). getD e 0 0 < M) (propertyEntries i ns)
-property-words [] h = none
+property-words [] h = nil
 property-words (n ∷ ns) h = h & property-words ns h
 
 public-words : {A K file : ℕ} {es : List Entry} → file < A → All (λ (e : Entry). e .index < K) es
     → All (λ (e : List ℕ). (getD e 0 0 < A) × (getD e 2 0 < K)) (publicEntries file es)
-public-words h none = none
+public-words h nil = nil
 public-words h (k & ks) = (h, k) & public-words h ks
 
 -- a context local: its book, its mark, and its value if it has one
@@ -423,22 +423,22 @@ module _ {m : Areas} {t : Totals} (c : Context) (holds : (area : ℕ) → Holds 
       constantsNamed : All (λ (e : List ℕ). (getD e 0 0 ≡ modelKind → getD e 1 0 < M) × (getD e 0 0 ≡ functionKind → getD e 1 0 < F) × (getD e 2 0 ≤ 1))
           (entriesFrom (constantEntry (c .pool .globals)) 0 (c .pool .constants))
       constantsNamed = entries-all (constantEntry (c .pool .globals)) K 0
-          (λ j x h n. (n .0, n .1, bit-small (hasText j (c .pool .globals))) & none) (omega arith) (safe .parts .constants)
+          (λ j x h n. (n .0, n .1, bit-small (hasText j (c .pool .globals))) & nil) (omega arith) (safe .parts .constants)
 
       modelsFiled : All (λ (e : List ℕ). getD e 0 0 < A) (c .prior .models ++ addedModels)
-      modelsFiled = all-append (safe .parts .prior .models) (entries-all modelEntry M 0 (λ j x h f. f & none) (omega arith) (safe .parts .models))
+      modelsFiled = all-append (safe .parts .prior .models) (entries-all modelEntry M 0 (λ j x h f. f & nil) (omega arith) (safe .parts .models))
 
       propertiesOwned : All (λ (e : List ℕ). getD e 0 0 < M) (c .prior .properties ++ addedProperties)
       propertiesOwned = all-append (safe .parts .prior .properties)
           (entries-all modelProperties M (length (c .prior .models)) (λ j x h f. property-words (x .properties) h) (omega arith) (safe .parts .models))
 
       methodsNamed : All (λ (e : List ℕ). (getD e 0 0 < M) × (getD e 2 0 < F)) (entriesFrom methodEntry 0 (c .program .methods))
-      methodsNamed = entries-all methodEntry (length (c .program .methods)) 0 (λ j x h n. n & none) (omega arith) (safe .parts .methods)
+      methodsNamed = entries-all methodEntry (length (c .program .methods)) 0 (λ j x h n. n & nil) (omega arith) (safe .parts .methods)
 
       localsValued : All (Local A K) (c .prior .locals ++ addedLocals)
       localsValued = all-append (safe .parts .prior .locals)
           (entries-all (localEntry (c .locals .values)) (length (c .prior .locals) + length (c .locals .names)) (length (c .prior .locals))
-          (λ j x h f. local-words (c .locals .values) j x (safe .parts .values) f & none) (le-refl _) (safe .parts .names))
+          (λ j x h f. local-words (c .locals .values) j x (safe .parts .values) f & nil) (le-refl _) (safe .parts .names))
 
       publicsNamed : All (λ (e : List ℕ). (getD e 0 0 < A) × (getD e 2 0 < K)) (c .prior .publics ++ addedPublics)
       publicsNamed = all-append (safe .parts .prior .publics)
@@ -541,11 +541,11 @@ module _ {m : Areas} {t : Totals} (c : Context) (holds : (area : ℕ) → Holds 
 -- every table has its area's width
 
 property-wide : (i : ℕ) (ns : List ℕ) → Wide 2 (propertyEntries i ns)
-property-wide i [] = none
+property-wide i [] = nil
 property-wide i (n ∷ ns) = refl & property-wide i ns
 
 public-wide : (file : ℕ) (es : List Entry) → Wide 3 (publicEntries file es)
-public-wide file [] = none
+public-wide file [] = nil
 public-wide file (e ∷ es) = refl & public-wide file es
 
 local-wide : (o : Option ℕ) (file name : ℕ) → length (localWords o file name) ≡ 4
@@ -555,19 +555,19 @@ local-wide (some c) file name = refl
 pub tables-wide : (c : Context) → PriorWide (c .prior) → Wides widths (tablesOf c)
 unfolding tablesOf
 tables-wide c p =
-    none then all-append (p .code) (functionsCode-wide (c .program .functions))
-    then entries-wide (constantEntry (c .pool .globals)) 3 0 (λ i x. refl & none) (c .pool .constants)
+    nil then all-append (p .code) (functionsCode-wide (c .program .functions))
+    then entries-wide (constantEntry (c .pool .globals)) 3 0 (λ i x. refl & nil) (c .pool .constants)
     then all-append (p .functions) (functions-wide _ (c .program .functions))
-    then all-append (p .models) (entries-wide modelEntry 2 0 (λ i x. refl & none) (c .program .models))
+    then all-append (p .models) (entries-wide modelEntry 2 0 (λ i x. refl & nil) (c .program .models))
     then all-append (p .properties) (entries-wide modelProperties 2 _ (λ i x. property-wide i (x .properties)) (c .program .models))
-    then entries-wide methodEntry 3 0 (λ i x. refl & none) (c .program .methods)
+    then entries-wide methodEntry 3 0 (λ i x. refl & nil) (c .program .methods)
     then all-append (p .locals)
-    (entries-wide (localEntry (c .locals .values)) 4 _ (λ i x. local-wide (findName i (c .locals .values)) (x .index) (x .name) & none) (c .locals .names))
+    (entries-wide (localEntry (c .locals .values)) 4 _ (λ i x. local-wide (findName i (c .locals .values)) (x .index) (x .name) & nil) (c .locals .names))
     then all-append (p .publics) (entries-wide assemblyPublics 3 0 (λ i x. public-wide (x .index) (x .publics)) (c .assemblies))
-    then none
-    then none
-    then none
-    then all-append (p .books) (entries-wide bookEntry 1 0 (λ i x. refl & none) (c .assemblies))
+    then nil
+    then nil
+    then nil
+    then all-append (p .books) (entries-wide bookEntry 1 0 (λ i x. refl & nil) (c .assemblies))
     then end
 
 -- what a delivery leaves in areas of those lengths

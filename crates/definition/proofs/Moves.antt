@@ -31,7 +31,7 @@ use Rattle.definition.specs.Compiler.{compilePrefixExpression, compileIn
 use Rattle.definition.specs.Compiler.{compilePair, compileAssignName}
 use Rattle.definition.specs.Compiler.{compileThisExpression, compileIdentifierExpression, emitName, compileNullExpression, compileBooleanExpression}
 use Rattle.definition.specs.Compiler.{compileStringExpression, compileFloatExpression, compileIntegerExpression, emitGlobal, emitConstant}
-use Rattle.definition.specs.Within.{All, none, _&_, Among, here, there, Loop, loopsOf, exitsOf, readTrace}
+use Rattle.definition.specs.Within.{All, nil, _&_, Among, here, there, Loop, loopsOf, exitsOf, readTrace}
 use Rattle.definition.proofs.Defining.{define-cases}
 use Rattle.definition.proofs.Safe.{at}
 use Rattle.definition.proofs.Lists.{all-map, all-append, Kept, Fresh, kept-refl, kept-trans, fresh-ge, fresh-trans, kept-append, kept-set}
@@ -87,12 +87,12 @@ simply {w = w} k b e l c x t n = record {
   kept = k;
   pushed = [];
   breaks = b ∙ push-nil (w .function .breakScopes);
-  new = none;
+  new = nil;
   errors = e;
   locals = l;
   added = [];
   pool = c ∙ sym (append-nil _);
-  plain = none;
+  plain = nil;
   context = x;
   left = λ j q. subst (λ es. Among j (exitsOf (loopsOf es))) (sym t) q;
   nexts = λ i q. inl (n i q);
@@ -272,12 +272,12 @@ break-moves p w = go (w .function .breakScopes) refl
       kept = kept-append (code w) _;
       pushed = next w ∷ [];
       breaks = refl;
-      new = fresh-ge (le-refl _) & none;
+      new = fresh-ge (le-refl _) & nil;
       errors = λ h. h;
       locals = le-refl _;
       added = [];
       pool = sym (append-nil _);
-      plain = none;
+      plain = nil;
       context = refl;
       left = λ j q. q;
       nexts = λ i q. inl (emit-next (code w) (toInstruction Jump 0) tt i q);
@@ -309,12 +309,12 @@ constant-moves c k w = cond-case (λ (a : Added). Moves w (a .work)) (isShared (
       kept = kept-refl _;
       pushed = [];
       breaks = push-nil _;
-      new = none;
+      new = nil;
       errors = λ e. e;
       locals = le-refl _;
       added = c ∷ [];
       pool = refl;
-      plain = k & none;
+      plain = k & nil;
       context = refl;
       left = λ j q. q;
       nexts = λ i q. inl (inl q);
@@ -481,7 +481,7 @@ module _ {a b : Step} (A : Moving a) (B : Moving b) where
             (subst (All (Fresh (code w))) (sym (ap innermost (m .breaks))) (m .new));
         pushed = [];
         breaks = ap tail (m .breaks) ∙ push-nil _;
-        new = none;
+        new = nil;
         errors = m .errors;
         locals = omega (arith, m .locals);
         added = m .added;

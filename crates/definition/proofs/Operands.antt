@@ -31,7 +31,7 @@ use Rattle.definition.specs.Compiler.{compileInfixExpression, compileInf
 use Rattle.definition.specs.Compiler.{compileAssignName, compileFunctionDefinitionBase, compileThisExpression, compileIdentifierExpression}
 use Rattle.definition.specs.Compiler.{emitName, compileNullExpression, compileBooleanExpression, compileStringExpression}
 use Rattle.definition.specs.Compiler.{compileFloatExpression, compileIntegerExpression, emitGlobal, emitConstant, compileParameter}
-use Rattle.definition.specs.Within.{All, none, _&_, Class, Position, Slot, Read, Pool, ContextSlot, Other, classOf}
+use Rattle.definition.specs.Within.{All, nil, _&_, Class, Position, Slot, Read, Pool, ContextSlot, Other, classOf}
 use Rattle.definition.proofs.Defining.{define-cases}
 use Rattle.definition.proofs.Lists.{all-append, all-set, all-take, all-patch, cond-case}
 use Rattle.definition.proofs.Uses.{Later, Noted, later-same, later-more, noted-here, noted-more}
@@ -82,7 +82,7 @@ pub record Keeps (K : Frame) (n : ℕ) (s : Step) : Type 0 where
 
 module _ {B m : ℕ} where
   body-emit : {code : List Instruction} {n : ℕ} (i : Instruction) → Small B i → Body B m code n → Body B m (code ++ (i ∷ [])) n
-  body-emit i h b = record { small = all-append (b .small) (h & none); few = b .few }
+  body-emit i h b = record { small = all-append (b .small) (h & nil); few = b .few }
 
   body-close : (f : FunctionState) → BodyOf B m f → BodyOf B m (removePopOrPushNull f)
   unfolding removePopOrPushNull
@@ -576,7 +576,7 @@ unfolding compileFunctionDefinitionBase
 function-kept B S ps body b h w n =
     let w₀ = withFunction Emission.newFunctionState w in
     let k₀ : Kept (record { operands = B; standing = S; uses = w .uses; before = w .before }) 0 w₀ = record {
-      body = record { small = none; few = omega arith };
+      body = record { small = nil; few = omega arith };
       before = refl;
       later = later-more _ (later-more _ (later-more _ (later-same _)));
       code = noted-more (noted-more noted-here);

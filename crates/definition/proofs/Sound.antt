@@ -16,7 +16,7 @@ use Rattle.definition.specs.FunctionState.{FunctionState, Entry, pushBre
 use Rattle.definition.specs.FunctionState.{emitReturn, emitBreak, exitBreakScope, defineLocal, findName}
 use Rattle.definition.specs.Within.{Loop}
 use Rattle.definition.specs.FunctionState as Emission
-use Rattle.definition.specs.Within.{All, none, _&_, Loop, readTrace, loopsOf, breaksOf, Among, here, there, InLoop, first, later, Class, breakIn, leave}
+use Rattle.definition.specs.Within.{All, nil, _&_, Loop, readTrace, loopsOf, breaksOf, Among, here, there, InLoop, first, later, Class, breakIn, leave}
 use Rattle.definition.specs.Within.{Position, Slot, Read, Pool, ContextSlot, Other, classOf}
 use Rattle.definition.proofs.Defining.{define-cases}
 use Rattle.definition.proofs.Safe.{at, Each, counts, Landed, Counts, Within, Fits}
@@ -257,11 +257,11 @@ module _ {K C : ℕ} where
       other b y d q = (omega (arith, same, q .0), getD-set-other l j b x nothing d ∙ q .1)
 
       waits : {bs : List ℕ} → All (λ b. b ≢ j) bs → All (Pending l) bs → All (Pending l′) bs
-      waits none none = none
+      waits nil nil = nil
       waits (d & ds) (p & ps) = other _ _ d p & waits ds ps
 
       waiting : {ss : List (List ℕ)} → All (All (λ b. b ≢ j)) ss → All (All (Pending l)) ss → All (All (Pending l′)) ss
-      waiting none none = none
+      waiting nil nil = nil
       waiting (d & ds) (p & ps) = waits d p & waiting ds ps
 
       far : (b k t : ℕ) → 0 < t → at l b ≡ toInstruction k t → b ≢ j
@@ -280,15 +280,15 @@ pub pending-apart : (l : List Instruction) {ss : List (List ℕ)} (j o : ℕ) �
 pending-apart l j o d e ps = all-map (λ bs h. all-map (λ b p c. d (ap (λ (y : Instruction). y .opcode) (sym e ∙ ap (λ m. at l m) (sym c) ∙ p .1))) h) ps
 
 pub all-push : {P : ℕ → Type 0} {ss : List (List ℕ)} {is : List ℕ} → All (All P) ss → All P is → All (All P) (pushBreaks is ss)
-all-push none qs = none
+all-push nil qs = nil
 all-push (p & ps) qs = all-append p qs & ps
 
 pub all-tail : {A : Type 0} {P : A → Type 0} {l : List A} → All P l → All P (tail l)
-all-tail none = none
+all-tail nil = nil
 all-tail (p & ps) = ps
 
 pub all-innermost : {A : Type 0} {P : A → Type 0} {l : List (List A)} → All (All P) l → All P (innermost l)
-all-innermost none = none
+all-innermost nil = nil
 all-innermost (p & ps) = p
 
 among-append : {i : ℕ} {l : List ℕ} (m : List ℕ) → Among i l → Among i (l ++ m)
@@ -361,7 +361,7 @@ module _ {K C : ℕ} where
           omega (arith, length-append (f .code .instructions) (toInstruction Jump 0 ∷ [])),
           getD-append-seam (f .code .instructions)
               (toInstruction Jump 0) [] nothing,
-        ) & none);
+        ) & nil);
         loops = r .loops;
         traced = break-in (length (f .code .instructions)) (readTrace (f .log .trace) .open′) ∙ ap (pushBreaks (length (f .code .instructions) ∷ []))
             (r .traced);
@@ -385,7 +385,7 @@ module _ {K C : ℕ} where
       scopes = s .sound .scopes;
       breaks = outer;
       loops = subst (All (Landed l′)) (sym closed) (all-append (all-map land (s .sound .loops))
-          (subst (λ (ks : List ℕ). Landed l′ (record { exit = exit; breaks = ks; after = n })) (sym own-breaks) this & none));
+          (subst (λ (ks : List ℕ). Landed l′ (record { exit = exit; breaks = ks; after = n })) (sym own-breaks) this & nil));
       traced = leave-open exit n (readTrace (f .log .trace) .open′) (loopsOf (f .log .trace)) ∙ ap tail (s .sound .traced);
       belongs = subst (λ (es : List Loop). All (λ b. InSome b (tail (f .breakScopes)) ⊎ InLoop b es) (breaksOf (f .log .trace))) (sym closed)
           (all-map (λ b q. left b q) (s .sound .belongs));
@@ -454,7 +454,7 @@ module _ {K C : ℕ} where
 -- locals
 
 pub find-name : {L : ℕ} {es : List Entry} (n i : ℕ) → All (λ (e : Entry). e .index < L) es → findName n es ≡ some i → i < L
-find-name n i none e = absurd (let z : _≡_ {A = ℕ} 0 1 = cc in omega arith)
+find-name n i nil e = absurd (let z : _≡_ {A = ℕ} 0 1 = cc in omega arith)
 find-name {L} {es} n i (_&_ {x = x} {xs = xs} p ps) e = go (eqb (x .name) n) (λ q. find-name n i ps q) e
   where
     go : (b : Bool) → (findName n xs ≡ some i → i < L) → cond b (some (x .index)) (findName n xs) ≡ some i → i < L
@@ -462,7 +462,7 @@ find-name {L} {es} n i (_&_ {x = x} {xs = xs} p ps) e = go (eqb (x .name) n) (λ
     go false r q = r q
 
 pub find-scopes : {L : ℕ} {ss : List (List Entry)} (n i : ℕ) → All (All (λ (e : Entry). e .index < L)) ss → Emission.findScopes n ss ≡ some i → i < L
-find-scopes n i none e = absurd (let z : _≡_ {A = ℕ} 0 1 = cc in omega arith)
+find-scopes n i nil e = absurd (let z : _≡_ {A = ℕ} 0 1 = cc in omega arith)
 find-scopes {L} {ss} n i (_&_ {x = s} {xs = xs} p ps) e = go (findName n s) refl (λ q. find-scopes n i ps q) e
   where
     go : (o : Option ℕ) → findName n s ≡ o → (Emission.findScopes n xs ≡ some i → i < L) → Emission.orElse o (Emission.findScopes n xs) ≡ some i → i < L
@@ -492,7 +492,7 @@ module _ {K C : ℕ} where
     where
       insert : {ss : List (List Entry)} → All (All (λ (e : Entry). e .index < f .header .localCount + 1)) ss
           → All (All (λ (e : Entry). e .index < f .header .localCount + 1)) (Emission.insertName (record { name = n; index = f .header .localCount }) ss)
-      insert none = none
+      insert nil = nil
       insert (p & ps) = let new : f .header .localCount < f .header .localCount + 1 = omega arith in (new & p) & ps
 
       go : (o : Option ℕ) → Sound K C (Emission.defineLocalBy o n f .state)

@@ -18,7 +18,7 @@ use Rattle.definition.specs.Book.{Function}
 
 -- a claim of each of a list; a number among numbers
 pub data All {A : Type 0} (P : A → Type 0) : List A → Type 0 where
-  none : All P []
+  nil : All P []
   _&_ : {x : A} {xs : List A} → P x → All P xs → All P (x ∷ xs)
 
 infixr 30 _&_

@@ -13,7 +13,7 @@ use Rattle.words.specs.Areas.{functionsArea, entriesIn}
 use Rattle.words.specs.Record.{mostRecords}
 use Rattle.definition.specs.FunctionState.{newFunctionState}
 use Rattle.definition.specs.Uses.{Limits, total}
-use Rattle.definition.specs.Within.{All, none as nil, _&_}
+use Rattle.definition.specs.Within.{All, nil, _&_}
 use Rattle.definition.specs.Compiler.{Work, withFunction, compileFunctionDefinitionBase}
 use Rattle.definition.specs.Book.{Function, Book, working, codeOf, codeCount, functionCount, compileBase, addFunction}
 use Rattle.definition.specs.Program.{Entries, entriesFrom, codeEntries, functionCode, functionEntry, functionEntries, functionTable}
