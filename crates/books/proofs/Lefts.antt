@@ -13,8 +13,8 @@ use borrow.Author.Tests.{eqb-true, eqb-false, eq-eqb}
 use Rattle.words.specs.Ast.{Document}
 use Rattle.words.specs.Areas.{entryWord}
 use Rattle.definition.specs.Prior.{Entries, fileNumbers}
-use Rattle.definition.specs.Book.{Assembly, Context, bookCount}
-use Rattle.definition.specs.DependencySolver.{findDocument, allIn, dependencies, readyBy, ready, filesOf, loadedOf}
+use Rattle.definition.specs.Book.{Assembly}
+use Rattle.definition.specs.DependencySolver.{findDocument, allIn, dependencies, readyBy, ready, filesOf}
 use Rattle.definition.specs.Within.{All, nil, _&_}
 use Rattle.definition.proofs.Counts.{numbers-length}
 use Rattle.books.specs.Solving.{bookUnit, AllWait, Stands}

@@ -14,7 +14,7 @@ use Rattle.words.specs.Ast.{Token, Expression, Expressions, Variables, Statemen
 use Rattle.words.specs.Ast.{Identifier, This, Null, Integer, Float, Text, Boolean, Array, Prefix, Infix, If, IfElse, Call, InstanceGet, IndexGet}
 use Rattle.words.specs.Ast.{∅ₑ, _∷ₑ_, ∅ᵥ, Bare, Valued, Local, Return, For, Break, Rescue, Expr, ∅ₛ, _∷ₛ_}
 use Rattle.words.specs.Opcode.{Instruction, toInstruction, nothing}
-use Rattle.definition.specs.FunctionState.{FunctionState, Entry, pushBreaks, innermost, tail, lastOpcode, init, popLast, removePopOrPushNull}
+use Rattle.definition.specs.FunctionState.{FunctionState, Entry, pushBreaks, tail, lastOpcode, init, popLast, removePopOrPushNull}
 use Rattle.definition.specs.FunctionState.{emitReturn, emitBreak, exitBreakScope, defineLocal, Defined, findName, getNextInstructionIndex}
 use Rattle.definition.specs.FunctionState.{getLastPosition, withRescue, withDepth, withParameters}
 use Rattle.definition.specs.Within.{Loop}

@@ -18,7 +18,7 @@ use Rattle.words.specs.Object.{Constant, modelKind, functionKind}
 use lib.Dec.{T, eqb, ltb, leb, leb→le, ltb→lt, eqb→eq}
 use Rattle.words.specs.Opcode.{Instruction, unword, word, LocalGet}
 use Rattle.definition.specs.Uses.{sumOf}
-use Rattle.definition.specs.FunctionState.{FunctionState, Entry, Log, noLog, findName}
+use Rattle.definition.specs.FunctionState.{FunctionState, Entry, Log, findName}
 use Rattle.definition.specs.Book.{Function, Context, hasText, codeOf, functionCount, modelCount, bookCount}
 use Rattle.definition.specs.Program.{Entries, bit, entriesFrom, functionCode, constantEntry, functionEntry, functionEntries, modelEntry, propertyEntries}
 use Rattle.definition.specs.Program.{modelProperties, methodEntry, localWords, localEntry, publicEntries, assemblyPublics, bookEntry, tablesOf}

@@ -14,8 +14,8 @@ use Rattle.words.specs.Ast.{∅ₑ, _∷ₑ_, ∅ᵥ, Bare, Valued, Local, Retu
 use Rattle.words.specs.Object.{Constant, constantOf, isShared, integerKind}
 use Rattle.words.specs.Opcode.{Instruction, toInstruction, Pop, PushConstant, ReturnOp, Jump, JumpIf, LocalSet, ForNext, Iterate}
 use Rattle.definition.specs.FunctionState as Emission
-use Rattle.definition.specs.FunctionState.{FunctionState, Entry, removePopOrPushNull, emitReturn, emitBreak, exitBreakScope, defineLocal, lastOpcode}
-use Rattle.definition.specs.FunctionState.{innermost, findName, getNextInstructionIndex, newFunctionState}
+use Rattle.definition.specs.FunctionState.{FunctionState, removePopOrPushNull, emitReturn, emitBreak, exitBreakScope, defineLocal, lastOpcode}
+use Rattle.definition.specs.FunctionState.{findName, getNextInstructionIndex, newFunctionState}
 use Rattle.definition.specs.Uses.{Use}
 use Rattle.definition.specs.Compiler
 use Rattle.definition.specs.Compiler.{Work, Step, Added, withFunction, doing, emit, emitOpcode, pushError, addConstant, addConstantNoCheck, findConstant}

@@ -29,7 +29,7 @@ use Rattle.building.specs.declared.taking.Taken.{Taken}
 use Rattle.building.specs.State.{begun}
 use Rattle.building.specs.Scopes.{naming, endFunctionC}
 use Rattle.building.specs.Taking.{Took, taken}
-use Rattle.building.specs.Context.{functionWords}
+use Rattle.building.specs.Context.{functionStateWords}
 use Rattle.building.specs.Held.{machine, Filled, Held}
 use Rattle.building.proofs.Filling.{capped, over-fits, over-here}
 use Rattle.building.proofs.Notes.{held-longer, over-longer, back}
@@ -142,14 +142,14 @@ module _ {κ : Limits} {ps : List ℕ} {s : struct.Book} {c₀ k₀ n₀ b₀ e�
 
   module _ (l′ : Bounded f) (name : ℕ) where
     -- the entry is the definition's
-    added-words : r .full ≡ 0 → functionWords r (s .file) name ≡ functionEntry (codeCount (x .context)) (made name)
+    added-words : r .full ≡ 0 → functionStateWords r (s .file) name ≡ functionEntry (codeCount (x .context)) (made name)
     added-words z =
         let C = B .function .rest z in
         let start : length (codeSoFar x) ≡ codeCount (x .context) = sym (C .before) ∙ steady-base f (working x) .before in
         function-words C (few-locals f l′ (working x)) (s .file) name ∙ rw (start, B .book .rest (built-back z) .file)
 
     added-stock : r .full ≡ 0 → {g′ : List ℕ}
-        → Filled 8 g′ (functionTable (x .context) ++ (functionWords r (s .file) name ∷ [])) (s .functions + 1)
+        → Filled 8 g′ (functionTable (x .context) ++ (functionStateWords r (s .file) name ∷ [])) (s .functions + 1)
         → Stock ps (shelf (withFunctionCount (taken 0 (s .functions + 1)) (resumedBook s r)) c k g′ m p t l u n b e)
         (addFunction (compileBase f x .state) name (compileBase f x .book))
     unfolding compileBase
@@ -193,7 +193,7 @@ module _ {κ : Limits} {ps : List ℕ} {s : struct.Book} {c₀ k₀ n₀ b₀ e�
         }
 
     added-grown : r .full ≡ 0 → {T : Taken} {g′ : List ℕ}
-        → Grown functionsArea (s .functions) (functionWords r (s .file) name) g (functionTable (x .context)) T g′
+        → Grown functionsArea (s .functions) (functionStateWords r (s .file) name) g (functionTable (x .context)) T g′
         → Keeping κ ps (shelf (withFunctionCount T (resumedBook s r)) c k g′ m p t l u n b e)
         (addFunction (compileBase f x .state) name (compileBase f x .book))
     unfolding compileBase
@@ -212,7 +212,7 @@ module _ {κ : Limits} {ps : List ℕ} {s : struct.Book} {c₀ k₀ n₀ b₀ e�
           rest = λ y. absurd (omega (arith, y));
         }
 
-    added-keeping : {T : Taken} {g′ : List ℕ} → Took functionsArea (r .full) (s .functions) (functionWords r (s .file) name) g T g′
+    added-keeping : {T : Taken} {g′ : List ℕ} → Took functionsArea (r .full) (s .functions) (functionStateWords r (s .file) name) g T g′
         → Keeping κ ps (shelf (withFunctionCount T (resumedBook s r)) c k g′ m p t l u n b e)
         (addFunction (compileBase f x .state) name (compileBase f x .book))
     unfolding compileBase
@@ -234,7 +234,7 @@ module _ {κ : Limits} {ps : List ℕ} {s : struct.Book} {c₀ k₀ n₀ b₀ e�
 
 module _ {s : struct.Book} {r : FunctionState} {g : List ℕ} (name : ℕ) where
   pub add-meets : {s₁ : struct.Book} {T : Taken} {g′ : List ℕ} → s₁ ≡ resumedBook s r
-      → Took functionsArea (s₁ .full) (s₁ .functions) (functionWords r (s₁ .file) name) g T g′ → AddsFunction name s r g (withFunctionCount T s₁) g′
+      → Took functionsArea (s₁ .full) (s₁ .functions) (functionStateWords r (s₁ .file) name) g T g′ → AddsFunction name s r g (withFunctionCount T s₁) g′
   add-meets {T = T} {g′ = g′} back′ took = rw back′ (record {
     adds = λ f l′ c₀ k₀ n₀ b₀ e₀ c k n b e m p t l u κ ps x B. added-keeping B l′ name (rw back′ at took);
   })
