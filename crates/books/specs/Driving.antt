@@ -1,4 +1,5 @@
 -- What the routines above a document promise: the rows before the work, the books one after the other, and how they end
+-- Private contracts alone cite this file: whoever reads the promises need not believe it
 use Prim.Native.Nat.{ℕ, _+_, _/_, _≤_, _<_}
 use mathlib.Core.Path.{_≡_}
 use mathlib.Core.Option.{none}

@@ -26,7 +26,7 @@ use Rattle.definition.specs.Program.{globalDependencies, filledAll}
 use Rattle.definition.specs.Answer.{Delivery, replyOf, areasOf}
 use Rattle.definition.specs.Within.{All, nil, _&_, Areas, Totals, Program, totalOf, total, present, cell, field, instructionAt, startOf, lengthOf}
 use Rattle.definition.specs.Within.{localsOf, instructionOf, Class, Position, Slot, Read, Pool, ContextSlot, Other, classOf, boundByTotals}
-use Rattle.definition.specs.Within.{boundByFunction, has, where′, allBelow, operandBound, codeBound, constantBound, functionBound, modelBound}
+use Rattle.definition.specs.Within.{boundByFunction, hasInstruction, where′, allBelow, codeBound, constantBound, functionBound, modelBound}
 use Rattle.definition.specs.Within.{propertyBound, methodBound, localBound, publicBound, entryBound, areaBound, entryPointBound, Among, Loop, Lands}
 use Rattle.definition.specs.Within.{logsOf, FunctionLogged, marked, KeepsWithin}
 use Rattle.definition.proofs.Safe.{at, Landed, Counts, Within, Fits, counts, EntryWithin, FunctionSafe, LooseBy, Loose, standingCounts, StandingSafe}
@@ -80,7 +80,7 @@ module _ {p : Program} {this : List ℕ} {j : ℕ} (f : FunctionWithin p this j)
       (at-most (field p functionsArea j rescueWord) (lengthOf p j) (f .rescue))) (less (field p functionsArea j functionFileWord) (total p booksArea) (f .file))
 
   -- an entry of area 1 that the function has
-  operand-bound : (i : ℕ) → T (has p j i)
+  operand-bound : (i : ℕ) → T (hasInstruction p j i)
       → Test (boundByFunction (classOf (instructionAt (p .areas) i .opcode)) p j (instructionAt (p .areas) i .operand))
   operand-bound i t =
       let from : startOf p j ≤ i = leb→le (startOf p j) i (first-of (leb (startOf p j) i) (ltb i (startOf p j + lengthOf p j)) t) in
@@ -470,9 +470,9 @@ module _ {m : Areas} {t : Totals} (c : Context) (holds : (area : ℕ) → Holds 
           let (k, q) = held (holds codeArea) codeLoose i h in
           let x : Loose K C (instructionAt m i) = rw (holds codeArea .cells i 0 k (omega arith)) q in
           both (loose-test (classOf (instructionAt m i .opcode)) p (instructionAt m i .operand) constantTotal contextTotal x)
-          (all-below (present p functionsArea) (λ j. where′ (has p j i)
+          (all-below (present p functionsArea) (λ j. where′ (hasInstruction p j i)
           (boundByFunction (classOf (instructionAt m i .opcode)) p j (instructionAt m i .operand)))
-          (λ j n. where-holds (has p j i) (each-function (λ n. T (has p n i)
+          (λ j n. where-holds (hasInstruction p j i) (each-function (λ n. T (hasInstruction p n i)
           → Test (boundByFunction (classOf (instructionAt m i .opcode)) p n (instructionAt m i .operand)))
           (λ n this f. operand-bound f i) j (omega (arith, present-below p functionsArea)))))
 

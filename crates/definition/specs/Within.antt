@@ -114,8 +114,8 @@ boundByFunction ContextSlot p j n = true
 boundByFunction Other p j n = true
 
 -- function j has entry i of area 1
-abbrev pub has : Program → ℕ → ℕ → Bool
-has p j i = leb (startOf p j) i && ltb i (startOf p j + lengthOf p j)
+abbrev pub hasInstruction : Program → ℕ → ℕ → Bool
+hasInstruction p j i = leb (startOf p j) i && ltb i (startOf p j + lengthOf p j)
 
 -- a test of every number below n
 abbrev pub allBelow : ℕ → (ℕ → Bool) → Bool
@@ -126,14 +126,12 @@ allBelow (suc n) f = f n && allBelow n f
 abbrev pub where′ : Bool → Bool → Bool
 where′ a b = cond a b true
 
-abbrev pub operandBound : Program → ℕ → Instruction → Bool
-operandBound p i x =
-    boundByTotals (classOf (x .opcode)) p (x .operand)
-    && allBelow (present p functionsArea) (λ j. where′ (has p j i) (boundByFunction (classOf (x .opcode)) p j (x .operand)))
-
 -- area 1: an instruction, by the totals and by each function that has it
 abbrev pub codeBound : Program → ℕ → Bool
-codeBound p i = operandBound p i (instructionAt (p .areas) i)
+codeBound p i =
+    let x = instructionAt (p .areas) i in
+    boundByTotals (classOf (x .opcode)) p (x .operand)
+    && allBelow (present p functionsArea) (λ j. where′ (hasInstruction p j i) (boundByFunction (classOf (x .opcode)) p j (x .operand)))
 
 -- area 2: a constant's model or function; its mark
 abbrev pub constantBound : Program → ℕ → Bool

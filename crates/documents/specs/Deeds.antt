@@ -1,5 +1,6 @@
 -- What the routines of `documents.rt` promise up to the local definition: each has some of the areas, and whatever the others hold, counts and areas
 -- then stand for the deed's book
+-- Private contracts alone cite this file: whoever reads the promises need not believe it
 use Prim.Native.Nat.{ℕ, _+_, _≤_, _<_}
 use mathlib.Core.Path.{_≡_}
 use mathlib.Core.Option.{Option, none, some}

@@ -1,4 +1,5 @@
 -- What the routines of `models.rt` promise: whatever the areas that they do not have hold, counts and areas then stand for the deed's book
+-- Private contracts alone cite this file: whoever reads the promises need not believe it
 use Prim.Native.Nat.{ℕ, zero, suc, _+_}
 use mathlib.Core.Path.{_≡_}
 use mathlib.Core.Bool.{cond}
