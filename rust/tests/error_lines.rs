@@ -110,7 +110,7 @@ fn the_call_takes_any_table() {
         }
     }
     let mut out = [7; 9];
-    let reply = calls::errors_in_words(&[ring(1), [1; 4]].concat(), 2, &table, b"main", &mut out);
+    let reply = calls::errors_in_words(&[ring(1), [12; 4]].concat(), 2, &table, b"main", &mut out);
     assert_eq!((reply, out), (Converted { number: 3, place: 1, total: 0 }, [0; 9]));
 }
 
