@@ -1,0 +1,2 @@
+mod NumbersBench
+pub mod Progress

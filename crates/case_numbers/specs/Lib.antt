@@ -1,0 +1,2 @@
+-- What `parse` reads
+pub mod Numbers
