@@ -46,15 +46,19 @@ pub record ToCome (text entry : List ℕ) (ns : List ℕ) (words : List ℕ) (co
   pub answer : min (length (numbersIn text)) (length entry) ≡ min (count + length ns) (length words)
   pub filled : overwritten (numbersIn text) entry ≡ overwrittenFrom count ns words
 
--- what `put` does
-abbrev pub hasPlace : Bool → ℕ → List ℕ → Bool
+-- what `put` ensures
+abbrev hasPlace : Bool → ℕ → List ℕ → Bool
 hasPlace begun count words = begun && ltb count (length words)
 
+abbrev pub HasPut : Bool → ℕ → ℕ → List ℕ → List ℕ → ℕ → Type 0
+HasPut begun count n words after r =
+    (r ≡ cond (hasPlace begun count words) (count + 1) count) × (after ≡ cond (hasPlace begun count words) (set words count n) words)
+
 module _ (text entry : List ℕ) where
-  pub put-number : (begun : Bool) (count n : ℕ) (ns words after : List ℕ) (r : ℕ) → r ≡ cond (hasPlace begun count words) (count + 1) count
-      → after ≡ cond (hasPlace begun count words) (set words count n) words → ToCome text entry (ended begun n ns) words count → ToCome text entry ns after r
-  put-number false count n ns words after r a b h = rw (a, b) h
-  put-number true count n ns words after r a b h = go (ltb count (length words)) refl a b
+  pub put-number : (begun : Bool) (count n : ℕ) (ns words after : List ℕ) (r : ℕ) → HasPut begun count n words after r
+      → ToCome text entry (ended begun n ns) words count → ToCome text entry ns after r
+  put-number false count n ns words after r (a, b) h = rw (a, b) h
+  put-number true count n ns words after r (a, b) h = go (ltb count (length words)) refl a b
     where
       go : (t : Bool) → ltb count (length words) ≡ t → r ≡ cond t (count + 1) count → after ≡ cond t (set words count n) words → ToCome text entry ns after r
       go true e a b =
@@ -83,32 +87,33 @@ module _ (text entry : List ℕ) where
     at-end e = subst (λ (bs : List ℕ). ToCome text entry (numbersFrom begun n bs) words count) (drop-of-length-le text e) h
 
     module _ (less : i < length text) where
-      at-byte : ToCome text entry (numbersAt (isDigit (getD text i 0)) begun n (getD text i 0) (λ begun′ n′. numbersFrom begun′ n′ (drop (i + 1) text))) words count
+      abbrev afterByte : Bool → Type 0
+      afterByte digit = ToCome text entry (numbersAt digit begun n (getD text i 0) (λ begun′ n′. numbersFrom begun′ n′ (drop (i + 1) text))) words count
+
+      at-byte : afterByte (isDigit (getD text i 0))
       unfolding numbersFrom
       at-byte = subst (λ (bs : List ℕ). ToCome text entry (numbersFrom begun n bs) words count) cut h
         where
           cut : drop i text ≡ getD text i 0 ∷ drop (i + 1) text
           cut = rw (add-one, drop-cons text i 0 less)
 
-      at-kind : (t : Bool) → isDigit (getD text i 0) ≡ t
-          → ToCome text entry (numbersAt t begun n (getD text i 0) (λ begun′ n′. numbersFrom begun′ n′ (drop (i + 1) text))) words count
-      at-kind t e = subst (λ (b : Bool). ToCome text entry (numbersAt b begun n (getD text i 0) (λ begun′ n′. numbersFrom begun′ n′ (drop (i + 1) text))) words count)
-          e at-byte
+      at-kind : (t : Bool) → isDigit (getD text i 0) ≡ t → afterByte t
+      at-kind t e = subst afterByte e at-byte
 
       pub digit-turn : (r : Bool) (longer : ℕ) → r ≡ isDigit (getD text i 0) → r ≡ true → longer ≡ longerBy n (getD text i 0 - zeroDigit)
           → ToCome text entry (numbersFrom true longer (drop (i + 1) text)) words count
       digit-turn r longer e t l = rw l (at-kind true (sym e ∙ t))
 
       pub other-turn : (r : Bool) (after : List ℕ) (read : ℕ) → r ≡ isDigit (getD text i 0) → r ≡ false
-          → (read ≡ cond (hasPlace begun count words) (count + 1) count) × (after ≡ cond (hasPlace begun count words) (set words count n) words)
+          → HasPut begun count n words after read
           → ToCome text entry (numbersFrom false 0 (drop (i + 1) text)) after read
       other-turn r after read e t p =
-          put-number begun count n (numbersFrom false 0 (drop (i + 1) text)) words after read (p .0) (p .1) (at-kind false (sym e ∙ t))
+          put-number begun count n (numbersFrom false 0 (drop (i + 1) text)) words after read p (at-kind false (sym e ∙ t))
 
     pub last-put : (after : List ℕ) (read : ℕ) → length text ≤ i
-        → (read ≡ cond (hasPlace begun count words) (count + 1) count) × (after ≡ cond (hasPlace begun count words) (set words count n) words)
+        → HasPut begun count n words after read
         → ToCome text entry [] after read
-    last-put after read e p = put-number begun count n [] words after read (p .0) (p .1) (at-end e)
+    last-put after read e p = put-number begun count n [] words after read p (at-end e)
 
   -- before the first byte, and behind the last number
   pub at-start : ToCome text entry (numbersFrom false 0 (drop 0 text)) entry 0
