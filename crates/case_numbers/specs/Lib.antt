@@ -1,2 +1,3 @@
--- What `parse` reads
+-- What `find` and `parse` answer
+pub mod Places
 pub mod Numbers

@@ -1,14 +1,29 @@
-// Words in base ten, for the programs that replay stored cases.
+// Lines and words in base ten, for the programs that replay stored cases.
 ghost use Prim.Native.Nat.{_+_, _≤_};
 ghost use mathlib.Core.Path.{_≡_};
 ghost use mathlib.Core.Bool.{cond, _&&_};
 ghost use lib.ListN.{length, set};
 ghost use lib.Dec.{ltb};
+ghost use Rattle.case_numbers.specs.Places.{placeFrom};
 ghost use Rattle.case_numbers.specs.Numbers.{isDigit, longerBy, Parsed};
 
 const GREATEST: u64 = 18446744073709551615;
 
 const GREATEST_WITHOUT_ITS_LAST_DIGIT: u64 = 1844674407370955161;
+
+// The first place of a byte in a text, from a place on; the text's end where there is none.
+pub fn find(text: &[u8], from: usize, byte: u8) -> usize
+    ensures { λ r. ⌜ r ≡ placeFrom byte from (now (text .entry)) ⌝ }
+{
+    let mut i = from;
+    while i < text.len() {
+        if text[i] == byte {
+            return i;
+        }
+        i += 1;
+    }
+    text.len()
+}
 
 fn is_digit(byte: u8) -> bool
     ensures { λ r. ⌜ r ≡ isDigit byte ⌝ }
