@@ -1,0 +1,4 @@
+pub mod Agree
+pub mod Filling
+pub mod Homes
+pub mod Rounds
