@@ -9,10 +9,12 @@ use mathlib.Core.Logic.{_≢_}
 use mathlib.Core.List.{List, [], _∷_, _++_, append-assoc, append-nil}
 use lib.ListN.{length, getD, set, replicate, length-append, length-set, length-replicate, getD-replicate, List·getD-append}
 use lib.Seq.{getD-set-same, getD-set-other, getD-append-seam}
+use borrow.Author.Tests.{lt-ltb}
+use Rattle.words.specs.Areas.{entryField}
 use Rattle.words.specs.Object.{Constant, constantOf}
 use Rattle.constant_slots.specs.Home.{home}
 use Rattle.constant_slots.specs.Plain.{constantAt, constantsFrom, poolOf}
-use Rattle.constant_slots.specs.Slots.{firstEmpty, putSlot, fill, slotsOf}
+use Rattle.constant_slots.specs.Slots.{firstEmpty, putSlot, putNumber, fill, slotsOf}
 use Rattle.constant_slots.proofs.Homes.{home-below}
 use Rattle.constant_slots.proofs.Rounds.{slotAt, slot-below, emptySlots, all-empty, one-taken, First, first-from, none-empty}
 
@@ -169,7 +171,7 @@ filled-next n k w =
     ∙ ap (λ m. putSlot (slotsOf n (poolOf k w)) m (constantAt w k)) (pool-length k 0 w))
 
 -- a full table takes nothing
-set-past : (l : List ℕ) (p v : ℕ) → length l ≤ p → set l p v ≡ l
+pub set-past : (l : List ℕ) (p v : ℕ) → length l ≤ p → set l p v ≡ l
 set-past [] p v h = refl
 set-past (x ∷ l) zero v h = absurd (omega arith)
 set-past (x ∷ l) (suc p) v h = ap (λ (m : List ℕ). x ∷ m) (set-past l p v (omega arith))
@@ -192,3 +194,24 @@ filled-full n (suc d) w =
     let z : n + d + 1 ≡ n + suc d = omega arith in
     sym (full-put (slotsOf n (poolOf n w)) (n + d) (constantAt w (n + d)) full)
     ∙ ap (λ s. putSlot s (n + d) (constantAt w (n + d))) before ∙ filled-next n (n + d) w ∙ ap (λ m. slotsOf n (poolOf m w)) z
+
+-- the turns of `fill`: the table is what filling anew with the constants so far gives
+pub filled-start : (n : ℕ) (slots w : List ℕ) → slots ≡ replicate n 0 → slots ≡ slotsOf (length slots) (poolOf 0 w)
+unfolding fill constantsFrom
+filled-start n slots w e = e ∙ ap (λ m. replicate m 0) (sym (ap length e ∙ length-replicate n 0))
+
+pub filled-again : (n k : ℕ) (w slots : List ℕ) {after : List ℕ} {kind value : ℕ} → slots ≡ slotsOf n (poolOf k w) → k < 18446744073709551615
+    → kind ≡ entryField 3 k 0 w → value ≡ entryField 3 k 1 w → after ≡ putNumber slots k (constantOf kind value)
+    → after ≡ slotsOf n (poolOf (k + 1) w)
+filled-again n k w slots {after} {kind} {value} e h a b p =
+    let put : putNumber slots k (constantOf kind value) ≡ putSlot slots k (constantAt w k) = rw (lt-ltb k 18446744073709551615 h, a, b) refl in
+    p ∙ put ∙ ap (λ s. putSlot s k (constantAt w k)) e ∙ filled-next n k w
+
+pub filled-last : (n m k count : ℕ) (w : List ℕ) {slots : List ℕ} → slots ≡ slotsOf n (poolOf k w) → n ≡ m → k ≡ count → slots ≡ slotsOf m (poolOf count w)
+filled-last n m k count w e a b = e ∙ ap (λ i. slotsOf i (poolOf k w)) a ∙ ap (λ i. slotsOf m (poolOf i w)) b
+
+pub filled-early : (n m k count : ℕ) (w : List ℕ) {slots : List ℕ} → slots ≡ slotsOf n (poolOf k w) → n ≡ m → k ≡ n → k ≤ count
+    → slots ≡ slotsOf m (poolOf count w)
+filled-early n m k count w e a b h =
+    let all : n + (count - n) ≡ count = omega arith in
+    e ∙ ap (λ i. slotsOf n (poolOf i w)) b ∙ filled-full n (count - n) w ∙ ap (λ i. slotsOf n (poolOf i w)) all ∙ ap (λ i. slotsOf i (poolOf count w)) a
