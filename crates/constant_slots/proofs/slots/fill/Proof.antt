@@ -25,22 +25,22 @@ loop-holds c =
       omega arith,
       omega arith,
       refl,
-      filled-start (length (c6 .args .slots .now)) (c .before .before .clear .last .slots) (c6 .args .constants .now)
+      filled-start (length (c6 .args .slots .now)) (c .before .before .clear .last .0) (c6 .args .constants .now)
           (c .before .before .clear .ensures),
     )
 
 same-length : tie.Need-same-length Inv-loop μ-loop
 same-length c =
     let c5 = c .before .before .before .before .before in
-    omega (arith, c5 .clear .kept, c .before .before .loop .inv .1 .1 .0)
+    omega (arith, c5 .clear .kept, c .before .before .loop .inv .2)
 
 returns : tie.Need-returns Inv-loop μ-loop
 returns c =
     let c5 = c .before .before .before .before .before in
     let c9 = c5 .before .before .before .before in
-    filled-early (length (c5 .clear .last .slots)) (length (c9 .args .slots .now)) (c .before .before .loop .i) (c9 .args .count) (c9 .args .constants .now)
-    (c .before .before .loop .inv .1 .1 .1)
-    (omega (arith, c5 .clear .kept)) (omega (arith, c .before .before .loop .inv .1 .0, c .before .before .loop .inv .1 .1 .0, c .if1 .taken)) (omega (
+    filled-early (length (c5 .clear .last .0)) (length (c9 .args .slots .now)) (c .before .before .loop .i) (c9 .args .count) (c9 .args .constants .now)
+    (c .before .before .loop .inv .3)
+    (omega (arith, c5 .clear .kept)) (omega (arith, c .before .before .loop .inv .1, c .before .before .loop .inv .2, c .if1 .taken)) (omega (
       arith,
       c .before .before .loop .inv .0,
     ))
@@ -54,13 +54,13 @@ loop-again c =
     let c11 = c8 .before .before .before in
     let c15 = c11 .before .before .before .before in (
       omega (arith, c7 .loop-test .taken),
-      omega (arith, c8 .loop .inv .1 .0, c8 .loop .inv .1 .1 .0, c6 .if1 .left),
+      omega (arith, c8 .loop .inv .1, c8 .loop .inv .2, c6 .if1 .left),
       omega (
         arith,
         c .before .before .put .kept,
-        c8 .loop .inv .1 .1 .0,
+        c8 .loop .inv .2,
       ),
-      filled-again (length (c11 .clear .last .slots)) (c8 .loop .i) (c15 .args .constants .now) (c8 .loop .slots) (c8 .loop .inv .1 .1 .1) (omega (
+      filled-again (length (c11 .clear .last .0)) (c8 .loop .i) (c15 .args .constants .now) (c8 .loop .slots) (c8 .loop .inv .3) (omega (
         arith,
         c7 .loop-test .taken,
         c15 .fits .count,
@@ -69,13 +69,13 @@ loop-again c =
     )
 
 same-length-2 : tie.Need-same-length-2 Inv-loop μ-loop
-same-length-2 c = omega (arith, c .before .before .before .before .clear .kept, c .before .loop .inv .1 .1 .0)
+same-length-2 c = omega (arith, c .before .before .before .before .clear .kept, c .before .loop .inv .2)
 
 returns-2 : tie.Need-returns-2 Inv-loop μ-loop
 returns-2 c =
     let c8 = c .before .before .before .before .before .before .before .before in
-    filled-last (length (c .before .before .before .before .clear .last .slots)) (length (c8 .args .slots .now)) (c .before .loop .i) (c8 .args .count)
-    (c8 .args .constants .now) (c .before .loop .inv .1 .1 .1)
+    filled-last (length (c .before .before .before .before .clear .last .0)) (length (c8 .args .slots .now)) (c .before .loop .i) (c8 .args .count)
+    (c8 .args .constants .now) (c .before .loop .inv .3)
     (omega (arith, c .before .before .before .before .clear .kept)) (omega (arith, c .before .loop .inv .0, c .loop-test .left))
 
 pub fill-spec : {M : Type 1} → statement M
