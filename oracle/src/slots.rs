@@ -275,7 +275,10 @@ pub fn shapes(n: u64) -> Vec<(&'static str, Vec<Constant>)> {
         ("texts and floats 0.05 ..", each(&|k| if k % 2 == 0 { (TEXT, k / 2) } else { float(k as f64 * 0.05) })),
         ("texts and functions", each(&|k| (4 + k % 2 * 2, k / 2))),
         ("integers, texts and functions", each(&|k| (2 + k % 3 * 2, k / 3))),
-        ("7 integers to 3 texts", each(&|k| if k % 10 < 7 { (INTEGER, k / 10 * 7 + k % 10) } else { (TEXT, k / 10 * 3 + k % 10 - 7) })),
+        (
+            "7 integers to 3 texts",
+            each(&|k| if k % 10 < 7 { (INTEGER, k / 10 * 7 + k % 10) } else { (TEXT, k / 10 * 3 + k % 10 - 7) }),
+        ),
     ]
 }
 
