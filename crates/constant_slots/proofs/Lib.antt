@@ -1,0 +1,7 @@
+pub mod Agree
+pub mod Examples
+pub mod Filling
+pub mod Homes
+pub mod PlainWays
+pub mod Rounds
+pub mod SlotWays
