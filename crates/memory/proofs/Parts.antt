@@ -2,13 +2,13 @@
 -- Assumes nothing.
 use mathlib.Core.Path.{_≡_, refl, sym, ap, subst, _∙_}
 use mathlib.Core.List.{List, [], _∷_, _++_, append-assoc}
-use mathlib.Core.Bool.{Bool, true, false}
+use mathlib.Core.Bool.{Bool, true, false, cond}
 use Prim.Native.Nat.{ℕ, zero, suc, _+_, _-_, _≤_, _<_, min}
 use native.Mathlib.Omega.{arith}
 use lib.ListN.{length, take, drop, getD, length-append, length-take, length-drop, take-append-drop}
-use lib.Dec.{ltb}
+use lib.Dec.{eqb, ltb}
 use lib.Seq.{length-take-le, take-append-le, drop-append-le, take-at, drop-at, drop-drop}
-use borrow.Author.Tests.{ltb-true, ltb-false}
+use borrow.Author.Tests.{ltb-true, ltb-false, eqb-true, eqb-false}
 use Rattle.memory.specs.Layout.{areasOf, startsFrom, startsOf, part, withPart, partCount, Fits}
 
 -- a list's front alone says what stands in its front
@@ -101,3 +101,15 @@ module _ (a w x : List ℕ) (f : Fits a (length w)) (i : ℕ) (h : i < 14) (l : 
           let m : suc j ≤ i = below (ltb-false i j e) n in
           new-before w x (getD a i 0) (getD a (suc i) 0) (f .ordered i h) (ends-within f i h) size (getD a j 0) (getD a (suc j) 0)
           (f .ordered j g) (up f (suc j) i m (omega arith))
+
+  -- the law of parts in one line: any part of the memory with other words as part i
+  pub put-part : (j : ℕ) → j < 14 → part a j (withPart a i x w) ≡ cond (eqb i j) x (part a j w)
+  put-part j g = go (eqb i j) refl
+    where
+      go : (t : Bool) → eqb i j ≡ t → part a j (withPart a i x w) ≡ cond t x (part a j w)
+      go true e = ap (λ n. part a n (withPart a i x w)) (sym (eqb-true i j e)) ∙ put-same
+      go false e = put-other j g (eqb-false i j e)
+
+  -- a part of other words fits as the old one did
+  pub put-fits : Fits a (length (withPart a i x w))
+  put-fits = rw put-length f

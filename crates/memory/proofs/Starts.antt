@@ -79,7 +79,8 @@ drop-cut l at n size h q = go (leb (at + n) size) refl
         rw z (sym (drop-drop n at l))
     go false e =
         let e = leb-false (at + n) size e in
-        drop-of-length-le l {i = min size (at + n)} (omega (arith, e, q)) ∙ sym (drop-of-length-le l {i = at + n} (omega (arith, e, q))) ∙ sym (drop-drop n at l)
+        drop-of-length-le l {i = min size (at + n)} (omega (arith, e, q)) ∙ sym (drop-of-length-le l {i = at + n} (omega (arith, e, q)))
+        ∙ sym (drop-drop n at l)
 
 first-start : (size at : ℕ) (ns : List ℕ) → getD (startsFrom size at ns) 0 0 ≡ at
 unfolding startsFrom
