@@ -9,4 +9,3 @@ pub mod Ifs
 pub mod StatementKinds
 pub mod BothParts
 pub mod Variables
-pub mod Loops
