@@ -79,6 +79,41 @@ break-outside p {s} {a} {l} q = record {
   on = λ f. record { fits = f; others = λ i h n1 n2. refl; is = break-out p s (part a 1 l) (part a 10 l) q };
 }
 
+pub break-inside : (p : ℕ) {s : FunctionState} {a l : List ℕ} {index : ℕ} {m₁ m′ : Memory} → s .«in_loop» ≡ true → index ≡ nextC s
+    → OnCode (emitC (word (toInstruction Jump 0)) p) (laid s a l) m₁ → OnBreaks index m₁ m′ → OnBoth (emitBreakC p) (laid s a l) m′
+break-inside p {s} {a} {l} {index} {m₁} {m′} inside at d e = record {
+  on = λ f.
+      let P = replacing (omega arith) (d .acts) f in
+      let Q = replacing (omega arith) (e .acts) (P .fits) in
+      let t = takenOf breaksArea 1 (m₁ .state .full) (m₁ .state .breaks) (length (partOf m₁ 10)) in
+      let T : Took breaksArea (m₁ .state .full) (m₁ .state .breaks) (nextC s ∷ []) (partOf m₁ 10) t (Q .words) =
+      record {
+        reply = refl;
+        words = Q .does .breaks ∙ ap (λ (j : ℕ). tookWords (m₁ .state .full) (m₁ .state .breaks) (j ∷ []) (partOf m₁ 10)) at;
+      } in
+      let b : partOf m₁ 10 ≡ part a 10 l = P .parts 10 (omega arith) in
+      let c′ : partOf m′ 1 ≡ P .words = Q .parts 1 (omega arith) ∙ P .parts 1 (omega arith) in
+      let b′ : partOf m′ 10 ≡ Q .words = Q .parts 10 (omega arith) in
+      record {
+        fits = Q .fits;
+        others = λ i h n1 n2. Q .parts i h ∙ other i n2 (Q .words) (partOf m₁ i) ∙ P .parts i h ∙ other1 i n1 (P .words) (part a i l);
+        is = ap (λ (x : FunctionState). breaking x (partOf m′ 1) (partOf m′ 10)) (Q .does .state)
+            ∙ ap (λ (x : List ℕ). breaking (withBreaks t (m₁ .state)) x (partOf m′ 10)) c′
+            ∙ ap (λ (x : List ℕ). breaking (withBreaks t (m₁ .state)) (P .words) x) b′
+            ∙ break-in p s (m₁ .state) (part a 1 l) (P .words) (partOf m₁ 10) (Q .words) t inside (P .does) T
+            ∙ ap (λ (x : List ℕ). emitBreakC p (breaking s (part a 1 l) x)) b;
+      };
+}
+  where
+    flip : (i j : ℕ) → eqb i j ≡ false → eqb j i ≡ false
+    flip i j q = ne-eqb j i (λ r. eqb-false i j q (sym r))
+
+    other : (i : ℕ) → eqb i 10 ≡ false → (x y : List ℕ) → cond (eqb 10 i) x y ≡ y
+    other i q x y = ap (λ (t : Bool). cond t x y) (flip i 10 q)
+
+    other1 : (i : ℕ) → eqb i 1 ≡ false → (x y : List ℕ) → cond (eqb 1 i) x y ≡ y
+    other1 i q x y = ap (λ (t : Bool). cond t x y) (flip i 1 q)
+
 pub break-acts : {s : FunctionState} {a l : List ℕ} {s′ : FunctionState} {l′ : List ℕ} (p : ℕ) → OnBoth (emitBreakC p) (laid s a l) (laid s′ a l′)
     → Acts (laid s a l) (laid s′ a l′) (doing (method.emitBreak p))
 break-acts p o = record { meets = λ κ E others w H. both-law refl o H (break-law p (H .held)) }

@@ -16,7 +16,8 @@ pub pushed : {index : ℕ} {s₀ s s′ : FunctionState} {b b′ : List ℕ} {t 
     → s′ ≡ withBreaks t s → PushesBreak index s₀ b s′ b′
 pushed {index} {s₀} {s} {s′} {b} {b′} {t} q T e =
     record {
-      state = e ∙ ap (λ (u : Taken). withBreaks u s) (T .reply) ∙ ap (λ (u : FunctionState). withBreaks (takenOf breaksArea 1 (u .full) (u .breaks) (length b)) u) q;
+      state = e ∙ ap (λ (u : Taken). withBreaks u s) (T .reply)
+          ∙ ap (λ (u : FunctionState). withBreaks (takenOf breaksArea 1 (u .full) (u .breaks) (length b)) u) q;
       breaks = T .words ∙ ap (λ (u : FunctionState). tookWords (u .full) (u .breaks) (index ∷ []) b) q;
     }
 

@@ -19,7 +19,7 @@ use Rattle.bodies.proofs.Balanced.{balanced-expression}
 use Rattle.bodies.proofs.Runs.{count-end, count-more}
 use Rattle.bodies.proofs.Tokens.{skip-law}
 use Rattle.book_compiler.specs.Represents.{Memory, Acts, Does}
-use Rattle.book_compiler.specs.Members.{token, MeetsLeaf, Finishes, MeetsE, MeetsList, MeetsInfix, MeetsIf}
+use Rattle.book_compiler.specs.Members.{token, MeetsLeaf, Finishes, MeetsE, MeetsEs, MeetsList, MeetsInfix, MeetsIf}
 use Rattle.book_compiler.proofs.Steps.{acts-does, does-then, full-does}
 
 module _ {tree : List ℕ} {at end start count : ℕ} where
@@ -30,18 +30,18 @@ module _ {tree : List ℕ} {at end start count : ℕ} where
   past-meets p = record { meets = λ e h q. absurd (omega (arith, sizeE-pos e)) }
 
   -- the loop over expressions
-  pub list-end : {n : ℕ} {m : Memory} → end ≤ at → MeetsList tree at end start count m m n n
+  pub run-end : {m : Memory} → end ≤ at → MeetsEs tree at end start count m m
   unfolding compileExpressions ExpressionsAt sizeE skip
-  list-end {n} {m} past = record { meets = go; counted = count-end tree at end n past }
+  run-end {m} past = record { meets = go }
     where
       go : (es : Expressions) → ExpressionsAt es tree at → at + sizeEs es ≡ end → Does start count m m (compileExpressions es)
       go ∅ₑ h q = record { meets = λ κ E others w I H. H }
       go (e ∷ₑ es) h q = absurd (omega (arith, sizeE-pos e))
 
-  pub list-more : {next n r : ℕ} {m m₁ m′ : Memory} → at < end → next ≡ skipC tree at end → MeetsE tree at next start count m m₁
-      → MeetsList tree next end start count m₁ m′ (n + 1) r → MeetsList tree at end start count m m′ n r
+  pub run-more : {next : ℕ} {m m₁ m′ : Memory} → at < end → next ≡ skipC tree at end → MeetsE tree at next start count m m₁
+      → MeetsEs tree next end start count m₁ m′ → MeetsEs tree at end start count m m′
   unfolding compileExpressions ExpressionsAt sizeE
-  list-more {next} {n} {r} {m} {m₁} {m′} inside skipped A L = record { meets = go; counted = count-more tree at end n inside skipped (L .counted) }
+  run-more {next} {m} {m₁} {m′} inside skipped A L = record { meets = go }
     where
       go : (es : Expressions) → ExpressionsAt es tree at → at + sizeEs es ≡ end → Does start count m m′ (compileExpressions es)
       go ∅ₑ h q = absurd (omega arith)
@@ -49,8 +49,19 @@ module _ {tree : List ℕ} {at end start count : ℕ} where
           let mid : next ≡ at + sizeE e = skipped ∙ skip-law tree at end (headE e (h .0)) (sizeE-pos e) (omega arith) in
           does-then (steady-expression e) (balanced-expression e) (A .meets e (h .0) (sym mid)) (L .meets es (rw mid (h .1)) (omega arith))
 
+  -- and the count of them
+  pub list-end : {n : ℕ} {m : Memory} → end ≤ at → MeetsList tree at end start count m m n n
+  list-end {n} past = record { meets = run-end past; counted = count-end tree at end n past }
+
+  pub list-more : {next n r : ℕ} {m m₁ m′ : Memory} → at < end → next ≡ skipC tree at end → MeetsE tree at next start count m m₁
+      → MeetsList tree next end start count m₁ m′ (n + 1) r → MeetsList tree at end start count m m′ n r
+  list-more {n = n} inside skipped A L = record {
+    meets = run-more inside skipped A (L .meets);
+    counted = count-more tree at end n inside skipped (L .counted);
+  }
+
 -- two of them and then a step
-pub two-does : {tree : List ℕ} {at end start count n r : ℕ} {m m′ : Memory} (x y : Expression) → MeetsList tree at end start count m m′ n r
+pub two-does : {tree : List ℕ} {at end start count : ℕ} {m m′ : Memory} (x y : Expression) → MeetsEs tree at end start count m m′
     → ExpressionAt x tree at → ExpressionAt y tree (at + sizeE x) → at + sizeE x + sizeE y ≡ end
     → Does start count m m′ (andThen (compileExpression x) (compileExpression y))
 unfolding compileExpressions ExpressionsAt sizeE andThen skip
@@ -105,14 +116,14 @@ module _ {tree : List ℕ} {at end start count kind position value : ℕ} (kind-
             let many : n ≡ definition.count es = L .counted .counts es (h .1) (omega arith) ∙ omega arith in
             let A = F .array (kind-is ∙ h .0 .head .kind-is) in
             record {
-              meets = λ κ E others w I H. rw (q, ← many) (A .meets κ E others (compileExpressions es w) (L .meets es (h .1) (omega arith) .meets κ E others w I H));
+              meets = λ κ E others w I H. rw (q, ← many) (A .meets κ E others (compileExpressions es w) (L .meets .meets es (h .1) (omega arith) .meets κ E others w I H));
             }
         go (Prefix t x) h l =
             let q = as-token tree at kind-is position-is value-is (h .0 .token) in
             let A = F .prefix (kind-is ∙ h .0 .head .kind-is) in
             record {
               meets = λ κ E others w I H.
-                  rw q (A .meets κ E others (compileExpression x w) (L .meets (x ∷ₑ ∅ₑ) (h .1, tt) (omega arith) .meets κ E others w I H));
+                  rw q (A .meets κ E others (compileExpression x w) (L .meets .meets (x ∷ₑ ∅ₑ) (h .1, tt) (omega arith) .meets κ E others w I H));
             }
         go (Call t f ps) h l =
             let q = as-token tree at kind-is position-is value-is (h .0 .token) in
@@ -121,7 +132,7 @@ module _ {tree : List ℕ} {at end start count kind position value : ℕ} (kind-
             record {
               meets = λ κ E others w I H.
                   rw (q, ← many) (A .meets κ E others (compileExpressions ps (compileExpression f w))
-                  (L .meets (f ∷ₑ ps) (h .1, h .2) (omega arith) .meets κ E others w I H));
+                  (L .meets .meets (f ∷ₑ ps) (h .1, h .2) (omega arith) .meets κ E others w I H));
             }
         go (InstanceGet t x y) h l =
             let q = as-token tree at kind-is position-is value-is (h .0 .token) in
@@ -129,7 +140,7 @@ module _ {tree : List ℕ} {at end start count kind position value : ℕ} (kind-
             record {
               meets = λ κ E others w I H.
                   rw q (A .meets κ E others (compileExpression y (compileExpression x w))
-                  (two-does x y L (h .1) (h .2) (omega arith) .meets κ E others w I H));
+                  (two-does x y (L .meets) (h .1) (h .2) (omega arith) .meets κ E others w I H));
             }
         go (IndexGet t x y) h l =
             let q = as-token tree at kind-is position-is value-is (h .0 .token) in
@@ -137,5 +148,5 @@ module _ {tree : List ℕ} {at end start count kind position value : ℕ} (kind-
             record {
               meets = λ κ E others w I H.
                   rw q (A .meets κ E others (compileExpression y (compileExpression x w))
-                  (two-does x y L (h .1) (h .2) (omega arith) .meets κ E others w I H));
+                  (two-does x y (L .meets) (h .1) (h .2) (omega arith) .meets κ E others w I H));
             }

@@ -25,7 +25,7 @@ use Rattle.bodies.proofs.Tokens.{skip-law, positive}
 use Rattle.bodies.proofs.Runs.{eighteen, kind-plain}
 use Rattle.book_compiler.specs.Represents.{Memory, Acts, Does}
 use Rattle.book_compiler.specs.Leaves.{OnCode, PushesError}
-use Rattle.book_compiler.specs.Members.{token, Operates, MeetsE, MeetsList, MeetsInfix, MeetsTarget}
+use Rattle.book_compiler.specs.Members.{token, Operates, MeetsE, MeetsEs, MeetsInfix, MeetsTarget}
 use Rattle.book_compiler.proofs.Steps.{acts-does, full-does}
 use Rattle.book_compiler.proofs.Laws.{emitted, pushed}
 use Rattle.book_compiler.proofs.ExpressionKinds.{two-does}
@@ -93,8 +93,8 @@ unknown-kind n g =
     )
 
 -- two expressions and then an opcode, at the position of the record before them
-pair : (tree : List ℕ) (at : ℕ) {end start count n place : ℕ} {m m₁ m′ : Memory} (o : ℕ) (t : Token) (x y : Expression) → place ≡ positionAt tree at
-    → MeetsList tree (at + 1) end start count m m₁ 0 n → t ≡ tokenAt tree at → OnCode (emitC (word (toInstruction o 0)) place) m₁ m′
+pair : (tree : List ℕ) (at : ℕ) {end start count place : ℕ} {m m₁ m′ : Memory} (o : ℕ) (t : Token) (x y : Expression) → place ≡ positionAt tree at
+    → MeetsEs tree (at + 1) end start count m m₁ → t ≡ tokenAt tree at → OnCode (emitC (word (toInstruction o 0)) place) m₁ m′
     → ExpressionAt x tree (at + 1) → ExpressionAt y tree (at + 1 + sizeE x) → at + 1 + sizeE x + sizeE y ≡ end
     → Does start count m m′ (compilePair o t (compileExpression x) (compileExpression y))
 unfolding compilePair andThen
@@ -122,7 +122,7 @@ module _ {tree : List ℕ} {at end position value start count : ℕ} where
             → Does start count m m′ (compileAssignExpressionLeftPart x a)
         go (Identifier t) a r v-Identifier h = rw (r, h .token, ← text-is) N
 
-    module _ {n place : ℕ} (place-is : place ≡ positionAt tree at) {m m₁ m′ : Memory} (L : MeetsList tree (at + 1) end start count m m₁ 0 n) where
+    module _ {place : ℕ} (place-is : place ≡ positionAt tree at) {m m₁ m′ : Memory} (L : MeetsEs tree (at + 1) end start count m m₁) where
       pub target-instance : kind ≡ 45 → OnCode (emitC (word (toInstruction InstanceSet 0)) place) m₁ m′
           → MeetsTarget tree at end position value start count m m′
       unfolding compileAssignExpressionLeftPart ExpressionAt sizeE

@@ -293,4 +293,10 @@ module _ {kind position value n : ℕ} {m m′ : Memory} where
 
   -- no expression of another kind has such a list
   pub finish-none : (kind ≡ 37 → ⊥) → (kind ≡ 38 → ⊥) → (kind ≡ 44 → ⊥) → (kind ≡ 45 → ⊥) → (kind ≡ 46 → ⊥) → Finishes kind position value n m m′
-  finish-none a b c d e = record { array = λ r. absurd (a r); prefix = λ r. absurd (b r); call = λ r. absurd (c r); instance = λ r. absurd (d r); index = λ r. absurd (e r) }
+  finish-none a b c d e = record {
+    array = λ r. absurd (a r);
+    prefix = λ r. absurd (b r);
+    call = λ r. absurd (c r);
+    instance = λ r. absurd (d r);
+    index = λ r. absurd (e r);
+  }

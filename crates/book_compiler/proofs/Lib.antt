@@ -9,3 +9,4 @@ pub mod Ifs
 pub mod StatementKinds
 pub mod BothParts
 pub mod Variables
+pub mod Loops

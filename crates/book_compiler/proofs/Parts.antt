@@ -58,7 +58,11 @@ on-law {κ} {E} {others} {i} {R} {m} {m′} {w} {w′} lt built o H law =
           ap (part a j) (p .is) ∙ put-part a (m .words) (p .words) (H .fits) i lt (p .long) j g
           ∙ ap (λ (t : Bool). cond t (p .words) (partOf m j)) (apart i j built q) ∙ H .preserves .same j g q;
     } in
-    record { fits = rw (o .same) fits; preserves = subst (λ (b : List ℕ). Preserves others (laid (m′ .state) b (m′ .words))) (sym (o .same)) kept; held = rw (o .same) here }
+    record {
+      fits = rw (o .same) fits;
+      preserves = subst (λ (b : List ℕ). Preserves others (laid (m′ .state) b (m′ .words))) (sym (o .same)) kept;
+      held = rw (o .same) here;
+    }
 
 -- what a routine that was lent part i does to it, once the memory has its layout
 pub on-part : {i : ℕ} {R : List ℕ → List ℕ → Type 0} {s s′ : FunctionState} (a w x : List ℕ) → R (part a i w) x → length x ≡ length (part a i w)

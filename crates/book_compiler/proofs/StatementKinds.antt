@@ -16,7 +16,7 @@ use Rattle.definition.specs.FunctionState.{enterScope, tail, Entry, withDepth, 
 use Rattle.definition.specs.FunctionState as method
 use Rattle.definition.specs.Uses.{Limits, total}
 use Rattle.definition.specs.Compiler.{Work, Step, doing, withFunction, pushError, compilePart, compileStatement, compileStatements, compileExpression}
-use Rattle.definition.specs.Compiler.{compileExpressionStatement, compileRescue, compileVariables, compileBare, compileValued, bareBy, valuedBy, deeper, skip, compileNoPart}
+use Rattle.definition.specs.Compiler.{compileExpressionStatement, compileRescue, compileVariables, compileBare, compileValued, deeper, skip, compileNoPart}
 use Rattle.definition.specs.Program.{Entries}
 use Rattle.definition.proofs.Steady.{Steadily, longer-trans, steady-function, steady-trans, steady-statement, steady-statements, steady-expression}
 use Rattle.definition.proofs.Steady.{steady-variables, steady-return, steady-break, steady-rescue, steady-for, steady-expression-statement, same, more}
@@ -42,7 +42,7 @@ use Rattle.book_compiler.specs.Represents.{Memory, laid, Represents, Act
 use Rattle.book_compiler.specs.Leaves.{OnCode, OnNames, DefinesLocal, PushesError}
 use Rattle.book_compiler.specs.Members.{token, MeetsE, MeetsS, MeetsSs, MeetsBlock, MeetsFor, MeetsVariable, MeetsVariables}
 use Rattle.book_compiler.proofs.Steps.{back, acts-does, does-then, full-does, full-acts, either}
-use Rattle.book_compiler.proofs.Laws.{emitted, last-emitted, null-emitted, removed, returned, left, defined, defined-found, pushed, entered, deepened, at-depth}
+use Rattle.book_compiler.proofs.Laws.{last-emitted, null-emitted, removed, returned, left, pushed, entered, deepened, at-depth}
 
 -- the loop over statements
 module _ {tree : List ℕ} {at end start count : ℕ} where
@@ -133,7 +133,8 @@ module _ {tree : List ℕ} {at end start count : ℕ} {s s₁ s₂ s′ : Functi
             (λ z. H .held .rest (back (longer-trans (more (more (more same))) (S .uses)) H H₂ z) .depth ∙ ap (λ (d : ℕ). min mostDepth d) (sym kept));
       }
 
-      as-is : (st : Statement) → Does start count (laid s a l) (laid s′ a l₂) (deeper (inner st)) → Does start count (laid s a l) (laid s′ a l₂) (compileStatement st)
+      as-is : (st : Statement) → Does start count (laid s a l) (laid s′ a l₂) (deeper (inner st))
+          → Does start count (laid s a l) (laid s′ a l₂) (compileStatement st)
       as-is (Local vs) A = A
       as-is (Return t) A = A
       as-is (For t i x ss) A = A

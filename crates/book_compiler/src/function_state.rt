@@ -2,7 +2,7 @@
 // Part i has the words from starts[i] up to starts[i + 1].
 ghost use Rattle.words.specs.Codes.{codeWord, numberOf};
 ghost use Rattle.words.specs.Opcode.{word, toInstruction};
-ghost use Rattle.building.specs.Emission.{emitC, emitLastC, emitNullC, removePopC, emitReturnC, replaceC, exitBreakC};
+ghost use Rattle.building.specs.Emission.{emitC, emitLastC, emitNullC, removePopC, emitReturnC, replaceC, emitBreakC, exitBreakC};
 ghost use Rattle.building.specs.Scopes.{exitScopeC};
 ghost use Rattle.bodies.specs.Cells.{stateOf};
 ghost use Rattle.book_compiler.specs.Represents.{laid};
@@ -41,7 +41,8 @@ pub(crate) fn emit_opcode(
     opcode: OpCode,
     position: u64,
 )
-    ensures { λ _. ⌜ OnCode (emitC (word (toInstruction (numberOf opcode) 0)) position) (laid (stateOf (now (cells .entry))) (now (starts .entry)) (now (memory .entry)))
+    ensures { λ _. ⌜ OnCode (emitC (word (toInstruction (numberOf opcode) 0)) position)
+        (laid (stateOf (now (cells .entry))) (now (starts .entry)) (now (memory .entry)))
         (laid (stateOf (now (cells .exit))) (now (starts .entry)) (now (memory .exit))) ⌝ }
 {
     let start = starts[1];
@@ -60,7 +61,8 @@ pub(crate) fn emit_opcode_without_position(
     cells: &mut [u64; 15],
     opcode: OpCode,
 )
-    ensures { λ _. ⌜ OnCode (emitLastC (word (toInstruction (numberOf opcode) 0))) (laid (stateOf (now (cells .entry))) (now (starts .entry)) (now (memory .entry)))
+    ensures { λ _. ⌜ OnCode (emitLastC (word (toInstruction (numberOf opcode) 0)))
+        (laid (stateOf (now (cells .entry))) (now (starts .entry)) (now (memory .entry)))
         (laid (stateOf (now (cells .exit))) (now (starts .entry)) (now (memory .exit))) ⌝ }
 {
     let start = starts[1];
@@ -346,6 +348,25 @@ pub(crate) fn find_context_local(
         }
     }
     Found::Nothing
+}
+
+// Outside of a loop nothing. The two parts are lent one after the other.
+pub(crate) fn emit_break(
+    starts: &[usize; 15],
+    memory: &mut [u64],
+    cells: &mut [u64; 15],
+    position: u64,
+)
+    ensures { λ _. ⌜ OnBoth (emitBreakC position) (laid (stateOf (now (cells .entry))) (now (starts .entry)) (now (memory .entry)))
+        (laid (stateOf (now (cells .exit))) (now (starts .entry)) (now (memory .exit))) ⌝ }
+{
+    let inside = cells::in_loop(cells);
+    if inside {
+        let index = cells::get_next_instruction_index(cells);
+        emit_opcode(starts, memory, cells, OpCode::Jump, position);
+        push_break(starts, memory, cells, index);
+        return;
+    }
 }
 
 // The innermost loop's breaks jump to the next instruction.
