@@ -1,0 +1,2 @@
+-- Laws of the program check's parts, each file by its subject. Assumes nothing.
+pub mod EntryTests
