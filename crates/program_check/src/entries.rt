@@ -31,7 +31,7 @@ const MODEL: u64 = 5;
 const FUNCTION: u64 = 6;
 
 // Where the first holds, the second too.
-fn implies(a: bool, b: bool) -> bool
+pub fn implies(a: bool, b: bool) -> bool
     ensures { λ r. ⌜ r ≡ where′ a b ⌝ }
 {
     if a {
@@ -40,7 +40,7 @@ fn implies(a: bool, b: bool) -> bool
     true
 }
 
-fn is_text(n: u64) -> bool
+pub fn is_text(n: u64) -> bool
     ensures { λ r. ⌜ r ≡ isText n ⌝ }
 {
     (0 < n) & (n <= MOST_TEXT)
