@@ -2,3 +2,6 @@
 pub mod Parts
 pub mod Instructions
 pub mod HasEntries
+pub mod Keys
+pub mod Functions
+pub mod Answer

@@ -20,9 +20,9 @@ use words::record::MOST_TEXT;
 use words::reply::Totals;
 
 // The kinds of constants.
-const NULL: u64 = 0;
+pub const NULL: u64 = 0;
 
-const BOOLEAN: u64 = 1;
+pub const BOOLEAN: u64 = 1;
 
 const TEXT: u64 = 4;
 
