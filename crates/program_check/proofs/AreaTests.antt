@@ -64,14 +64,14 @@ module _ (area : ℕ) (w : List ℕ) (total : ℕ) where
 pub alone-at : (area : ℕ) (w : List ℕ) (t : Totals) → getD (alone area w t .areas) area [] ≡ w
 alone-at area w t = getD-at (replicate area []) w [] [] area (length-replicate area [])
 
+more : (a n : ℕ) → n ≤ a → (a ≡ n → ⊥) → suc n ≤ a
+more a n l d = omega (arith, d)
+
 -- of the areas whose entries are looked at only the books are none of the first eight
 pub books-left : (a : ℕ) → HasEntries a → (a ≡ 1 → ⊥) → (a ≡ 2 → ⊥) → (a ≡ 3 → ⊥) → (a ≡ 4 → ⊥) → (a ≡ 5 → ⊥) → (a ≡ 6 → ⊥) → (a ≡ 7 → ⊥) → (a ≡ 8 → ⊥)
     → a ≡ 12
 books-left a h n1 n2 n3 n4 n5 n6 n7 n8 =
-    h .or-books (more 8 (more 7 (more 6 (more 5 (more 4 (more 3 (more 2 (more 1 (h .from-code) n1) n2) n3) n4) n5) n6) n7) n8)
-  where
-    more : (n : ℕ) → n ≤ a → (a ≡ n → ⊥) → suc n ≤ a
-    more n l d = omega (arith, d)
+    h .or-books (more a 8 (more a 7 (more a 6 (more a 5 (more a 4 (more a 3 (more a 2 (more a 1 (h .from-code) n1) n2) n3) n4) n5) n6) n7) n8)
 
 pub dispatch : (area n i : ℕ) (w : List ℕ) (t : Totals) {r : Bool} → area ≡ n → r ≡ entryFine (alone n w t) n i → r ≡ entryFine (alone area w t) area i
 dispatch area n i w t {r} e h = subst (λ (a : ℕ). r ≡ entryFine (alone a w t) a i) (sym e) h

@@ -43,7 +43,8 @@ module _ (w : List ℕ) (t : Totals) (fine : entriesFine (alone 2 w t) 2 ≡ tru
       let p = alone 2 w t in
       let e : T (entryFine p 2 i) = below-at (t .constants) (entryFine p 2) (second-of fit (allBelow (t .constants) (entryFine p 2)) whole) i l in
       ltb→lt (entryField 3 i 2 w) 2
-      (second-of _ (ltb (entryField 3 i 2 w) 2) (first-of (constantBound p i) (valueKnown (entryField 3 i 0 w) (entryField 3 i 1 w)) e))
+      (second-of (where′ (eqb (entryField 3 i 0 w) 5) (ltb (entryField 3 i 1 w) (t .models))
+      && where′ (eqb (entryField 3 i 0 w) 6) (ltb (entryField 3 i 1 w) (t .functions))) (ltb (entryField 3 i 2 w) 2) (first-of (constantBound p i) (valueKnown (entryField 3 i 0 w) (entryField 3 i 1 w)) e))
 
   pub constants-whole : {null yes no : Bool} {count : ℕ}
       → null ≡ eqb (entryField 3 0 0 w) 0 && eqb (entryField 3 0 1 w) 0 → yes ≡ eqb (entryField 3 1 0 w) 1 && eqb (entryField 3 1 1 w) 1
@@ -52,7 +53,8 @@ module _ (w : List ℕ) (t : Totals) (fine : entriesFine (alone 2 w t) 2 ≡ tru
   unfolding entryField
   constants-whole {null} {yes} {no} {count} a b c d =
       let q : present (alone 2 w t) 2 ≡ t .constants =
-          min-is (t .constants) (entriesIn 3 (length w)) (first-of _ (zeros (drop (t .constants * 3) w)) (first-of fit _ whole)) in
+          min-is (t .constants) (entriesIn 3 (length w)) (first-of (leb (t .constants) (entriesIn 3 (length w))) (zeros (drop (t .constants * 3) w))
+          (first-of fit (allBelow (t .constants) (entryFine (alone 2 w t) 2)) whole)) in
       rw (a, b, c, d) (ap (λ (n : ℕ). (leb 3 n && (eqb (entryField 3 0 0 w) 0 && eqb (entryField 3 0 1 w) 0)
       && (eqb (entryField 3 1 0 w) 1 && eqb (entryField 3 1 1 w) 1) && (eqb (entryField 3 2 0 w) 1 && eqb (entryField 3 2 1 w) 0))
       && eqb (marked ([] ∷ [] ∷ w ∷ []) n) (t .«global_dependencies»)) (sym q))

@@ -8,13 +8,14 @@ use mathlib.Core.List.{List, [], _∷_}
 use lib.ListN.{length, getD, drop}
 use lib.Dec.{T, eqb, ltb, leb, leb→le, eqb→eq}
 use borrow.Author.Tests.{not-true, not-false}
-use Rattle.words.specs.Areas.{widthOf, entriesIn, codeArea, entryField}
+use Rattle.words.specs.Areas.{widthOf, entriesIn, codeArea, entryField, entryWord}
 use Rattle.words.specs.declared.reply.Totals.{Totals}
 use Rattle.tree.specs.declared.Shape.{Shape}
 use Rattle.tree.specs.declared.Shape.the-variants.{Fine, Refused}
 use Rattle.definition.specs.Promise.{areas}
-use Rattle.definition.specs.Within.{Program, total, present, instructionAt, allBelow, areaBound, entryBound}
-use Rattle.definition.specs.ProgramCheck.{entryKnown, wholeKnown, zeros, areaFine, firstFault, programFault, sameKey}
+use Rattle.definition.specs.Within.{Areas, Program, Class, Position, Slot, Read, Pool, ContextSlot, Other, classOf, total, present, cell, instructionAt, has}
+use Rattle.definition.specs.Within.{allBelow, where′, marked, boundByTotals, boundByFunction, areaBound, entryBound}
+use Rattle.definition.specs.ProgramCheck.{entryKnown, wholeKnown, zeros, areaFine, firstFault, programFault, sameKey, beginsWell}
 use Rattle.definition.proofs.Tests.{first-of, second-of, below-at}
 use Rattle.program_check.specs.Parts.{lent, alone, byTotals, entryFine, entriesFine}
 use Rattle.program_check.specs.Keys.{differsFrom, freshBy, keysBy}
@@ -136,20 +137,56 @@ code-is p = same-truth (areaFine p 1) (entriesFine p 1 && functionsKeep p) there
         (every (present p 1) (entryKnown p 1) (λ i l. second-of (alone′ i) (entryKnown p 1 i) (g i l)))
         tt (second-of (room p 1) (tail p 1) v)
 
-module _ (code functions : List ℕ) (t : Totals) where
-  entries-same : entriesFine (alone 1 code t) 1 ≡ entriesFine (codeAnd code functions t) 1
-  unfolding entriesFine
-  entries-same = refl
+-- what is read of a program
 
+totals-same : (k : Class) (x y : Areas) (t : Totals) (n : ℕ) → boundByTotals k (lent x t) n ≡ boundByTotals k (lent y t) n
+totals-same Pool x y t n = refl
+totals-same ContextSlot x y t n = refl
+totals-same Position x y t n = refl
+totals-same Slot x y t n = refl
+totals-same Read x y t n = refl
+totals-same Other x y t n = refl
+
+entries-same : (c : List ℕ) (x y : Areas) (t : Totals) → entriesFine (lent ([] ∷ c ∷ x) t) 1 ≡ entriesFine (lent ([] ∷ c ∷ y) t) 1
+unfolding entriesFine
+entries-same c x y t =
+    ap (λ (b : Bool). room (lent ([] ∷ c ∷ x) t) 1 && tail (lent ([] ∷ c ∷ x) t) 1 && b)
+    (below-same (t .code) (entryFine (lent ([] ∷ c ∷ x) t) 1) (entryFine (lent ([] ∷ c ∷ y) t) 1) (λ i.
+    ap (λ (b : Bool). b && entryKnown (lent ([] ∷ c ∷ x) t) 1 i)
+    (totals-same (classOf (instructionAt ([] ∷ c ∷ []) i .opcode)) ([] ∷ c ∷ x) ([] ∷ c ∷ y) t (instructionAt ([] ∷ c ∷ []) i .operand))))
+
+bounds-same : (k : Class) (c d f : List ℕ) (x : Areas) (t : Totals) (j n : ℕ)
+    → boundByFunction k (codeAnd c f t) j n ≡ boundByFunction k (lent ([] ∷ c ∷ d ∷ f ∷ x) t) j n
+bounds-same Pool c d f x t j n = refl
+bounds-same ContextSlot c d f x t j n = refl
+bounds-same Position c d f x t j n = refl
+bounds-same Slot c d f x t j n = refl
+bounds-same Read c d f x t j n = refl
+bounds-same Other c d f x t j n = refl
+
+functions-same : (c d f : List ℕ) (x : Areas) (t : Totals) → functionsKeep (codeAnd c f t) ≡ functionsKeep (lent ([] ∷ c ∷ d ∷ f ∷ x) t)
+unfolding functionsKeep functionKeeps
+functions-same c d f x t =
+    below-same (present (codeAnd c f t) 3) (functionKeeps (codeAnd c f t)) (functionKeeps (lent ([] ∷ c ∷ d ∷ f ∷ x) t)) (λ j.
+    below-same (t .code) (keepsIn (codeAnd c f t) j) (keepsIn (lent ([] ∷ c ∷ d ∷ f ∷ x) t) j) (λ i.
+    ap (λ (b : Bool). where′ (has (codeAnd c f t) j i) b)
+    (bounds-same (classOf (instructionAt ([] ∷ c ∷ []) i .opcode)) c d f x t j (instructionAt ([] ∷ c ∷ []) i .operand))))
+
+marked-same : (x y : Areas) (n : ℕ) → getD x 2 [] ≡ getD y 2 [] → marked x n ≡ marked y n
+marked-same x y zero e = refl
+marked-same x y (suc n) e =
+    ap (λ (m : ℕ). m + cell x 2 n 2) (marked-same x y n e) ∙ ap (λ (w : List ℕ). marked y n + entryWord 3 n 2 w) e
+
+module _ (code functions : List ℕ) (t : Totals) where
   pub code-no : {r : Bool} → r ≡ entriesFine (alone 1 code t) 1 → not r ≡ true → false ≡ areaFine (codeAnd code functions t) 1
   code-no {r} h n =
-      let z : entriesFine (codeAnd code functions t) 1 ≡ false = sym entries-same ∙ (sym h ∙ not-true r n) in
+      let z : entriesFine (codeAnd code functions t) 1 ≡ false = sym (entries-same code [] ([] ∷ functions ∷ []) t) ∙ (sym h ∙ not-true r n) in
       sym (code-is (codeAnd code functions t) ∙ simp z)
 
   pub code-by : {r s : Bool} → r ≡ entriesFine (alone 1 code t) 1 → not r ≡ false → s ≡ functionsKeep (codeAnd code functions t)
       → s ≡ areaFine (codeAnd code functions t) 1
   code-by {r} {s} h n k =
-      let z : entriesFine (codeAnd code functions t) 1 ≡ true = sym entries-same ∙ (sym h ∙ not-false r n) in
+      let z : entriesFine (codeAnd code functions t) 1 ≡ true = sym (entries-same code [] ([] ∷ functions ∷ []) t) ∙ (sym h ∙ not-false r n) in
       k ∙ sym (code-is (codeAnd code functions t) ∙ simp z)
 
   pub code-room : {r : Bool} → r ≡ entriesFine (alone 1 code t) 1 → not r ≡ false → t .code ≤ entriesIn 2 (length code)
@@ -214,12 +251,16 @@ module _ (c k f m p q l u n b e o : List ℕ) (t : Totals) where
   program = lent (areas c k f m p q l u n b e o) t
 
   in-1 : areaFine (codeAnd c f t) 1 ≡ areaFine program 1
-  unfolding areaFine areaBound
-  in-1 = refl
+  in-1 =
+      code-is (codeAnd c f t)
+      ∙ (ap (λ (x : Bool). x && functionsKeep (codeAnd c f t)) (entries-same c ([] ∷ f ∷ []) (k ∷ f ∷ m ∷ p ∷ q ∷ l ∷ u ∷ n ∷ b ∷ e ∷ o ∷ []) t)
+      ∙ (ap (λ (x : Bool). entriesFine program 1 && x) (functions-same c k f (m ∷ p ∷ q ∷ l ∷ u ∷ n ∷ b ∷ e ∷ o ∷ []) t) ∙ sym (code-is program)))
 
   in-2 : areaFine (alone 2 k t) 2 ≡ areaFine program 2
   unfolding areaFine areaBound
-  in-2 = refl
+  in-2 =
+      ap (λ (x : ℕ). room program 2 && bounds program 2 && known program 2 && (beginsWell program && eqb x (t .«global_dependencies»)) && tail program 2)
+      (marked-same (alone 2 k t .areas) (program .areas) (present program 2) refl)
 
   in-3 : areaFine (alone 3 f t) 3 ≡ areaFine program 3
   unfolding areaFine areaBound
