@@ -77,7 +77,7 @@ pub dispatch : (area n i : ℕ) (w : List ℕ) (t : Totals) {r : Bool} → area 
 dispatch area n i w t {r} e h = subst (λ (a : ℕ). r ≡ entryFine (alone a w t) a i) (sym e) h
 
 module _ (area : ℕ) (w : List ℕ) (t : Totals) {total : ℕ} (is : total ≡ totalOf t area) where
-  -- entriesFine, by what `fits` answers
+  -- entriesFine, by what `lies_in` answers
   fine-is : entriesFine (alone area w t) area ≡ fit area w total && allBelow total (entryFine (alone area w t) area)
   unfolding entriesFine
   fine-is =

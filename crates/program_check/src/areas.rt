@@ -43,7 +43,7 @@ pub fn zeros_from(words: &[u64], from: usize) -> bool
 }
 
 // Whether the entries up to a total lie in the area, and zeros follow.
-pub fn fits(area: u64, words: &[u64], total: u64) -> bool
+pub fn lies_in(area: u64, words: &[u64], total: u64) -> bool
     ensures { λ r. ⌜ r ≡ (leb total (entriesIn (widthOf area) (length (now (words .entry)))) && zeros (drop (total * widthOf area) (now (words .entry)))) ⌝ }
 {
     let entries = entries_in(area, words.len());
@@ -91,7 +91,7 @@ pub fn entries_fine(area: u64, words: &[u64], totals: Totals) -> bool
     ensures { λ r. ⌜ r ≡ entriesFine (alone area (now (words .entry)) totals) area ⌝ }
 {
     let total = totals.total_of(area);
-    if !fits(area, words, total) {
+    if !lies_in(area, words, total) {
         return false;
     }
     let mut i: u64 = 0;

@@ -9,7 +9,7 @@ ghost use Rattle.definition.specs.ProgramCheck.{areaFine, zeros};
 ghost use Rattle.program_check.specs.Parts.{alone};
 ghost use Rattle.program_check.specs.Functions.{codeAnd};
 use crate::areas::entries_fine;
-use crate::areas::fits;
+use crate::areas::lies_in;
 use crate::constants::constants_whole;
 use crate::functions::functions_keep;
 use crate::keys::keys_differ;
@@ -87,6 +87,6 @@ pub fn empty_area(area: u64, words: &[u64], total: u64) -> bool
     ensures { λ r. ⌜ r ≡ (leb total (entriesIn (widthOf area) (length (now (words .entry)))) && zeros (drop (total * widthOf area) (now (words .entry)))
         && eqb total 0) ⌝ }
 {
-    let zero = fits(area, words, total);
+    let zero = lies_in(area, words, total);
     zero & (total == 0)
 }

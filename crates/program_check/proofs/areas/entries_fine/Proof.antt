@@ -19,7 +19,7 @@ abbrev μ-loop : tie.MeasureT-loop
 
 returns : tie.Need-returns Inv-loop μ-loop
 returns c = fine-unfit (c .before .before .before .before .args .area) (c .before .before .before .before .args .words .now)
-    (c .before .before .before .before .args .totals) (c .before .before .total-of .ensures) (c .before .before .before .before .fits .ensures) (c .if1 .taken)
+    (c .before .before .before .before .args .totals) (c .before .before .total-of .ensures) (c .before .lies-in .ensures) (c .if1 .taken)
 
 loop-holds : tie.Need-loop-holds Inv-loop μ-loop
 loop-holds c = (omega arith, tt)
@@ -49,7 +49,7 @@ returns-3 : tie.Need-returns-3 Inv-loop μ-loop
 returns-3 c =
     let c6 = c .before .before .before .before .before .before in
     fine-all (c6 .args .area) (c6 .args .words .now) (c6 .args .totals) (c .before .before .before .before .total-of .ensures) (c .before .loop .i)
-    (c6 .fits .ensures) (c .before .before .if1 .left) (c .before .loop .inv .0) (c .loop-test .left)
+    (c .before .before .before .lies-in .ensures) (c .before .before .if1 .left) (c .before .loop .inv .0) (c .loop-test .left)
     (c .before .loop .inv .1)
 
 pub entries-fine-spec : {M : Type 1} → statement M

@@ -8,7 +8,7 @@ use Rattle.program_check.proofs.whole.empty_area.Tie as tie
 use borrow.Author.Needs.{needs}
 
 returns : tie.Need-returns
-returns c = ap (λ (x : Bool). x && eqb (c .before .before .args .total) 0) (c .before .before .fits .ensures)
+returns c = ap (λ (x : Bool). x && eqb (c .before .before .args .total) 0) (c .lies-in .ensures)
 
 pub empty-area-spec : {M : Type 1} → statement M
 empty-area-spec =

@@ -1,8 +1,8 @@
--- `fits` meets its contract: what lies in the area ends at no word that is not there. Assumes nothing.
+-- `lies_in` meets its contract: what lies in the area ends at no word that is not there. Assumes nothing.
 -- Made from Proof.answers by `answers make`: edit that file, and not this one.
 use Rattle.program_check.proofs.AreaTests.{fit-no, fit-zeros, fit-room}
-use Rattle.program_check.proofs.areas.fits.Statement.{statement}
-use Rattle.program_check.proofs.areas.fits.Tie as tie
+use Rattle.program_check.proofs.areas.lies_in.Statement.{statement}
+use Rattle.program_check.proofs.areas.lies_in.Tie as tie
 use borrow.Author.Needs.{needs}
 use native.Mathlib.Omega.{arith}
 
@@ -23,8 +23,8 @@ returns-2 c =
     fit-zeros (c5 .args .area) (c5 .args .words .now) (c5 .args .total) (c .before .before .before .entries-in .ensures) (c .before .before .if1 .left)
     (c .before .width-of .ensures) (c .zeros-from .ensures)
 
-pub fits-spec : {M : Type 1} → statement M
-fits-spec =
+pub lies-in-spec : {M : Type 1} → statement M
+lies-in-spec =
     tie.close
     (tie.spec
     (λ c κs. search needs)
