@@ -53,8 +53,8 @@ module _ (w : List ℕ) (t : Totals) (fine : entriesFine (alone 2 w t) 2 ≡ tru
   unfolding entryField
   constants-whole {null} {yes} {no} {count} a b c d =
       let q : present (alone 2 w t) 2 ≡ t .constants =
-          min-is (t .constants) (entriesIn 3 (length w)) (first-of (leb (t .constants) (entriesIn 3 (length w))) (zeros (drop (t .constants * 3) w))
-          (first-of fit (allBelow (t .constants) (entryFine (alone 2 w t) 2)) whole)) in
+      min-is (t .constants) (entriesIn 3 (length w)) (first-of (leb (t .constants) (entriesIn 3 (length w))) (zeros (drop (t .constants * 3) w))
+      (first-of fit (allBelow (t .constants) (entryFine (alone 2 w t) 2)) whole)) in
       rw (a, b, c, d) (ap (λ (n : ℕ). (leb 3 n && (eqb (entryField 3 0 0 w) 0 && eqb (entryField 3 0 1 w) 0)
       && (eqb (entryField 3 1 0 w) 1 && eqb (entryField 3 1 1 w) 1) && (eqb (entryField 3 2 0 w) 1 && eqb (entryField 3 2 1 w) 0))
       && eqb (marked ([] ∷ [] ∷ w ∷ []) n) (t .«global_dependencies»)) (sym q))

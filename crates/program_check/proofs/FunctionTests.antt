@@ -104,9 +104,9 @@ module _ (code functions : List ℕ) (t : Totals) (j : ℕ) where
           one : (i : ℕ) → i < t .code → T (has program j i) → T (bound i)
           one i l y =
               let a : startOf program j ≤ i = leb→le (startOf program j) i
-                  (first-of (leb (startOf program j) i) (ltb i (startOf program j + lengthOf program j)) y) in
+              (first-of (leb (startOf program j) i) (ltb i (startOf program j + lengthOf program j)) y) in
               let b : i < startOf program j + lengthOf program j = ltb→lt i (startOf program j + lengthOf program j)
-                  (second-of (leb (startOf program j) i) (ltb i (startOf program j + lengthOf program j)) y) in
+              (second-of (leb (startOf program j) i) (ltb i (startOf program j + lengthOf program j)) y) in
               let q : startOf program j + (i - startOf program j) ≡ i = omega arith in
               subst T (ap (λ (m : ℕ). keepsAt code (lengthOf program j) (localsOf program j) m) q ∙ at-is i)
               (below-at count test x (i - startOf program j) (omega arith))

@@ -35,9 +35,20 @@ class-at o h = eqb→eq _ _ (below-at 88 (λ k. eqb (getD classes k 0) (classNum
 
 pub class-past : (o : ℕ) → 88 ≤ o → 0 ≡ classNumber (classOf o)
 class-past o h =
-    simp (ne-eqb o 0x51 (λ e. omega arith), ne-eqb o 0x52 (λ e. omega arith), ne-eqb o 0x07 (λ e. omega arith), ne-eqb o 0x06 (λ e. omega arith),
-    ne-eqb o 0x08 (λ e. omega arith), ne-eqb o 0x56 (λ e. omega arith), ne-eqb o 0x57 (λ e. omega arith), ne-eqb o 0x02 (λ e. omega arith),
-    ne-eqb o 0x11 (λ e. omega arith), ne-eqb o 0x12 (λ e. omega arith), ne-eqb o 0x0C (λ e. omega arith), ne-eqb o 0x0D (λ e. omega arith))
+    simp (
+      ne-eqb o 0x51 (λ e. omega arith),
+      ne-eqb o 0x52 (λ e. omega arith),
+      ne-eqb o 0x07 (λ e. omega arith),
+      ne-eqb o 0x06 (λ e. omega arith),
+      ne-eqb o 0x08 (λ e. omega arith),
+      ne-eqb o 0x56 (λ e. omega arith),
+      ne-eqb o 0x57 (λ e. omega arith),
+      ne-eqb o 0x02 (λ e. omega arith),
+      ne-eqb o 0x11 (λ e. omega arith),
+      ne-eqb o 0x12 (λ e. omega arith),
+      ne-eqb o 0x0C (λ e. omega arith),
+      ne-eqb o 0x0D (λ e. omega arith),
+    )
 
 same : (a b : Bool) → T (cond a b (cond b false true)) → a ≡ b
 same true true t = refl

@@ -78,7 +78,7 @@ module _ (p : Program) (a : ℕ) where
           let v = first-of (room && tail) fine u in
           let r = first-of room tail v in
           let g : (i : ℕ) → i < present p a → T (entryFine p a i) = λ i l.
-              below-at (total p a) (entryFine p a) (second-of (room && tail) fine u) i (subst (λ (n : ℕ). i < n) (present-is r) l) in
+          below-at (total p a) (entryFine p a) (second-of (room && tail) fine u) i (subst (λ (n : ℕ). i < n) (present-is r) l) in
           join-five room bounds known (wholeKnown p a) tail r
           (every (present p a) (entryBound p a) (λ i l.
           subst (λ (x : Bool). T (cond x (byTotals p (instructionAt (p .areas) i)) (entryBound p a i))) e
@@ -128,7 +128,7 @@ code-is p = same-truth (areaFine p 1) (entriesFine p 1 && functionsKeep p) there
         let r = first-of (room p 1) (tail p 1) v in
         let inside : (i : ℕ) → i < present p 1 → i < total p 1 = λ i l. subst (λ (n : ℕ). i < n) (present-is p 1 r) l in
         let g : (i : ℕ) → i < present p 1 → T (entryFine p 1 i) = λ i l.
-            below-at (total p 1) (entryFine p 1) (second-of (room p 1 && tail p 1) (fine p 1) u) i (inside i l) in
+        below-at (total p 1) (entryFine p 1) (second-of (room p 1 && tail p 1) (fine p 1) u) i (inside i l) in
         join-five (room p 1) (bounds p 1) (known p 1) true (tail p 1) r
         (every (present p 1) (entryBound p 1) (λ i l. and-holds (alone′ i) (within i) (first-of (alone′ i) (entryKnown p 1 i) (g i l))
         (every (present p 3) (λ j. keepsIn p j i) (λ j m.

@@ -7,8 +7,8 @@ ghost use Rattle.program_check.specs.Functions.{codeAnd, rangeKeeps, fun
 use crate::instructions::jump_of;
 use crate::instructions::locals_needed;
 use words::areas::CODE_WORDS;
-use words::areas::FUNCTIONS;
 use words::areas::FUNCTION_WORDS;
+use words::areas::FUNCTIONS;
 use words::areas::entries_in;
 use words::areas::entry_word;
 use words::reply::Totals;

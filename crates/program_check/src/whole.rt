@@ -13,15 +13,15 @@ use crate::areas::lies_in;
 use crate::constants::constants_whole;
 use crate::functions::functions_keep;
 use crate::keys::keys_differ;
-use words::areas::BOOKS;
 use words::areas::BOOK_WORDS;
+use words::areas::BOOKS;
 use words::areas::CODE;
 use words::areas::CONSTANTS;
 use words::areas::FUNCTIONS;
-use words::areas::METHODS;
 use words::areas::METHOD_WORDS;
-use words::areas::PUBLIC_NAMES;
+use words::areas::METHODS;
 use words::areas::PUBLIC_NAME_WORDS;
+use words::areas::PUBLIC_NAMES;
 use words::reply::Totals;
 
 pub fn code_area(code: &[u64], functions: &[u64], totals: Totals) -> bool
