@@ -45,7 +45,7 @@ module _ (w : List ℕ) (t : Totals) (fine : entriesFine (alone 2 w t) 2 ≡ tru
       ltb→lt (entryField 3 i 2 w) 2
       (second-of (where′ (eqb (entryField 3 i 0 w) 5) (ltb (entryField 3 i 1 w) (t .models))
       && where′ (eqb (entryField 3 i 0 w) 6) (ltb (entryField 3 i 1 w) (t .functions))) (ltb (entryField 3 i 2 w) 2) (first-of (constantBound p i)
-          (valueKnown (entryField 3 i 0 w) (entryField 3 i 1 w)) e))
+      (valueKnown (entryField 3 i 0 w) (entryField 3 i 1 w)) e))
 
   pub constants-whole : {null yes no : Bool} {count : ℕ}
       → null ≡ eqb (entryField 3 0 0 w) 0 && eqb (entryField 3 0 1 w) 0 → yes ≡ eqb (entryField 3 1 0 w) 1 && eqb (entryField 3 1 1 w) 1

@@ -88,7 +88,7 @@ module _ (code functions : List ℕ) (t : Totals) (j : ℕ) where
       go : (i : ℕ) → i < t .code → T (has program j i) → ⊥
       go i l x =
           let q : startOf program j ≤ i = leb→le (startOf program j) i (first-of (leb (startOf program j) i) (ltb i (startOf program j + lengthOf program
-              j)) x) in
+          j)) x) in
           omega arith
 
   range-is : (count : ℕ) → startOf program j ≤ t .code → count ≡ min (lengthOf program j) (t .code - startOf program j)
@@ -121,7 +121,7 @@ module _ (code functions : List ℕ) (t : Totals) (j : ℕ) where
               let y : startOf program j + k < t .code = omega arith in
               subst T (sym (at-is (startOf program j + k)))
               (where-out (has program j (startOf program j + k)) (bound (startOf program j + k)) (below-at (t .code) (keepsIn program j) x (startOf
-                  program j + k) y)
+              program j + k) y)
               (and-holds (leb (startOf program j) (startOf program j + k)) (ltb (startOf program j + k) (startOf program j + lengthOf program j))
               (le→leb (startOf program j) (startOf program j + k) (omega arith))
               (lt→ltb (startOf program j + k) (startOf program j + lengthOf program j) (omega arith))))

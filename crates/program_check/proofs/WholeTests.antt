@@ -419,7 +419,7 @@ module _ (c k f m p q l u n b e o : List ℕ) (t : Totals) where
       → r7 ≡ entriesFine (alone 7 l t) 7 → not r7 ≡ false
       → r8 ≡ areaFine (alone 8 u t) 8 → not r8 ≡ false
       → r9 ≡ leb (t .«scope_names») (entriesIn (widthOf 9) (length n)) && zeros (drop (t .«scope_names» * widthOf 9) n) && eqb (t .«scope_names») 0 → not
-          r9 ≡ true
+      r9 ≡ true
       → Refused 3 (1048576 + 9) ≡ answerOf (programFault program)
   unfolding answerOf programFault
   fault-9 e1 n1 e2 n2 e3 n3 e4 n4 e5 n5 e6 n6 e7 n7 e8 n8 e9 n9 =
@@ -443,7 +443,7 @@ module _ (c k f m p q l u n b e o : List ℕ) (t : Totals) where
       → r7 ≡ entriesFine (alone 7 l t) 7 → not r7 ≡ false
       → r8 ≡ areaFine (alone 8 u t) 8 → not r8 ≡ false
       → r9 ≡ leb (t .«scope_names») (entriesIn (widthOf 9) (length n)) && zeros (drop (t .«scope_names» * widthOf 9) n) && eqb (t .«scope_names») 0 → not
-          r9 ≡ false
+      r9 ≡ false
       → r10 ≡ leb (t .breaks) (entriesIn (widthOf 10) (length b)) && zeros (drop (t .breaks * widthOf 10) b) && eqb (t .breaks) 0 → not r10 ≡ true
       → Refused 3 (1048576 + 10) ≡ answerOf (programFault program)
   unfolding answerOf programFault
@@ -469,7 +469,7 @@ module _ (c k f m p q l u n b e o : List ℕ) (t : Totals) where
       → r7 ≡ entriesFine (alone 7 l t) 7 → not r7 ≡ false
       → r8 ≡ areaFine (alone 8 u t) 8 → not r8 ≡ false
       → r9 ≡ leb (t .«scope_names») (entriesIn (widthOf 9) (length n)) && zeros (drop (t .«scope_names» * widthOf 9) n) && eqb (t .«scope_names») 0 → not
-          r9 ≡ false
+      r9 ≡ false
       → r10 ≡ leb (t .breaks) (entriesIn (widthOf 10) (length b)) && zeros (drop (t .breaks * widthOf 10) b) && eqb (t .breaks) 0 → not r10 ≡ false
       → r11 ≡ areaFine (alone 12 o t) 12 → not r11 ≡ true
       → Refused 3 (1048576 + 12) ≡ answerOf (programFault program)
@@ -497,7 +497,7 @@ module _ (c k f m p q l u n b e o : List ℕ) (t : Totals) where
       → r7 ≡ entriesFine (alone 7 l t) 7 → not r7 ≡ false
       → r8 ≡ areaFine (alone 8 u t) 8 → not r8 ≡ false
       → r9 ≡ leb (t .«scope_names») (entriesIn (widthOf 9) (length n)) && zeros (drop (t .«scope_names» * widthOf 9) n) && eqb (t .«scope_names») 0 → not
-          r9 ≡ false
+      r9 ≡ false
       → r10 ≡ leb (t .breaks) (entriesIn (widthOf 10) (length b)) && zeros (drop (t .breaks * widthOf 10) b) && eqb (t .breaks) 0 → not r10 ≡ false
       → r11 ≡ areaFine (alone 12 o t) 12 → not r11 ≡ false
       → Fine ≡ answerOf (programFault program)
