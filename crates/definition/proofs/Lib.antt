@@ -1,5 +1,6 @@
 pub mod AllRows
 pub mod AllStandingRows
+pub mod AllStrictRows
 pub mod Safe
 pub mod Lists
 pub mod Needed

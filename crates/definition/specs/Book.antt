@@ -12,7 +12,7 @@ use Rattle.words.specs.Areas.{functionsArea, modelsArea, propertiesArea, method
 use Rattle.words.specs.Object.{Constant, constantOf, defaultConstants, NULL, TRUE, FALSE, integerKind, floatKind, modelKind, functionKind}
 use Rattle.definition.specs.FunctionState.{Entry, FunctionState, newFunctionState, findName}
 use Rattle.definition.specs.Prior.{Prior, nothingStands, bookIndex, findPublic}
-use Rattle.definition.specs.Uses.{Use, using′, sumOf}
+use Rattle.definition.specs.Uses.{Use, using′, notPublicArea, sumOf}
 use Rattle.definition.specs.Compiler.{CompilerContext, CompilerState, Work, withError, addConstant, compileFunctionDefinitionBase}
 
 -- `Function` of `runtime/program.rs`, with its name and its file's index of `FileInfo`, and its positions of `DebugInfo`
@@ -42,10 +42,12 @@ pub record Assembly : Type 0 where
 -- the Rust's `CompilerContext`; `pool` is what functions need of it. localValues: context local, constant. localNames: each context local's name and
 -- its book's index, which area 7 keeps though the Rust drops its books' `locals`. methods: those of all models, in the order in which each first came.
 -- prior: what stood before a bundle (2026-01). Constants, marks and methods are whole lists, those that stood first; models, functions, context locals'
--- names and values, and assemblies are those added, and their indices go on from what stood
+-- names and values, and assemblies are those added, and their indices go on from what stood.
+-- strict: the mode, 'chosen for the whole bundle' (2026-07); no deed changes it
 pub record Context : Type 0 where
   pub pool : CompilerContext
   pub prior : Prior
+  pub strict : Bool
   pub models : List Model
   pub functions : List Function
   pub localValues : List Entry
@@ -64,11 +66,12 @@ pub record Book : Type 0 where
 abbrev pub Deed : Type 0
 Deed = Book → Book
 
--- `CompilerContext::new`
-abbrev pub newContext : Context
-newContext = record {
+-- `CompilerContext::new`, in a mode
+abbrev pub newContext : Bool → Context
+newContext strict = record {
   pool = record { constants = defaultConstants; globals = []; localCount = 0 };
   prior = nothingStands;
+  strict = strict;
   models = [];
   functions = [];
   localValues = [];
@@ -83,6 +86,7 @@ abbrev pub withPool : CompilerContext → Context → Context
 withPool p c = record {
   pool = p;
   prior = c .prior;
+  strict = c .strict;
   models = c .models;
   functions = c .functions;
   localValues = c .localValues;
@@ -96,6 +100,7 @@ abbrev pub withModels : List Model → Context → Context
 withModels m c = record {
   pool = c .pool;
   prior = c .prior;
+  strict = c .strict;
   models = m;
   functions = c .functions;
   localValues = c .localValues;
@@ -109,6 +114,7 @@ abbrev pub withFunctions : List Function → Context → Context
 withFunctions f c = record {
   pool = c .pool;
   prior = c .prior;
+  strict = c .strict;
   models = c .models;
   functions = f;
   localValues = c .localValues;
@@ -122,6 +128,7 @@ abbrev pub withLocalValues : List Entry → Context → Context
 withLocalValues v c = record {
   pool = c .pool;
   prior = c .prior;
+  strict = c .strict;
   models = c .models;
   functions = c .functions;
   localValues = v;
@@ -135,6 +142,7 @@ abbrev pub withEntryPoint : ℕ → Context → Context
 withEntryPoint n c = record {
   pool = c .pool;
   prior = c .prior;
+  strict = c .strict;
   models = c .models;
   functions = c .functions;
   localValues = c .localValues;
@@ -148,6 +156,7 @@ abbrev pub withAssemblies : List Assembly → Context → Context
 withAssemblies a c = record {
   pool = c .pool;
   prior = c .prior;
+  strict = c .strict;
   models = c .models;
   functions = c .functions;
   localValues = c .localValues;
@@ -161,6 +170,7 @@ abbrev pub withLocalNames : List Entry → Context → Context
 withLocalNames n c = record {
   pool = c .pool;
   prior = c .prior;
+  strict = c .strict;
   models = c .models;
   functions = c .functions;
   localValues = c .localValues;
@@ -174,6 +184,7 @@ abbrev pub withMethods : List Method → Context → Context
 withMethods l c = record {
   pool = c .pool;
   prior = c .prior;
+  strict = c .strict;
   models = c .models;
   functions = c .functions;
   localValues = c .localValues;
@@ -181,6 +192,21 @@ withMethods l c = record {
   assemblies = c .assemblies;
   localNames = c .localNames;
   methods = l;
+}
+
+-- in another mode
+abbrev pub inMode : Bool → Context → Context
+inMode strict c = record {
+  pool = c .pool;
+  prior = c .prior;
+  strict = strict;
+  models = c .models;
+  functions = c .functions;
+  localValues = c .localValues;
+  entryPoint = c .entryPoint;
+  assemblies = c .assemblies;
+  localNames = c .localNames;
+  methods = c .methods;
 }
 
 abbrev pub withContext : Context → Deed
@@ -301,9 +327,26 @@ abbrev pub includedFrom : Option ℕ → ℕ → ℕ → Context → Option ℕ
 includedFrom (some book) file name c = findPublic book name (c .prior .publics)
 includedFrom none file name c = publicOf (findAssembly file (c .assemblies)) name
 
--- `find_constant_index_by_include`: the rule of one included name (change point of 2026-07)
+-- one constant more, where there is one and the others are there
+abbrev pub withConstant : Option ℕ → Option (List ℕ) → Option (List ℕ)
+withConstant none cs = none
+withConstant (some c) none = none
+withConstant (some c) (some cs) = some (c ∷ cs)
+
+-- 2026-07: 'The rule for one name and the rule for the list are to be one definition': the constants of all names, or none where one of them is not public
+-- in that file
+abbrev pub includedNames : ℕ → List ℕ → Context → Option (List ℕ)
+includedNames file [] c = some []
+includedNames file (n ∷ ns) c = withConstant (includedFrom (bookIndex file 0 (c .prior .books)) file n c) (includedNames file ns c)
+
+abbrev pub onlyOne : Option (List ℕ) → Option ℕ
+onlyOne none = none
+onlyOne (some []) = none
+onlyOne (some (c ∷ cs)) = some c
+
+-- `find_constant_index_by_include`: the case of one name
 abbrev pub includedName : ℕ → ℕ → Context → Option ℕ
-includedName file name c = includedFrom (bookIndex file 0 (c .prior .books)) file name c
+includedName file name c = onlyOne (includedNames file (name ∷ []) c)
 
 abbrev pub giveValue : Option ℕ → Option ℕ → Deed
 giveValue local none b = b
@@ -319,6 +362,25 @@ compileAlias file a b =
 unfoldable pub compileIncludeDefinition : ℕ → List Alias → Deed
 compileIncludeDefinition file [] b = b
 compileIncludeDefinition file (a ∷ as′) b = compileIncludeDefinition file as′ (compileAlias file a b)
+
+-- the names that an include lists, repeated ones too, whether or not their aliases are there already
+abbrev pub publicNames : List Alias → List ℕ
+publicNames [] = []
+publicNames (a ∷ as′) = a .publicName .value ∷ publicNames as′
+
+abbrev pub isThere : Option (List ℕ) → Bool
+isThere none = false
+isThere (some cs) = true
+
+-- 'an include gives values only if every name it lists is public in that file' (strict); in the present mode any include gives those that are
+abbrev pub givesValues : ℕ → List Alias → Context → Bool
+givesValues file as′ c = cond (c .strict) (isThere (includedNames file (publicNames as′) c)) true
+
+-- 'otherwise no alias gets one and the bundle is refused': row 11 'as that include is reached', ahead of what the include itself would take. It is noted in
+-- its place among the steps of row 9, as an entry of an area that is not there and so has room for none (Uses.antt, `notPublicArea`)
+unfoldable pub compileInclude : ℕ → ℕ → List Alias → Deed
+compileInclude index file as′ b =
+    cond (givesValues file as′ (b .context)) (compileIncludeDefinition file as′ b) (noted (notPublicArea index) 1 b)
 
 -- local definitions
 
@@ -532,7 +594,7 @@ compileApplyDefinition source target b =
 -- `compile_definition`
 unfoldable pub compileDefinition : Definition → Deed
 compileDefinition (LocalDefinition bs) b = compileLocalDefinition bs b
-compileDefinition (IncludeDefinition file as′) b = compileIncludeDefinition (file .value) as′ b
+compileDefinition (IncludeDefinition index file as′) b = compileInclude index (file .value) as′ b
 compileDefinition (ModelDefinition n ps) b = compileModelDefinition n ps b .book
 compileDefinition (PublicModelDefinition n ps) b = publish (n .value) (compileModelDefinition n ps b)
 compileDefinition (PlainFunction f) b = compileFunctionDefinition f b .book

@@ -15,3 +15,4 @@ pub mod SharedOnce
 pub mod Bench
 pub mod WithinBench
 pub mod PriorBench
+pub mod StrictBench
