@@ -3,6 +3,7 @@ pub mod AllStandingRows
 pub mod AllStrictRows
 pub mod Safe
 pub mod Lists
+pub mod Defining
 pub mod Needed
 pub mod Moves
 pub mod Sound
@@ -27,3 +28,6 @@ pub mod Steady
 pub mod WithinBench
 pub mod PromiseBench
 pub mod SharedOnce
+pub mod Modes
+pub mod Strict
+pub mod StrictRefuses

@@ -217,8 +217,10 @@ module _ (tree : List ℕ) (i end count : ℕ) (book : Option ℕ) (u : List ℕ
 -- `gives_values`
 module _ (tree : List ℕ) (at end : ℕ) (books u : List ℕ) (s : struct.Book) where
   pub gives-present : s .strict ≡ false → AsksMode tree at end books u s true
-  gives-present present = record { asks = λ as′ there same. sym (ap (λ (b : Bool). cond b (allNamesC (findBookC (s .file) (valueAt tree at) books)
-      (s .publics) (publicNames as′) u) true) present) }
+  gives-present present = record {
+    asks = λ as′ there same. sym (ap (λ (b : Bool). cond b (allNamesC (findBookC (s .file) (valueAt tree at) books)
+        (s .publics) (publicNames as′) u) true) present);
+  }
 
   pub gives-past : {r : Bool} → end ≤ at → AsksMode tree at end books u s r
   gives-past past = record { asks = λ as′ there same. absurd (omega arith) }
