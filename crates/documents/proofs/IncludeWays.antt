@@ -274,7 +274,7 @@ module _ (tree : List ℕ) (at end : ℕ) (books u : List ℕ) (s : struct.Book)
   unfolding DefinitionAt fieldOf
   include-past past = record {
     includes = λ index file as′ h same.
-        let zero′ : kindAt tree at ≡ 0 = List·getD-eq-default tree (at * 4 + 0) 0 (omega arith) in
+        let zero′ : kindAt tree at ≡ 0 = List·getD-eq-default tree 0 (let far : length tree ≤ at * 4 + 0 = omega (arith, past) in far) in
         absurd (omega (arith, h .0 .head .kind-is));
   }
 
@@ -287,7 +287,7 @@ module _ (tree : List ℕ) (at end : ℕ) (books u : List ℕ) (s : struct.Book)
     asked {x = x} index file as′ h same B H =
         let S = H .rest z in
         let is : valueAt tree at ≡ file .value = sym (ap (λ (v : Token). v .value) (h .0 .token)) in
-        let asks = A .asks as′ (h .1 .0) (omega (arith, same)) in
+        let asks = A .asks as′ (h .1) (omega (arith, same)) in
         asks ∙ rw is (rw (S .mode, names-law (file .value) (publicNames as′) S B))
 
     pub include-refused : {s′ : struct.Book} → gives ≡ false → s′ ≡ withMark (firstNotPublic + at) s → Includes tree at end books u s l s′ l
@@ -297,7 +297,7 @@ module _ (tree : List ℕ) (at end : ℕ) (books u : List ℕ) (s : struct.Book)
         deeds = λ c k f m p t n b e. record {
           meets = λ κ ps x B H.
               let no-values : givesValues (file .value) as′ (x .context) ≡ false = sym (asked index file as′ h same B H) ∙ no′ in
-              let place : index ≡ at = h .1 .1 in
+              let place : index ≡ at = h .2 in
               rw (no-values, place, marked)
               (keeping-over H z (notPublicArea at) 1 x refl (fitted-locals refl (H .fitted)) refl (omega arith)
               (let none′ = H .fitted .others (notPublicArea at) (omega arith) in omega arith));
@@ -314,7 +314,7 @@ module _ (tree : List ℕ) (at end : ℕ) (books u : List ℕ) (s : struct.Book)
           meets = λ κ ps x B H.
               let values : givesValues (file .value) as′ (x .context) ≡ true = sym (asked index file as′ h same B H) ∙ yes′ in
               let is : file .value ≡ valueAt tree at = ap (λ (v : Token). v .value) (h .0 .token) in
-              rw values (rw is (T .takes as′ (h .1 .0) (omega (arith, same)) .deeds c k f m p t n b e .meets κ ps x B H));
+              rw values (rw is (T .takes as′ (h .1) (omega (arith, same)) .deeds c k f m p t n b e .meets κ ps x B H));
         };
       };
     }

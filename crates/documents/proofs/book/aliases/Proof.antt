@@ -1,4 +1,4 @@
--- `documents::book::include_definition` meets its contract. The invariant: what takes the names from here on takes all of them. Assumes nothing.
+-- `documents::book::aliases` meets its contract. The invariant: what takes the names from here on takes all of them. Assumes nothing.
 -- Made from Proof.answers by `answers make`: edit that file, and not this one.
 use Rattle.documents.proofs.IncludeWays.{pairs-end, pairs-more}
 use Rattle.documents.specs.Including.{TakesNames}
@@ -8,8 +8,8 @@ use mathlib.Core.Path.{_≡_, refl}
 use mathlib.Core.List.{List}
 use lib.ListN.{length}
 use Prim.Native.Nat.{ℕ, _+_, _-_, _≤_}
-use Rattle.documents.proofs.book.include_definition.Statement.{statement}
-use Rattle.documents.proofs.book.include_definition.Tie as tie
+use Rattle.documents.proofs.book.aliases.Statement.{statement}
+use Rattle.documents.proofs.book.aliases.Tie as tie
 use borrow.Author.Needs.{needs}
 use native.Mathlib.Omega.{arith}
 
@@ -68,8 +68,8 @@ returns-2 c =
     rw (c .before .before .field .ensures) at (c .before .loop .inv .2 _ _ (pairs-end (c8 .args .tree .now) (c .before .loop .i) (c8 .args .end)
     (c .before .before .field .result) (c .loop-test .left)))
 
-pub include-definition-spec : {M : Type 1} → statement M
-include-definition-spec =
+pub aliases-spec : {M : Type 1} → statement M
+aliases-spec =
     tie.close
     (tie.spec
     Inv-loop
