@@ -50,6 +50,7 @@ mod constant;
 mod fault;
 mod instruction;
 mod kind;
+mod mode;
 pub mod nodes;
 mod numbered;
 mod position;
@@ -63,11 +64,14 @@ mod texts;
 pub use areas::{Area, Areas, AREAS};
 pub use column_file::{LineFault, LINE_BYTES};
 #[cfg(feature = "link")]
-pub use compiling::{check, columns_to_records, compile, records_to_columns, records_to_table, table_to_records};
+pub use compiling::{
+    check, columns_to_records, compile, compile_in, records_to_columns, records_to_table, table_to_records,
+};
 pub use constant::Constant;
 pub use fault::ShapeFault;
 pub use instruction::{Instruction, OpCode, Operand, Operation};
 pub use kind::{Infix, Kind, Prefix};
+pub use mode::Mode;
 pub use position::Position;
 pub use program::{ContextLocal, Function, Method, Model, Program, PublicName, Totals};
 pub use refusal::{Error, ErrorKind, Refusal, Token};
