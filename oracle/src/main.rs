@@ -355,7 +355,7 @@ const WRONGLY_CALLED: u8 = 2;
 /// A command, its flags, whether it takes files, and what it does.
 type Command = (&'static str, &'static [Flag], bool, fn(&Arguments) -> ExitCode);
 
-const COMMANDS: [Command; 16] = [
+const COMMANDS: [Command; 17] = [
     (
         "compare",
         &[
