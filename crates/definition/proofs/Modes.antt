@@ -1,4 +1,5 @@
--- What no deed changes of a book, in either mode: what stood before, the books put away and the mode; and notes are only added (`Stays`). And what each deed but
+-- What no deed changes of a book, in either mode: what stood before, the books put away and the mode; and notes are only added (`Stays`). And what each
+-- deed but
 -- an include does to a book in the present mode, it does in strict mode (`alike-…`): nothing else reads the mode. By cases over each deed. Assumes nothing.
 use Prim.Native.Nat.{ℕ, _+_}
 use mathlib.Core.Path.{_≡_, refl, sym, ap, _∙_}
@@ -14,7 +15,8 @@ use Rattle.definition.specs.FunctionState.{Entry, FunctionState, findNam
 use Rattle.definition.specs.Prior.{bookIndex}
 use Rattle.definition.specs.Book
 use Rattle.definition.specs.Book.{functionCount, modelCount, Context, Deed, Placed, MaybePlaced, working, addBookConstant, defineContextLocal, noted}
-use Rattle.definition.specs.Book.{defineContextLocalBy, setLocalValue, inMode, withConstant, includedFrom, includedNames, onlyOne, withContext, propertyCount}
+use Rattle.definition.specs.Book.{defineContextLocalBy, setLocalValue, inMode, withConstant, includedFrom, includedNames, onlyOne, withContext}
+use Rattle.definition.specs.Book.{propertyCount}
 use Rattle.definition.specs.Book.{includedName, giveValue, compileAlias, compileIncludeDefinition, Value, Standing, Adding, NoConstant, valueOf}
 use Rattle.definition.specs.Book.{compileValue, compileBindingBy, compileBinding, compileLocalDefinition, hasText, Properties, addProperty, pushBookError}
 use Rattle.definition.specs.Book.{compileProperties, addModel, compileModelDefinition, compileBase, addFunction, addPlainFunction, Made, Methods}
@@ -135,8 +137,14 @@ stays-publish name p = one-more (more same) refl refl refl refl
 
 stays-base : (f : FunctionDefinition) → Staying (λ b. compileBase f b .book)
 unfolding compileBase
-stays-base f b = record { uses = longer-trans (more (more (more same)))
-    (steady-base f (working b) .uses); prior = refl; assemblies = refl; filename = refl; strict = refl }
+stays-base f b = record {
+  uses = longer-trans (more (more (more same)))
+      (steady-base f (working b) .uses);
+  prior = refl;
+  assemblies = refl;
+  filename = refl;
+  strict = refl;
+}
 
 stays-add : (s : FunctionState) (n : ℕ) → Staying (addFunction s n)
 stays-add s n b = one-more (more same) refl refl refl refl
