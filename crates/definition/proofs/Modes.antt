@@ -1,6 +1,6 @@
--- What no deed changes of a book, in either mode: what stood before, the books put away and the mode; and notes are only added (`Stays`). And what each
--- deed but
--- an include does to a book in the present mode, it does in strict mode (`alike-…`): nothing else reads the mode. By cases over each deed. Assumes nothing.
+-- What no deed changes of a book, in either mode: what stood before, the books put away and the mode; and notes are only added (`Stays`). And what
+-- each deed but an include does to a book in the present mode, it does in strict mode (`alike-…`): nothing else reads the mode. By cases over each deed.
+-- Assumes nothing.
 use Prim.Native.Nat.{ℕ, _+_}
 use mathlib.Core.Path.{_≡_, refl, sym, ap, _∙_}
 use mathlib.Core.Bool.{Bool, true, false, cond}

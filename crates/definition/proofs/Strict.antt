@@ -1,6 +1,5 @@
 -- The two modes of 2026-07. The strict work is the present one up to its first note of row 11 (`Beside`); so where strict is not refused by row 11 both
--- answer the
--- same (`strict-or-row-11`), a delivery too, word for word (`strict-equals-present`). Assumes nothing.
+-- answer the same (`strict-or-row-11`), a delivery too, word for word (`strict-equals-present`). Assumes nothing.
 use Prim.Native.Nat.{ℕ, zero, suc, _+_, _-_, _<_, _≤_}
 use native.Mathlib.Omega.{arith}
 use mathlib.Core.Path.{_≡_, refl, sym, ap, subst, _∙_}

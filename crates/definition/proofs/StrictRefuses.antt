@@ -1,6 +1,5 @@
 -- A strict delivery has no include in a compiled book with a name that is not public (`strict-refuses`): every include of a compiled book gave its
--- values, for a
--- note of row 11 would have been found; the books before it stay, so its names are public at the end too. Assumes nothing.
+-- values, for a note of row 11 would have been found; the books before it stay, so its names are public at the end too. Assumes nothing.
 use Prim.Native.Nat.{ℕ, zero, suc, _+_, _-_}
 use native.Mathlib.Omega.{arith}
 use mathlib.Core.Path.{_≡_, refl, sym, ap, subst, _∙_}
