@@ -167,6 +167,9 @@ fn one(words: &[u64], side: &mut Option<&mut dyn Modes>, seen: &mut Seen) -> Res
     for lengths in tried(&present, &strict) {
         let (tight, run) = (compile(words, &lengths), compile_by(STRICT, words, &lengths));
         seen.calls += 1;
+        if tight.reply.row == NAME_NOT_PUBLIC {
+            return Err(format!("lengths {lengths:?}: the present mode answers row 11"));
+        }
         let expected = must(words, &present, &tight, &lengths);
         let met = (run.reply.row, run.reply.place);
         if met != expected {
