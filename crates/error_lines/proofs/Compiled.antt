@@ -34,7 +34,7 @@ use Rattle.tree.proofs.Children.{Children, Child, child}
 use Rattle.tree.proofs.Bundle.{fine-passed, fine-spells, Passed}
 use Rattle.definition.specs.FunctionState as Emission
 use Rattle.definition.specs.FunctionState.{FunctionState, Entry, findName, defineLocal}
-use Rattle.definition.specs.Uses.{Use, firstOver}
+use Rattle.definition.specs.Uses.{Use, firstOver, firstNotPublic}
 use Rattle.definition.specs.Compiler
 use Rattle.definition.specs.Compiler.{Error, Work, Step, Added, doing, emit, pushError, addConstant, emitConstant, emitGlobal, emitName, withFunction}
 use Rattle.definition.specs.Compiler.{InfixKind, Assigning, Plain, Negated, Compound, Unknown, infixKind, compileInfixBy}
@@ -49,7 +49,8 @@ use Rattle.definition.specs.Compiler.{compileIntegerExpression, compileFunction
 use Rattle.definition.specs.Book
 use Rattle.definition.specs.Book.{Context, Placed, Properties, Methods, MaybePlaced, Made, Value, Standing, Adding, NoConstant, working, resumed}
 use Rattle.definition.specs.Book.{addBookConstant}
-use Rattle.definition.specs.Book.{defineContextLocal, setLocalValue, giveValue, compileAlias, compileIncludeDefinition, valueOf, compileValue, compileBinding}
+use Rattle.definition.specs.Book.{defineContextLocal, setLocalValue, giveValue, compileAlias, compileIncludeDefinition, givesValues, compileInclude}
+use Rattle.definition.specs.Book.{valueOf, compileValue, compileBinding}
 use Rattle.definition.specs.Book.{compileLocalDefinition, addProperty, compileProperties, compileModelDefinition, publish, compileBase, addPlainFunction}
 use Rattle.definition.specs.Book.{compileFunctionDefinition, findModelIndexByLocalName, addMethods, compileMethods, compileImplementDefinition, addFunction}
 use Rattle.definition.specs.Book.{compileApplyDefinition, compileDefinition, compileDefinitions, compileDocument, newContext, pushBookError, hasText, opened}
@@ -358,6 +359,12 @@ module _ (w : List ℕ) (here : (i : ℕ) → 0 < spanAt w i → KnownToken (tok
       includes file l (compileAlias file a b) (give (d .place) (Book.includedName file (a .publicName .value) (b .context)) (d .book)
       (local (a .alias .value) b h))
 
+  include-or-row-11 : (index file : ℕ) (l : List Alias) (b : Book.Book) → AllKnown (b .compiler .errors)
+      → AllKnown (compileInclude index file l b .compiler .errors)
+  unfolding compileInclude
+  include-or-row-11 index file l b h =
+      cond-case (λ (x : Book.Book). AllKnown (x .compiler .errors)) (givesValues file l (b .context)) (λ t. includes file l b h) (λ t. h)
+
   value : (x : Value) (t : Token) → KnownToken t → (o : Option ℕ) (b : Book.Book) → AllKnown (b .compiler .errors)
       → AllKnown (compileValue x t o b .compiler .errors)
   value (Standing c) t T o b h = set-value o c b h
@@ -479,7 +486,7 @@ module _ (w : List ℕ) (here : (i : ℕ) → 0 < spanAt w i → KnownToken (tok
       → AllKnown (compileDefinition d b .compiler .errors)
   unfolding compileDefinition DefinitionAt
   definition (LocalDefinition l) i x b h = locals l (i + 1) (x .1) b h
-  definition (IncludeDefinition t l) i x b h = includes (t .value) l b h
+  definition (IncludeDefinition index t l) i x b h = include-or-row-11 index (t .value) l b h
   definition (ModelDefinition t ns) i x b h = model t ns (i + 1) (x .1) b h
   definition (PublicModelDefinition t ns) i x b h = model t ns (i + 1) (x .1) b h
   definition (PlainFunction f) i x b h = function-definition f 14 i x b h
@@ -724,10 +731,13 @@ document-text w f i l e =
     = subst (λ (k : ℕ). inRange k (positionAt w i) (valueAt w i) ≡ true) e (S .ranges i (inside w i (S .whole) l)) in
     and-right (mayBeAt false (positionAt w i)) _ r
 
-answer-known : (c : Context) (w lengths : List ℕ) → AnswerKnown (answerFrom c w lengths)
-unfolding answerFrom answerBundle
-answer-known c w lengths = shape (shapeOf w) refl
+answer-known : (strict : Bool) (w lengths : List ℕ) → AnswerKnown (answer strict w lengths)
+unfolding answer answerFrom answerBundle
+answer-known strict w lengths = shape (shapeOf w) refl
   where
+    c : Context
+    c = newContext strict
+
     shape : (s : Shape) → shapeOf w ≡ s → AnswerKnown (answerShape s w (limitsOf lengths) c)
     shape (Refused r p) q = nil
     shape Fine q = two (twice [] w (documentPlaces w))
@@ -739,7 +749,7 @@ answer-known c w lengths = shape (shapeOf w) refl
         texts = document-text w q
 
         by : (o : Option ℕ) (e : Ending) → EndKnown w here texts e → AnswerKnown (answerBy o e)
-        by (some a) e k = nil
+        by (some a) e k = cond-case AnswerKnown (ltb a firstNotPublic) (λ t. nil) (λ t. nil)
         by none (Delivered x) k = tt
         by none (Faulty n es) k = k
         by none (Ring l) k = ring-known w here texts l k
@@ -824,13 +834,6 @@ answer-left lengths (Refusal n p es) k =
     area-known NoneUnknown lengths (errorTables es) errorsArea (listed-known [] nil 0 0 0)
     (λ n. listed-known es k (n - length (flat (entriesFrom errorEntry 0 es))) 0 0)
 
--- onto any standing program, over any words and areas of any lengths: the list that the call leaves in area 11 has no error that `errors_in_words`
--- does not know
-pub standing-compiled-known : (c : Context) (w lengths : List ℕ)
-    → firstUnknown 0 (errorsIn (getD (areasOf lengths (answerFrom c w lengths)) errorsArea [])) ≡ none
-standing-compiled-known c w lengths = answer-left lengths (answerFrom c w lengths) (answer-known c w lengths)
-
--- and onto none
-pub compiled-known : (w lengths : List ℕ) → firstUnknown 0 (errorsIn (getD (areasOf lengths (answer w lengths)) errorsArea [])) ≡ none
-unfolding answer
-compiled-known w lengths = standing-compiled-known newContext w lengths
+-- over any words and areas of any lengths: the list that the call leaves in area 11 has no error that `errors_in_words` does not know
+pub compiled-known : (strict : Bool) (w lengths : List ℕ) → firstUnknown 0 (errorsIn (getD (areasOf lengths (answer strict w lengths)) errorsArea [])) ≡ none
+compiled-known strict w lengths = answer-left lengths (answer strict w lengths) (answer-known strict w lengths)
