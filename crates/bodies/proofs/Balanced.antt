@@ -23,6 +23,7 @@ use Rattle.definition.specs.Compiler.{compileArrayExpression, compileCallExpres
 use Rattle.definition.specs.Compiler.{compileAssignExpression, compilePair, compileAssignName, compileThisExpression, compileIdentifierExpression}
 use Rattle.definition.specs.Compiler.{compileNullExpression, compileBooleanExpression, compileStringExpression, compileFloatExpression}
 use Rattle.definition.specs.Compiler.{compileIntegerExpression}
+use Rattle.definition.proofs.Defining.{define-cases}
 use Rattle.definition.proofs.Lists.{cond-case}
 use Rattle.building.specs.Held.{isOpen}
 
@@ -90,8 +91,7 @@ balanced-break p w = go (w .function .breakScopes) refl
     go (s ∷ ss) e = balanced-function w _ refl refl (pushed (w .function .breakScopes))
 
 pub balanced-define : (n : ℕ) (w : Work) → Balanced w (withFunction (defineLocal n (w .function) .state) w)
-unfolding defineLocal
-balanced-define n w = go (findName n (innermost (w .function .scopes)))
+balanced-define n w = define-cases (λ d. Balanced w (withFunction (d .state) w)) n (w .function) go
   where
     opened : (e : Entry) (ss : List (List Entry)) → isOpen (Emission.insertName e ss) ≡ isOpen ss
     opened e [] = refl
@@ -225,7 +225,7 @@ balanced-if {c} {t} {f} C R F w =
 pub balanced-for : {a b : Step} → Balancing a → Balancing b → (t i : Token) → Balancing (compileForStatement t i a b)
 unfolding compileForStatement exitBreakScope
 balanced-for {a} {b} A B t i w =
-    let x = w .function .localCount in
+    let x = w .function .header .localCount in
     let p = t .position in
     let w₁ = doing (λ f. Emission.enterBreakScope (Emission.enterScope (Emission.defineAnonymousLocal (Emission.defineAnonymousLocal f)))) w in
     let w₂ = a w₁ in

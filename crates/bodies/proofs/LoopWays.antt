@@ -37,7 +37,7 @@ module _ {tree : List ℕ} {at end start count : ℕ} {locals : List ℕ} {body 
   unfolding compileForStatement
   at-tokens x ss hx qx hs qs = record {
     meets = λ κ E w I H.
-        let i = w .function .localCount in
+        let i = w .function .header .localCount in
         let t = tokenAt tree at in
         let m = tokenAt tree (at + 1) in
         let w₁ = loopStart w in

@@ -157,7 +157,7 @@ name-names {tree} {at} {name} {s = s} {n = n} {n′ = n′} {d = d} {index = ind
           let H₁ = define-law H D′ op in
           let H₂ = emitted (toInstruction ForNext x) (t .position) d₂ (λ z. as-local ForNext x as-word (agree (define-mark D z))) (λ z. position-is) H₁ in
           let H₃ = last-emitted JumpIf d₃ H₂ in
-          let here : d .state .full ≡ 0 → index ≡ i % 2 ^ 64 = λ z. index-is ∙ ap foundOrZero (define-found H D′ (define-mark D z)) ∙ found-zero o in
+          let here : d .state .full ≡ 0 → index ≡ i % 2 ^ 64 = λ z. index-is ∙ ap foundOrZero (define-found H D′ (define-mark D z) op) ∙ found-zero o in
           let S₃ = twice-steady ForNext x (t .position) JumpIf u in
           let H₄ = emitted (toInstruction LocalSet i) (m .position) d₄ (λ z. as-local LocalSet i as-word′ (here (back (S₃ .uses) H₁ H₃ z))) (λ z. q-is) H₃ in
           let H₅ = last-emitted Pop d₅ H₄ in

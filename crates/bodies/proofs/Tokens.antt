@@ -100,7 +100,7 @@ module _ {start count : ℕ} {locals : List ℕ} {s s′ : FunctionState} {c c�
           meets = λ κ E w I H.
               put-reads (emitted (toInstruction LocalGet 0) (t .position) d (λ z. as-word)
               (λ z. position-is ∙ sym (ap (λ (u : Token). u .position) (h .token))) H)
-              (w .function .thisReads ++ (getNextInstructionIndex (w .function) ∷ []));
+              (w .function .log .thisReads ++ (getNextInstructionIndex (w .function) ∷ []));
         };
       }
 

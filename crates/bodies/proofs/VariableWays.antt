@@ -25,7 +25,7 @@ use Rattle.building.specs.declared.scopes.Found.the-variants.{At, Nothing}
 use Rattle.building.specs.Emission.{coded, emitC}
 use Rattle.building.specs.Found.{foundOf, wrapped}
 use Rattle.building.specs.Scopes.{naming, Defines, defineC}
-use Rattle.building.specs.Held.{Machine, machine, Held}
+use Rattle.building.specs.Held.{Machine, machine, isOpen, Held}
 use Rattle.building.proofs.ScopeLaws.{define-law, define-found}
 use Rattle.bodies.specs.Meets.{Inside, Does, OnErrors, skipC}
 use Rattle.bodies.specs.Members.{MeetsE, MeetsVariables, MeetsVariable}
@@ -45,9 +45,9 @@ defined-live {s = s} D at = go (eqb (s .full) 0) refl
 
 -- it is what the definition defines
 here : {κ : Limits} {E : Entries} {w : Work} {name index : ℕ} {s : FunctionState} {c k n b e n′ : List ℕ} {d : Defined}
-    → Defines name (naming s n) d n′ → d .found ≡ At index → Held κ E (machine s c k n b e) w
+    → Defines name (naming s n) d n′ → d .found ≡ At index → Held κ E (machine s c k n b e) w → isOpen (w .function .scopes) ≡ true
     → foundOf (wrapped (defineLocal name (w .function) .found)) ≡ At index
-here D new H = sym (define-found H D (defined-live D new)) ∙ new
+here D new H op = sym (define-found H D (defined-live D new) op) ∙ new
 
 -- the token's name
 named : (tree : List ℕ) (at : ℕ) {name : ℕ} → name ≡ valueAt tree at → (t : Token) → t ≡ tokenAt tree at → name ≡ t .value
@@ -87,7 +87,7 @@ module _ {tree : List ℕ} {at end start count : ℕ} {locals : List ℕ} {name 
       go by q S κ E w I H true z =
           let w₁ = withFunction (defineLocal name (w .function) .state) w in
           by-found by q w₁ (F .acts c k n′ b .meets κ E w₁ (define-law H D (I .is-open))) (defineLocal name (w .function) .found)
-          (sym (define-found H D (eqb-true (s .full) 0 z)) ∙ lost)
+          (sym (define-found H D (eqb-true (s .full) 0 z) (I .is-open)) ∙ lost)
       go by q S κ E w I H false z =
           let w₁ = withFunction (defineLocal name (w .function) .state) w in
           held-either (steady-trans (steady-define name w) (steady-error 1 (tokenAt tree at) w₁) .uses) (S w .uses) (eqb-false (s .full) 0 z) H
@@ -107,7 +107,7 @@ module _ {tree : List ℕ} {at end start count : ℕ} {locals : List ℕ} {name 
           (named tree at name-is t (h .token))
           (record {
             meets = λ κ E w I H. go t (withFunction (defineLocal name (w .function) .state) w) (define-law H D (I .is-open))
-                (defineLocal name (w .function) .found) (here D new H);
+                (defineLocal name (w .function) .found) (here D new H (I .is-open));
           });
       valued = λ t x h h₁ l. absurd (value-there x tree (at + 1) h₁ (sym kind-is ∙ q));
     }
@@ -132,7 +132,7 @@ module _ {tree : List ℕ} {at end start count : ℕ} {locals : List ℕ} {name 
                 (withFunction (defineLocal name (w .function) .state) w)
                 (M .meets x h₁ l .meets κ E (withFunction (defineLocal name (w .function) .state) w)
                 (inside-after (steady-define name w) (balanced-define name w) I) (define-law H D (I .is-open)))
-                (defineLocal name (w .function) .found) (here D new H);
+                (defineLocal name (w .function) .found) (here D new H (I .is-open));
           });
     }
       where

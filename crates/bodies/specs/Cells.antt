@@ -1,4 +1,5 @@
 -- `FunctionState` as fifteen words, in the order of its fields; a flag is 1 or 0, and set where its word is not 0
+-- Private contracts alone cite this file: whoever reads the promises need not believe it
 use Prim.Native.Nat.{ℕ}
 use mathlib.Core.Bool.{Bool, true, false, not}
 use mathlib.Core.List.{List, [], _∷_}

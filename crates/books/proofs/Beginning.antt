@@ -17,7 +17,7 @@ use Rattle.definition.specs.Book.{newContext, compileDefinition}
 use Rattle.definition.proofs.Limits.{fine-limited}
 use Rattle.definition.specs.DependencySolver.{needed, compileNeeded, drive}
 use Rattle.definition.specs.Program.{Entries, entriesFrom, constantEntry}
-use Rattle.definition.specs.Within.{All, none, _&_}
+use Rattle.definition.specs.Within.{All, nil, _&_}
 use Rattle.building.specs.declared.taking.Taken.{Taken}
 use Rattle.building.specs.Taking.{Took, taken}
 use Rattle.building.specs.Held.{Filled, Marks, unmarked, Sized}
@@ -37,7 +37,7 @@ use Rattle.books.proofs.StandsLaws.{set-empty, needed-ascends, needed-b
 
 -- an area of zeros has no entries
 pub zero-filled : {width : ℕ} {l : List ℕ} → Zero l → Filled width l [] 0
-zero-filled {l = l} z = record { zeros = length l; is = z; count = refl; wide = none; room = omega arith }
+zero-filled {l = l} z = record { zeros = length l; is = z; count = refl; wide = nil; room = omega arith }
 
 -- entries of three words taken one after the other, from none: all of them, or the mark
 record Taking (k : List ℕ) (es : Entries) (t : Taken) (l : List ℕ) : Type 0 where
@@ -141,7 +141,7 @@ module _ {tree set : List ℕ} {c k f m p t l u n b e o : List ℕ} {x r : Taken
     marks : Marks (firstOver κ (begunUses (length numbers))) (r .full)
     marks =
         mark-books B (root ∷ others) numbers (A .bundle) (needed-ascends root others) (needed-below root others (A .bundle .numbers)) (A .chosen) κ
-        (using′ constantsArea 3 ∷ []) (lent (begunBook r 0) .books) (mark-constants κ (zeros .constants) (lent (begunBook r 0) .fitted .constants) C)
+        (using′ constantsArea 3 ∷ []) (lent (begunBook r 0) .books) (mark-constants κ (zeros .emptied .constants) (lent (begunBook r 0) .fitted .constants) C)
 
     -- the definition's work from there
     as-work : compileNeeded numbers (root ∷ others) newContext ≡ drive (length numbers) (root ∷ others) [] numbers newContext (begunUses (length numbers))
@@ -160,8 +160,8 @@ module _ {tree set : List ℕ} {c k f m p t l u n b e o : List ℕ} {x r : Taken
     constants-there z = go (decLe 3 (entriesIn 3 (length k)))
       where
         go : Dec (3 ≤ entriesIn 3 (length k)) → Filled 3 k₁ (entriesFrom (constantEntry []) 0 defaultConstants) (x .count)
-        go (yes h) = C .fits (zeros .constants) h .1
-        go (no h) = absurd (omega (arith, C .over (zeros .constants) (omega arith), no-mark z))
+        go (yes h) = C .fits (zeros .emptied .constants) h .1
+        go (no h) = absurd (omega (arith, C .over (zeros .emptied .constants) (omega arith), no-mark z))
 
     books-there : r .full ≡ 0 → (r ≡ taken 0 (length numbers)) × (o₁ ≡ waiting (root ∷ others) numbers ++ drop (length numbers) o)
     books-there z = go (decLe (length numbers) (entriesIn 1 (length o)))
@@ -195,28 +195,28 @@ module _ {tree set : List ℕ} {c k f m p t l u n b e o : List ℕ} {x r : Taken
         };
         full = marks;
         rest = λ y. record {
-          code = zero-filled (zeros .code);
-          sized = none;
+          code = zero-filled (zeros .emptied .code);
+          sized = nil;
           constants = constants-there z;
-          marks = none;
-          functions = zero-filled (zeros .functions);
-          models = zero-filled (zeros .models);
-          properties = zero-filled (zeros .properties);
-          methods = zero-filled (zeros .methods);
-          locals = zero-filled (zeros .locals);
+          marks = nil;
+          functions = zero-filled (zeros .emptied .functions);
+          models = zero-filled (zeros .emptied .models);
+          properties = zero-filled (zeros .emptied .properties);
+          methods = zero-filled (zeros .emptied .methods);
+          locals = zero-filled (zeros .emptied .locals);
           counted = refl;
-          valued = none;
+          valued = nil;
           first-local = omega arith;
           named = record { up-to = refl; each = λ i h. absurd (omega arith) };
-          publics = zero-filled (zeros .publics);
+          publics = zero-filled (zeros .emptied .publics);
           first-public = refl;
-          prior = record { books = none; publics = none };
+          prior = record { books = nil; publics = nil };
           file = refl;
           last-index = refl;
           indexed = λ i h. absurd (omega arith);
           entry = refl;
-          names = zero-filled (zeros .names);
-          breaks = zero-filled (zeros .breaks);
+          names = zero-filled (zeros .emptied .names);
+          breaks = zero-filled (zeros .emptied .breaks);
           errors = zero-filled (zeros .errors);
         };
       };
@@ -277,7 +277,7 @@ module _ {tree set : List ℕ} {c k f m p t l u n b e o : List ℕ} {x r : Taken
           let numbers = needed [] root others in (
             drop (length numbers) o,
             (
-              zero-drop (length numbers) o (zeros .books),
+              zero-drop (length numbers) o (zeros .emptied .books),
               rw (as-work A zeros κ lent)
                   (D .drives (root ∷ others) numbers (drop (length numbers) o) [] κ newContext (begunUses (length numbers))
                   (rw s-is (driving A zeros κ lent z empty))),

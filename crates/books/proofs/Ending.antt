@@ -22,7 +22,7 @@ use Rattle.definition.specs.Book.{hasText, Assembly, Context, newContext, bookC
 use Rattle.definition.specs.DependencySolver.{Ending, Delivered, Faulty, Ring, Worked, filesOf, loadedOf, needed, compileNeeded}
 use Rattle.definition.specs.Program.{bit, constantEntry, flat, filled, errorTables, entriesFrom, errorEntry, bookEntry, bookTable, globalDependencies}
 use Rattle.definition.specs.Answer.{Answer, Delivery, Refusal, ringErrors, answerEnding, answerBy, answerWorked, limitsOf, answer, replyOf, areasOf}
-use Rattle.definition.specs.Within.{All, none as nil, _&_, Areas, KeepsWithin}
+use Rattle.definition.specs.Within.{All, nil, _&_, Areas, KeepsWithin}
 use Rattle.definition.proofs.Cells.{single-length, single-at}
 use Rattle.building.proofs.Filling.{flat-append, filled-field}
 use Rattle.building.specs.Held.{Filled, Marks, unmarked, marked}
@@ -152,9 +152,10 @@ module _ (tree : List ℕ) (before : Areas) where
       → lengthsOf before ≡ lengthsOf (areas c k f m p t l u n b e o) → Cleared c k f m p t l u n b e o → Fronts tree row place set → (row ≡ 0 → ⊥)
       → r ≡ refusal row place → Compiles tree before (areas c k f m p t l u n b e o) r
   compile-refused {c = c} {k} {f} {m} {p} {t} {l} {u} {n} {b} {e} {o} {row} {place} {r} thirteen long z F ne says =
+      let E = z .emptied in
       subst (λ (x : struct.Reply). Compiles tree before (areas c k f m p t l u n b e o) x) (sym says)
-      (refuses row place [] thirteen long (F .refused ne (lengthsOf before)) (z .code) (z .constants) (z .functions) (z .models) (z .properties) (z .methods)
-      (z .locals) (z .publics) (z .names) (z .breaks) (zero-filled (z .errors)) (z .books))
+      (refuses row place [] thirteen long (F .refused ne (lengthsOf before)) (E .code) (E .constants) (E .functions) (E .models) (E .properties) (E .methods)
+      (E .locals) (E .publics) (E .names) (E .breaks) (zero-filled (z .errors)) (E .books))
 
   -- the work, and how it ends
   module _ {set c k f m p t l u n b e o : List ℕ} {s′ : book.Book} {c′ k′ f′ m′ p′ t′ l′ u′ n′ b′ e′ o′ : List ℕ} {row place number : ℕ}
@@ -193,11 +194,12 @@ module _ (tree : List ℕ) (before : Areas) where
             → Compiles tree before (areas c″ k″ f″ m″ p″ t″ l″ u″ n″ b″ e″ o″) r
         compile-full ne y says =
             let X = work in
+            let E = y .emptied in
             let at : firstOver (limitsOf (lengthsOf before)) (X .worked .uses) ≡ some (s′ .full) = marked-is (X .outcome .full) ne in
             let q : answering tree before ≡ Refusal 9 (s′ .full) [] = X .answers ∙ rw at in
             subst (λ (x : struct.Reply). Compiles tree before (areas c″ k″ f″ m″ p″ t″ l″ u″ n″ b″ e″ o″) x) (sym says)
-            (refuses 9 (s′ .full) [] thirteen long″ q (y .code) (y .constants) (y .functions) (y .models) (y .properties) (y .methods) (y .locals) (y .publics)
-            (y .names) (y .breaks) (zero-filled (y .errors)) (y .books))
+            (refuses 9 (s′ .full) [] thirteen long″ q (E .code) (E .constants) (E .functions) (E .models) (E .properties) (E .methods) (E .locals) (E .publics)
+            (E .names) (E .breaks) (zero-filled (y .errors)) (E .books))
           where
             marked-is : {x : Option ℕ} {a : ℕ} → Marks x a → (a ≡ 0 → ⊥) → x ≡ some a
             marked-is unmarked h = absurd (h refl)
@@ -325,23 +327,6 @@ same-lengths : {c₀ k₀ f₀ m₀ p₀ t₀ l₀ u₀ n₀ b₀ e₀ o₀ c k 
     → lengthsOf (areas c₀ k₀ f₀ m₀ p₀ t₀ l₀ u₀ n₀ b₀ e₀ o₀) ≡ lengthsOf (areas c k f m p t l u n b e o)
 same-lengths S = rw (S .code, S .constants, S .functions, S .models, S .properties, S .methods, S .locals, S .publics, S .names, S .breaks, S .errors, S .books)
 
--- zeros in all areas
-pub all-cleared : {c k f m p t l u n b e o : List ℕ} → Emptied c k f m p t l u n b o → Zero e → Cleared c k f m p t l u n b e o
-all-cleared E z = record {
-  code = E .code;
-  constants = E .constants;
-  functions = E .functions;
-  models = E .models;
-  properties = E .properties;
-  methods = E .methods;
-  locals = E .locals;
-  publics = E .publics;
-  names = E .names;
-  breaks = E .breaks;
-  errors = z;
-  books = E .books;
-}
-
 -- the ways of `finish`
 pub finish-full : {s : book.Book} {row place : ℕ} {c k f m p t l u n b e o c″ k″ f″ m″ p″ t″ l″ u″ n″ b″ e″ o″ : List ℕ} {r : struct.Reply} → (s .full ≡ 0 → ⊥)
     → Emptied c″ k″ f″ m″ p″ t″ l″ u″ n″ b″ o″ → Zero e″ → r ≡ refusal 9 (s .full)
@@ -372,7 +357,7 @@ module _ {tree c k f m p t l u n b e o : List ℕ} where
         → Compiles tree (areas c k f m p t l u n b e o) (areas c″ k″ f″ m″ p″ t″ l″ u″ n″ b″ e″ o″) r
     ended-full z ne =
         let X = E .full ne in
-        compile-full tree (areas c k f m p t l u n b e o) refl refl z F went W (same-lengths S) ne (all-cleared (X .0) (X .1 .0)) (X .1 .1)
+        compile-full tree (areas c k f m p t l u n b e o) refl refl z F went W (same-lengths S) ne (record { emptied = X .0; errors = X .1 .0 }) (X .1 .1)
 
     ended-refused : Cleared c k f m p t l u n b e o → s′ .full ≡ 0 → (row ≡ 0 → ⊥)
         → Compiles tree (areas c k f m p t l u n b e o) (areas c″ k″ f″ m″ p″ t″ l″ u″ n″ b″ e″ o″) r
@@ -425,4 +410,4 @@ pub compile-runs : {tree c₀ k₀ f₀ m₀ p₀ t₀ l₀ u₀ n₀ b₀ e₀ 
     → SameLengths c₀ k₀ f₀ m₀ p₀ t₀ l₀ u₀ n₀ b₀ e₀ o₀ c k f m p t l u n b e o → Emptied c k f m p t l u n b o → Zero e
     → Runs tree c k f m p t l u n b e o c″ k″ f″ m″ p″ t″ l″ u″ n″ b″ e″ o″ r
     → Compiles tree (areas c₀ k₀ f₀ m₀ p₀ t₀ l₀ u₀ n₀ b₀ e₀ o₀) (areas c″ k″ f″ m″ p″ t″ l″ u″ n″ b″ e″ o″) r
-compile-runs S E z R = carried (same-lengths S) (R .runs (all-cleared E z))
+compile-runs S E z R = carried (same-lengths S) (R .runs (record { emptied = E; errors = z }))

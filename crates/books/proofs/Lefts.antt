@@ -13,16 +13,17 @@ use borrow.Author.Tests.{eqb-true, eqb-false, eq-eqb}
 use Rattle.words.specs.Ast.{Document}
 use Rattle.words.specs.Areas.{entryWord}
 use Rattle.definition.specs.Prior.{Entries, fileNumbers}
-use Rattle.definition.specs.Book.{Assembly, Context, bookCount}
-use Rattle.definition.specs.DependencySolver.{findDocument, allIn, dependencies, readyBy, ready, filesOf, loadedOf}
-use Rattle.definition.specs.Within.{All, none, _&_}
+use Rattle.definition.specs.Book.{Assembly}
+use Rattle.definition.specs.DependencySolver.{findDocument, allIn, dependencies, readyBy, ready, filesOf}
+use Rattle.definition.specs.Within.{All, nil, _&_}
+use Rattle.definition.proofs.Counts.{numbers-length}
 use Rattle.books.specs.Solving.{bookUnit, AllWait, Stands}
 use Rattle.books.specs.Driving.{Leaves}
 
 -- what holds of each document holds of the one that is ready
 module _ {P : Document → Type 0} where
   all-found : (n : ℕ) (ds : List Document) → All P ds → {d : Document} → findDocument n ds ≡ some d → P d
-  all-found n [] none h = absurd (let z : _≡_ {A = ℕ} 0 1 = cc in omega arith)
+  all-found n [] nil h = absurd (let z : _≡_ {A = ℕ} 0 1 = cc in omega arith)
   all-found n (x ∷ ds) (p & ps) {d} h = go (λ q. all-found n ds ps q) (eqb (x .filename) n) h
     where
       go : (findDocument n ds ≡ some d → P d) → (t : Bool) → cond t (some x) (findDocument n ds) ≡ some d → P d
@@ -44,18 +45,6 @@ module _ {P : Document → Type 0} where
       all-by (findDocument n ds) done (ready ds done left) (λ x q. all-found n ds ps q) (λ q. all-ready ds done left ps q) h
 
 -- the books that stood before are first in area 12, then those put away
-files-length : (as′ : List Assembly) → length (filesOf as′) ≡ length as′
-files-length [] = refl
-files-length (a ∷ as′) = ap suc (files-length as′)
-
-numbers-length : (es : Entries) → length (fileNumbers es) ≡ length es
-numbers-length [] = refl
-numbers-length (e ∷ es) = ap suc (numbers-length es)
-
-pub loaded-length : (c : Context) → length (loadedOf c) ≡ bookCount c
-loaded-length c =
-    omega (arith, length-append (fileNumbers (c .prior .books)) (filesOf (c .assemblies)), numbers-length (c .prior .books), files-length (c .assemblies))
-
 pub stood-at : (es : Entries) (rest : List ℕ) (i : ℕ) → i < length es → getD (fileNumbers es ++ rest) i 0 ≡ getD (getD es i []) 0 0
 stood-at [] rest i h = absurd (omega arith)
 stood-at (e ∷ es) rest zero h = refl

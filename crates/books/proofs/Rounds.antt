@@ -14,11 +14,12 @@ use Rattle.definition.specs.Prior.{Entries, fileNumbers}
 use Rattle.definition.specs.Uses.{Use, using′, Limits, limitOf, firstOver}
 use Rattle.definition.specs.Compiler.{Error}
 use Rattle.definition.specs.Program.{entriesFrom, errorEntry}
-use Rattle.definition.specs.Within.{All, none, _&_}
+use Rattle.definition.specs.Within.{All, nil, _&_}
 use Rattle.definition.specs.Book.{Context, Book, opened, compileDefinition, compileDefinitions, compileDocument}
 use Rattle.definition.specs.DependencySolver.{Ending, Delivered, Faulty, Ring, Worked, afterBook, driveBy, drive, ready, without, filesOf, loadedOf}
 use Rattle.definition.specs.Answer.{ringErrors}
 use Rattle.definition.proofs.Cells.{single-length}
+use Rattle.definition.proofs.Counts.{loaded-length}
 use Rattle.building.specs.declared.taking.Taken.{Taken}
 use Rattle.building.specs.Taking.{taken}
 use Rattle.building.specs.Held.{Filled, Marks}
@@ -34,7 +35,7 @@ use Rattle.books.specs.Driving.{Leaves, Rung, Rings, Came, came-delivere
 use Rattle.documents.proofs.Calm.{Calms}
 use Rattle.books.proofs.Steadfast.{calm-definitions, drive-longer, after-longer, loaded-more}
 use Rattle.documents.proofs.PuttingAway.{putAway, put-away}
-use Rattle.books.proofs.Lefts.{all-ready, loaded-length, stood-at, added-at, leaves-are}
+use Rattle.books.proofs.Lefts.{all-ready, stood-at, added-at, leaves-are}
 use Rattle.books.proofs.StandsLaws.{without-length, without-ascends, without-missing, WaitSplit, wait-split, waits-grow, none-waits}
 use Rattle.books.proofs.BookWays.{apart}
 use Rattle.books.proofs.FileLists.{addBit-length, set-add, add-grows}
@@ -71,7 +72,7 @@ same-files : (c c′ : Context) {x y : ℕ} → c′ .prior ≡ c .prior → c�
 same-files c c′ p q r = rw (p, q, r)
 
 in-sets : (size : ℕ) (ds : List Document) → InSets size ds → All (λ (d : Document). d .filename < size) ds
-in-sets size [] h = none
+in-sets size [] h = nil
 in-sets size (d ∷ ds) h = h .0 & in-sets size ds (h .2)
 
 -- what is known after a book was compiled

@@ -12,7 +12,7 @@ use lib.Dec.{eqb}
 use lib.Pow.{pow-pos, pow-lt, pow-add, shl-shr, shl-exact}
 use lib.Bits.{bitOr, or-shr, or-mod, or-zero-r}
 use borrow.Author.Tests.{eq-eqb, ne-eqb}
-use Rattle.books.specs.Sets.{bitOf, addBit, Added, NextIn, Passes, Zeros, setSize}
+use Rattle.books.specs.Sets.{bitOf, addBit, Added, NextIn, NoneBetween, Zeros, setSize}
 
 -- powers of two have one bit
 pow-other : (j k : ℕ) → (j ≡ k → ⊥) → 2 ^ k / 2 ^ j % 2 ≡ 0
@@ -117,7 +117,7 @@ zeros-more bits at k z s = record { zero-word = λ i a b. go i a b (ℕ-discrete
     go i a b (no q) = s .zero-word i a (omega arith)
 
 -- `after`
-pub after-one : (bits : List ℕ) (n : ℕ) → n < setSize → Passes bits n (n + 1)
+pub after-one : (bits : List ℕ) (n : ℕ) → n < setSize → NoneBetween bits n (n + 1)
 after-one bits n l = record { on = omega arith; last = omega arith; between = λ m a b. absurd (omega arith) }
 
 -- a number further on whose word is in the run of zero words
@@ -129,7 +129,7 @@ zero-bit bits n m s on inside =
     ap (λ (y : ℕ). eqb (y / 2 ^ (m % 64) % 2) 1) (s .zero-word (m / 64) (omega arith) inside)
     ∙ ap (λ (y : ℕ). eqb (y % 2) 1) (zero-div (2 ^ (m % 64)))
 
-pub after-zeros : (bits : List ℕ) (n r : ℕ) {end : ℕ} → Zeros bits (n / 64) end → n < r → r ≤ end * 64 → r ≤ setSize → Passes bits n r
+pub after-zeros : (bits : List ℕ) (n r : ℕ) {end : ℕ} → Zeros bits (n / 64) end → n < r → r ≤ end * 64 → r ≤ setSize → NoneBetween bits n r
 after-zeros bits n r {end} s on far last = record {
   on = on;
   last = last;
@@ -137,7 +137,7 @@ after-zeros bits n r {end} s on far last = record {
 }
 
 -- past the words no bit is set
-pub after-out : (bits : List ℕ) (n : ℕ) {end : ℕ} → Zeros bits (n / 64) end → length bits ≤ end → n < setSize → Passes bits n setSize
+pub after-out : (bits : List ℕ) (n : ℕ) {end : ℕ} → Zeros bits (n / 64) end → length bits ≤ end → n < setSize → NoneBetween bits n setSize
 after-out bits n {end} s short on = record { on = on; last = omega arith; between = λ m a b. clear m a (decLt (m / 64) end) }
   where
     clear : (m : ℕ) → n < m → Dec (m / 64 < end) → bitOf bits m ≡ false
@@ -149,7 +149,7 @@ pub word-past : (n : ℕ) {end : ℕ} → n / 64 < end → n < end * 64
 word-past n h = let w : n < n / 64 * 64 + 64 = lt-div-mul-add (omega arith) in omega arith
 
 -- `next_in`: whatever is the next from here is the next from the start
-pub next-more : (bits : List ℕ) (n : ℕ) {m r : ℕ} → false ≡ bitOf bits n → Passes bits n m → NextIn bits m r → NextIn bits n r
+pub next-more : (bits : List ℕ) (n : ℕ) {m r : ℕ} → false ≡ bitOf bits n → NoneBetween bits n m → NextIn bits m r → NextIn bits n r
 next-more bits n {m} {r} here p q = record {
   on = omega (arith, p .on, q .on);
   last = q .last;

@@ -1,4 +1,5 @@
 -- What the routines above a document promise: the rows before the work, the books one after the other, and how they end
+-- Private contracts alone cite this file: whoever reads the promises need not believe it
 use Prim.Native.Nat.{ℕ, _+_, _/_, _≤_, _<_}
 use mathlib.Core.Path.{_≡_}
 use mathlib.Core.Option.{none}
@@ -115,8 +116,8 @@ pub record Lent (κ : Limits) (s : struct.Book) (c k f m p t l u n b e o : List 
   pub fitted : Fitted κ (shelf s c k f m p t l u n b e)
   pub books : Sized κ booksArea o
 
--- and hold zeros
-pub record Cleared (c k f m p t l u n b e o : List ℕ) : Type 0 where
+-- `clear_program`: zeros in every area but that of the errors
+pub record Emptied (c k f m p t l u n b o : List ℕ) : Type 0 where
   pub code : Zero c
   pub constants : Zero k
   pub functions : Zero f
@@ -127,8 +128,12 @@ pub record Cleared (c k f m p t l u n b e o : List ℕ) : Type 0 where
   pub publics : Zero u
   pub names : Zero n
   pub breaks : Zero b
-  pub errors : Zero e
   pub books : Zero o
+
+-- and in that one too
+pub record Cleared (c k f m p t l u n b e o : List ℕ) : Type 0 where
+  pub emptied : Emptied c k f m p t l u n b o
+  pub errors : Zero e
 
 -- `work`: all the books of a bundle, into areas of zeros
 pub record Works (tree set : List ℕ) (c k f m p t l u n b e o : List ℕ) (s′ : struct.Book) (c′ k′ f′ m′ p′ t′ l′ u′ n′ b′ e′ o′ : List ℕ)
@@ -146,20 +151,6 @@ pub record MarkedFrom (k : List ℕ) (i count n r : ℕ) : Type 0 where
 -- `one_if`: a mark of 1
 abbrev pub markOf : ℕ → ℕ
 markOf word = cond (eqb word 1) 1 0
-
--- `clear_program`: zeros in every area but that of the errors
-pub record Emptied (c k f m p t l u n b o : List ℕ) : Type 0 where
-  pub code : Zero c
-  pub constants : Zero k
-  pub functions : Zero f
-  pub models : Zero m
-  pub properties : Zero p
-  pub methods : Zero t
-  pub locals : Zero l
-  pub publics : Zero u
-  pub names : Zero n
-  pub breaks : Zero b
-  pub books : Zero o
 
 -- `begun`: the counts of the beginning
 abbrev pub begunBook : Taken → ℕ → struct.Book

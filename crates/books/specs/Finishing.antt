@@ -1,4 +1,5 @@
 -- What the last routines promise: `finish` of the areas that the work left, `run` of areas of zeros
+-- Private contracts alone cite this file: whoever reads the promises need not believe it
 use Prim.Native.Nat.{ℕ}
 use mathlib.Core.Path.{_≡_}
 use mathlib.Core.List.{List}

@@ -1,4 +1,5 @@
 -- Sets of file numbers in words: one bit for each number, 64 to a word
+-- Private contracts alone cite this file: whoever reads the promises need not believe it
 use Prim.Native.Nat.{ℕ, _+_, _/_, _%_, _^_, _≤_, _<_}
 use mathlib.Core.Path.{_≡_}
 use mathlib.Core.Bool.{Bool, true, false, cond, not}
@@ -37,7 +38,7 @@ pub record Zeros (bits : List ℕ) (at r : ℕ) : Type 0 where
   pub zero-word : (i : ℕ) → at ≤ i → i < r → getD bits i 0 ≡ 0
 
 -- `after`: a number further on, with none of the set between
-pub record Passes (bits : List ℕ) (n r : ℕ) : Type 0 where
+pub record NoneBetween (bits : List ℕ) (n r : ℕ) : Type 0 where
   pub on : n < r
   pub last : r ≤ setSize
   pub between : (m : ℕ) → n < m → m < r → bitOf bits m ≡ false

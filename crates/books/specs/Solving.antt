@@ -1,5 +1,6 @@
 -- What the routines of `solver.rt` promise, by the definition's `DependencySolver`. A promise holds of every list of documents that the words spell;
 -- no book stands before (a fresh call)
+-- Private contracts alone cite this file: whoever reads the promises need not believe it
 use Prim.Native.Nat.{ℕ, _+_, _*_, _/_, _%_, _≤_, _<_}
 use mathlib.Core.Path.{_≡_}
 use mathlib.Core.Bool.{Bool, true, false, cond}

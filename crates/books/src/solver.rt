@@ -3,7 +3,7 @@ ghost use mathlib.Core.Path.{_≡_};
 ghost use mathlib.Core.Bool.{true, false, cond};
 ghost use Prim.Native.Nat.{_≤_, _<_};
 ghost use lib.ListN.{length};
-ghost use Rattle.books.specs.Sets.{bitOf, Added, NextIn, Passes, Zeros, setSize};
+ghost use Rattle.books.specs.Sets.{bitOf, Added, NextIn, NoneBetween, Zeros, setSize};
 ghost use Rattle.books.specs.Solving.{FindsTwice, Includes, Reaches, Needs, Misses, Lowers, Resumes, FindsNext, TakesBooks};
 ghost use Rattle.books.specs.Solving.{FirstUncompiled, FindsReady, Brings, NarrowIncludes, Narrows};
 ghost use Rattle.words.specs.Record.{mostRecords};
@@ -69,7 +69,7 @@ fn next_in(set: &[u64], from: u64) -> u64
 // The next number, or where the number's word has no bit the first of the next word that has one, or SET_SIZE where no word has.
 fn after(set: &[u64], n: u64) -> u64
     requires { ⌜ n < setSize ⌝ }
-    ensures { λ r. ⌜ Passes (now (set .entry)) n r ⌝ }
+    ensures { λ r. ⌜ NoneBetween (now (set .entry)) n r ⌝ }
 {
     let at = (n / 64) as usize;
     let end = zeros_end(set, at);

@@ -87,8 +87,8 @@ module _ {κ : Limits} {earlier : Entries} {s : struct.FunctionState} {c k n b e
       go true d =
           let z = eqb-true (s .full) 0 d in
           let C = H .rest z in
-          let is = w .function .instructions in
-          let ps = w .function .positions in
+          let is = w .function .code .instructions in
+          let ps = w .function .code .positions in
           rw (hj z, hv z)
           (held-step (method.replaceInstruction j i (w .function)) H z z
           (record {
@@ -106,7 +106,7 @@ pub drop-law : {κ : Limits} {earlier : Entries} {s : struct.FunctionState} {c k
     → s .full ≡ 0 → Filled 2 (dropC (coded s c) .code) earlier (dropC (coded s c) .state .code)
 drop-law {κ} {earlier} {s} {c} {w = w} H z =
     let C = H .rest z in
-    let es = codeEntries (w .function .instructions) (w .function .positions) in
+    let es = codeEntries (w .function .code .instructions) (w .function .code .positions) in
     subst (λ (m : Coded). Filled 2 (m .code) earlier (m .state .code)) (drop-more s c z refl)
     (rw (C .base) (filled-less earlier es (omega arith) (all-front earlier es (C .code .wide)) (C .code)))
 
@@ -190,8 +190,8 @@ unfolding method.emitBreak
 break-is-none p f q = rw q
 
 break-is-more : (p : ℕ) (f : FunctionState) (o : List ℕ) (os : List (List ℕ)) → f .breakScopes ≡ o ∷ os
-    → method.emitBreak p f ≡ method.withTrace (Broke (length (f .instructions)) ∷ f .trace)
-    (method.withBreakScopes ((o ++ (length (f .instructions) ∷ [])) ∷ os) (method.emitOpcode Jump p f))
+    → method.emitBreak p f ≡ method.withTrace (Broke (length (f .code .instructions)) ∷ f .log .trace)
+    (method.withBreakScopes ((o ++ (length (f .code .instructions) ∷ [])) ∷ os) (method.emitOpcode Jump p f))
 unfolding method.emitBreak
 break-is-more p f o os q = rw q
 
@@ -245,7 +245,7 @@ module _ {κ : Limits} {earlier : Entries} {s : struct.FunctionState} {c k n b e
       rw (break-is-more p (w .function) o os q, d, next-is (H .rest z))
       (mark-go H z (method.emitOpcode Jump p (w .function))
       (emit-law (word (toInstruction Jump 0)) p (toInstruction Jump 0) p (λ _. refl) (λ _. refl) H) z₁
-      (length (w .function .instructions)) (Broke (length (w .function .instructions)) ∷ w .function .trace) o os q
+      (length (w .function .code .instructions)) (Broke (length (w .function .code .instructions)) ∷ w .function .log .trace) o os q
       (ltb (jumped .state .breaks) (entriesIn 1 (length b))) refl)
 
   break-go : (bs : List (List ℕ)) → w .function .breakScopes ≡ bs
@@ -329,8 +329,8 @@ module _ {κ : Limits} {earlier : Entries} {s : struct.FunctionState} {c k n b e
   unfolding method.exitBreakScope
   exit-go z hs hi =
       let C = H .rest z in
-      let is = w .function .instructions in
-      let ps = w .function .positions in
+      let is = w .function .code .instructions in
+      let ps = w .function .code .positions in
       let bs = w .function .breakScopes in
       let xs = innermost bs in
       let t = length is in

@@ -22,7 +22,7 @@ use Rattle.building.specs.declared.function_state.FunctionState as struc
 use Rattle.building.specs.declared.taking.Taken.{Taken}
 use Rattle.building.specs.Taking.{Took, taken, hasRoom}
 use Rattle.building.specs.Found.{isNamed, findContextLocalC}
-use Rattle.building.specs.Context.{Localing, localing, defineContextBy, defineContextC, setValueC, functionWords}
+use Rattle.building.specs.Context.{Localing, localing, defineContextBy, defineContextC, setValueC, functionStateWords}
 use Rattle.building.specs.Held.{Machine, Filled, Contents, LocalsHeld}
 use Rattle.building.proofs.Filling.{room-fits, setEntry-length, filled-more, filled-set, filled-field, code-length}
 use Rattle.building.proofs.OldestFirst.{first-name}
@@ -203,24 +203,24 @@ set-value-locals full {start} {count} i constant {l} {l′} {s} q L = record {
 }
 
 -- `add_function`: its entry is the definition's, where the locals' number stands in 64 bits
-pub function-words : {earlier : Entries} {m : Machine} {w : Work} → Contents earlier m w → w .function .localCount < 2 ^ 64 → (file name : ℕ)
-    → functionWords (m .state) file name ≡ functionEntry (length earlier) (record { state = w .function; name = name; file = file })
+pub function-words : {earlier : Entries} {m : Machine} {w : Work} → Contents earlier m w → w .function .header .localCount < 2 ^ 64 → (file name : ℕ)
+    → functionStateWords (m .state) file name ≡ functionEntry (length earlier) (record { state = w .function; name = name; file = file })
 function-words {earlier} {m} {w} C small file name =
     rw (C .parameters, locals, C .rescue, C .is-instance, code, C .base)
   where
-    locals : m .state .«local_count» ≡ w .function .localCount
+    locals : m .state .«local_count» ≡ w .function .header .localCount
     locals = C .locals ∙ omega arith
 
-    code : m .state .code - m .state .base ≡ length (w .function .instructions)
+    code : m .state .code - m .state .base ≡ length (w .function .code .instructions)
     code = omega (
       arith,
       C .code .count,
       C .base,
-      length-append earlier (codeEntries (w .function .instructions) (w .function .positions)),
-      code-length (w .function .instructions) (w .function .positions) (C .sized),
+      length-append earlier (codeEntries (w .function .code .instructions) (w .function .code .positions)),
+      code-length (w .function .code .instructions) (w .function .code .positions) (C .sized),
     )
 
 pub add-function-law : {full count : ℕ} (s : struct.FunctionState) (file name : ℕ) {l : List ℕ} {es : Entries} {t : Taken} {l′ : List ℕ}
-    → Took functionsArea full count (functionWords s file name) l t l′ → full ≡ 0 → Filled 8 l es count
-    → Grown functionsArea count (functionWords s file name) l es t l′
+    → Took functionsArea full count (functionStateWords s file name) l t l′ → full ≡ 0 → Filled 8 l es count
+    → Grown functionsArea count (functionStateWords s file name) l es t l′
 add-function-law s file name T z f = took-law T z f

@@ -17,7 +17,7 @@ use Rattle.building.specs.Taking.{Took, taken}
 use Rattle.building.specs.Found.{foundOf, firstFrom, isNamed, findContextLocalC, Passes}
 use Rattle.building.proofs.Passing.{passed-over}
 use Rattle.building.specs.Emission.{nextC}
-use Rattle.building.specs.Context.{localing, defineContextBy, defineContextC, setValueC, functionWords}
+use Rattle.building.specs.Context.{localing, defineContextBy, defineContextC, setValueC, functionStateWords}
 
 -- `find_within`
 pub names-passed : (name : ℕ) (w : List ℕ) {from end r : ℕ} → Passes w 4 1 name from end r
@@ -73,5 +73,5 @@ pub function-way : (full count : ℕ) (s : FunctionState) (file name : ℕ) (w :
     → {t : Taken} {after : List ℕ}
     → Took functionsArea full count
     (s .«parameter_count» ∷ s .«local_count» ∷ s .«rescue_position» ∷ mark ∷ s .base ∷ own ∷ file ∷ name ∷ []) w t after
-    → Took functionsArea full count (functionWords s file name) w t after
+    → Took functionsArea full count (functionStateWords s file name) w t after
 function-way full count s file name w m o took = rw (m, o) at took

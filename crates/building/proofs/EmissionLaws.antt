@@ -66,21 +66,21 @@ word-opcode i = omega arith
 -- what stands where nothing is full
 
 module _ {earlier : Entries} {m : Machine} {w : Work} (C : Contents earlier m w) where
-  pub code-count : m .state .code ≡ length earlier + length (w .function .instructions)
+  pub code-count : m .state .code ≡ length earlier + length (w .function .code .instructions)
   code-count =
       C .code .count
-      ∙ length-append earlier (codeEntries (w .function .instructions) (w .function .positions))
-      ∙ ap (λ (x : ℕ). length earlier + x) (code-length (w .function .instructions) (w .function .positions) (C .sized))
+      ∙ length-append earlier (codeEntries (w .function .code .instructions) (w .function .code .positions))
+      ∙ ap (λ (x : ℕ). length earlier + x) (code-length (w .function .code .instructions) (w .function .code .positions) (C .sized))
 
   -- an index is the definition's
   pub next-is : nextC (m .state) ≡ next w
   next-is = omega (arith, code-count, C .base)
 
-  last-some : (x : ℕ) → x < 2 → 0 < length (w .function .instructions)
-      → lastC x (coded (m .state) (m .code)) ≡ getD (word (last (w .function .instructions) nothing) ∷ getLastPosition (w .function) ∷ []) x 0
+  last-some : (x : ℕ) → x < 2 → 0 < length (w .function .code .instructions)
+      → lastC x (coded (m .state) (m .code)) ≡ getD (word (last (w .function .code .instructions) nothing) ∷ getLastPosition (w .function) ∷ []) x 0
   last-some x h q =
-      let is = w .function .instructions in
-      let ps = w .function .positions in
+      let is = w .function .code .instructions in
+      let ps = w .function .code .positions in
       let at : m .state .code - 1 ≡ length earlier + (length is - 1) = omega (arith, code-count) in
       let same : length is - 1 ≡ length ps - 1 = omega (arith, C .sized) in
       rw (lt-ltb (m .state .base) (m .state .code) (omega (arith, code-count, C .base)))
@@ -91,27 +91,27 @@ module _ {earlier : Entries} {m : Machine} {w : Work} (C : Contents earlier m w)
       ∙ code-entry is ps (length is - 1) (C .sized) (omega arith)
       ∙ ap (λ (j : ℕ). word (last is nothing) ∷ getD ps j 0 ∷ []) same))
 
-  last-none : (x : ℕ) → length (w .function .instructions) ≡ 0 → lastC x (coded (m .state) (m .code)) ≡ 0
+  last-none : (x : ℕ) → length (w .function .code .instructions) ≡ 0 → lastC x (coded (m .state) (m .code)) ≡ 0
   last-none x z = rw (le-ltb (m .state .base) (m .state .code) (omega (arith, code-count, C .base)))
 
   pub last-position-is : lastPositionC (coded (m .state) (m .code)) ≡ getLastPosition (w .function)
-  last-position-is = go (decLt 0 (length (w .function .instructions)))
+  last-position-is = go (decLt 0 (length (w .function .code .instructions)))
     where
-      go : Dec (0 < length (w .function .instructions)) → lastPositionC (coded (m .state) (m .code)) ≡ getLastPosition (w .function)
+      go : Dec (0 < length (w .function .code .instructions)) → lastPositionC (coded (m .state) (m .code)) ≡ getLastPosition (w .function)
       go (yes h) = last-some 1 (omega arith) h
       go (no h) =
           last-none 1 (omega arith)
-          ∙ sym (List·getD-eq-default (w .function .positions) 0 {n = length (w .function .positions) - 1} (omega (arith, C .sized)))
+          ∙ sym (List·getD-eq-default (w .function .code .positions) 0 {n = length (w .function .code .positions) - 1} (omega (arith, C .sized)))
 
   pub last-opcode-is : lastOpcodeC (coded (m .state) (m .code)) ≡ lastOpcode (w .function)
-  last-opcode-is = go (decLt 0 (length (w .function .instructions)))
+  last-opcode-is = go (decLt 0 (length (w .function .code .instructions)))
     where
-      go : Dec (0 < length (w .function .instructions)) → lastOpcodeC (coded (m .state) (m .code)) ≡ lastOpcode (w .function)
-      go (yes h) = ap (λ (x : ℕ). x / 2 ^ 56) (last-some 0 (omega arith) h) ∙ word-opcode (last (w .function .instructions) nothing)
+      go : Dec (0 < length (w .function .code .instructions)) → lastOpcodeC (coded (m .state) (m .code)) ≡ lastOpcode (w .function)
+      go (yes h) = ap (λ (x : ℕ). x / 2 ^ 56) (last-some 0 (omega arith) h) ∙ word-opcode (last (w .function .code .instructions) nothing)
       go (no h) =
           ap (λ (x : ℕ). x / 2 ^ 56) (last-none 0 (omega arith))
           ∙ ap (λ (i : Instruction). i .opcode)
-          (sym (List·getD-eq-default (w .function .instructions) nothing {n = length (w .function .instructions) - 1} (omega arith)))
+          (sym (List·getD-eq-default (w .function .code .instructions) nothing {n = length (w .function .code .instructions) - 1} (omega arith)))
 
 -- the same over the relation
 pub next-law : {κ : Limits} {earlier : Entries} {m : Machine} {w : Work} → Held κ earlier m w → m .state .full ≡ 0 → nextC (m .state) ≡ next w
@@ -167,7 +167,7 @@ held-merge {κ} {earlier} {m} {m₁} {m₂} {w} g f H z H₁ z₁ H₂ = record 
   breaks-cap = H₂ .breaks-cap;
   errors-cap = H₂ .errors-cap;
   full = subst
-      (λ (o : Option ℕ). Marks (orElse (orElse (orElse o (overBy κ (using′ codeArea (w .before + length (f .instructions)))))
+      (λ (o : Option ℕ). Marks (orElse (orElse (orElse o (overBy κ (using′ codeArea (w .before + length (f .code .instructions)))))
       (overBy κ (using′ scopeNamesArea (total (f .scopes))))) (overBy κ (using′ breaksArea (total (f .breakScopes))))) (m₂ .state .full))
       (none-over (H₁ .full) z₁ ∙ sym (none-over (H .full) z)) (H₂ .full);
   rest = λ z₂. contents-again _ (H₂ .rest z₂);
@@ -175,7 +175,7 @@ held-merge {κ} {earlier} {m} {m₁} {m₂} {w} g f H z H₁ z₁ H₂ = record 
 
 -- area 1 is full
 pub held-over : {κ : Limits} {earlier : Entries} {m : Machine} (m′ : Machine) {w : Work} (f : FunctionState) → Held κ earlier m w → m .state .full ≡ 0
-    → Capped κ m′ → m′ .state .full ≡ codeArea → limitOf κ codeArea < w .before + length (f .instructions) → Held κ earlier m′ (withFunction f w)
+    → Capped κ m′ → m′ .state .full ≡ codeArea → limitOf κ codeArea < w .before + length (f .code .instructions) → Held κ earlier m′ (withFunction f w)
 held-over {κ} m′ {w} f H z K z′ h = record {
   code-cap = K .code;
   constants-cap = K .constants;
@@ -204,13 +204,13 @@ module _ {κ : Limits} {earlier : Entries} {s : struct.FunctionState} {c k n b e
         ltb-false (s .code) (entriesIn 2 (length c)) l,
         code-count C,
         C .before,
-        length-append (w .function .instructions) (i ∷ []),
+        length-append (w .function .code .instructions) (i ∷ []),
       ))
   emit-go true d true l =
       let z = eqb-true (s .full) 0 d in
       let C = H .rest z in
-      let is = w .function .instructions in
-      let ps = w .function .positions in
+      let is = w .function .code .instructions in
+      let ps = w .function .code .positions in
       let r = ltb-true (s .code) (entriesIn 2 (length c)) l in
       let same : length (setEntry 2 (s .code) (x ∷ p ∷ []) c) ≡ length c =
       setEntry-length 2 (s .code) (x ∷ p ∷ []) c refl (room-fits 2 (s .code) (length c) r) in
@@ -260,12 +260,12 @@ code-init is ps h q =
     ∙ code-snoc (init is) (init ps) (last is nothing) (last ps 0) (omega (arith, init-length is, init-length ps))
 
 module _ {κ : Limits} {earlier : Entries} {s : struct.FunctionState} {c k n b e : List ℕ} {w : Work} (H : Held κ earlier (machine s c k n b e) w) where
-  pop-law : s .full ≡ 0 → 0 < length (w .function .instructions)
+  pop-law : s .full ≡ 0 → 0 < length (w .function .code .instructions)
       → Held κ earlier (codedMachine (popC (coded s c)) k n b e) (withFunction (method.popLast (w .function)) w)
   pop-law z q =
       let C = H .rest z in
-      let is = w .function .instructions in
-      let ps = w .function .positions in
+      let is = w .function .code .instructions in
+      let ps = w .function .code .positions in
       let es = earlier ++ codeEntries (init is) (init ps) in
       let x = word (last is nothing) ∷ last ps 0 ∷ [] in
       let split : earlier ++ codeEntries is ps ≡ es ++ (x ∷ []) =
@@ -282,17 +282,17 @@ module _ {κ : Limits} {earlier : Entries} {s : struct.FunctionState} {c k n b e
 
 -- `remove_pop_or_push_null`
 
-has-code : (f : FunctionState) → lastOpcode f ≡ Pop → 0 < length (f .instructions)
-has-code f q = go (decLt 0 (length (f .instructions)))
+has-code : (f : FunctionState) → lastOpcode f ≡ Pop → 0 < length (f .code .instructions)
+has-code f q = go (decLt 0 (length (f .code .instructions)))
   where
-    go : Dec (0 < length (f .instructions)) → 0 < length (f .instructions)
+    go : Dec (0 < length (f .code .instructions)) → 0 < length (f .code .instructions)
     go (yes h) = h
     go (no h) =
         absurd (omega (
           arith,
           q,
           ap (λ (i : Instruction). i .opcode)
-              (List·getD-eq-default (f .instructions) nothing {n = length (f .instructions) - 1} (omega arith)),
+              (List·getD-eq-default (f .code .instructions) nothing {n = length (f .code .instructions) - 1} (omega arith)),
         ))
 
 remove-is-pop : (f : FunctionState) → lastOpcode f ≡ Pop → method.removePopOrPushNull f ≡ method.popLast f
@@ -360,12 +360,12 @@ returned-full p m h = go (eqb (lastOpcodeC m) ReturnOp)
     go true = refl
     go false = sym (emit-full (word (toInstruction ReturnOp 0)) p m h)
 
-returned-longer : (p : ℕ) (g : FunctionState) → length (g .instructions) ≤ length (returned p g .instructions)
+returned-longer : (p : ℕ) (g : FunctionState) → length (g .code .instructions) ≤ length (returned p g .code .instructions)
 returned-longer p g = go (eqb (lastOpcode g) ReturnOp)
   where
-    go : (t : Bool) → length (g .instructions) ≤ length (cond t g (method.emitOpcode ReturnOp p g) .instructions)
+    go : (t : Bool) → length (g .code .instructions) ≤ length (cond t g (method.emitOpcode ReturnOp p g) .code .instructions)
     go true = omega arith
-    go false = omega (arith, length-append (g .instructions) (toInstruction ReturnOp 0 ∷ []))
+    go false = omega (arith, length-append (g .code .instructions) (toInstruction ReturnOp 0 ∷ []))
 
 -- area 1 is full, and the function's code is why
 pub record Overfull (κ : Limits) (m : Coded) (n : ℕ) : Type 0 where
@@ -383,7 +383,7 @@ module _ {κ : Limits} {earlier : Entries} {m : Machine} {k n b e : List ℕ} {w
       held-merge g (method.emitOpcode ReturnOp p g) H z H₁ z₁
       (emit-law (word (toInstruction ReturnOp 0)) p (toInstruction ReturnOp 0) p (λ _. refl) (λ _. refl) H₁)
 
-  return-step : ((g′ .state .full ≡ 0 → ⊥) → Overfull κ g′ (w .before + length (g .instructions)))
+  return-step : ((g′ .state .full ≡ 0 → ⊥) → Overfull κ g′ (w .before + length (g .code .instructions)))
       → Held κ earlier (codedMachine (returnedC p g′) k n b e) (withFunction (returned p g) w)
   return-step over = go (eqb (g′ .state .full) 0) refl
     where
@@ -400,13 +400,13 @@ module _ {κ : Limits} {earlier : Entries} {m : Machine} {k n b e : List ℕ} {w
 -- what fills area 1 when an instruction is emitted is the code with it
 module _ {κ : Limits} {earlier : Entries} {s : struct.FunctionState} {c k n b e : List ℕ} {w : Work} (H : Held κ earlier (machine s c k n b e) w) where
   pub emit-over : (x p : ℕ) (i : Instruction) → s .full ≡ 0 → (emitC x p (coded s c) .state .full ≡ 0 → ⊥)
-      → Overfull κ (emitC x p (coded s c)) (w .before + length (w .function .instructions ++ (i ∷ [])))
+      → Overfull κ (emitC x p (coded s c)) (w .before + length (w .function .code .instructions ++ (i ∷ [])))
   unfolding emitC
   emit-over x p i z h = go (ltb (s .code) (entriesIn 2 (length c))) refl (rw (eq-eqb (s .full) 0 z) at h)
     where
       go : (u : Bool) → ltb (s .code) (entriesIn 2 (length c)) ≡ u
           → (cond u (taken (s .full) (s .code + 1)) (taken codeArea (s .code)) .full ≡ 0 → ⊥)
-          → Overfull κ (emitC x p (coded s c)) (w .before + length (w .function .instructions ++ (i ∷ [])))
+          → Overfull κ (emitC x p (coded s c)) (w .before + length (w .function .code .instructions ++ (i ∷ [])))
       go true l h = absurd (h z)
       go false l h = record {
         mark = rw (eq-eqb (s .full) 0 z, l);
@@ -416,13 +416,13 @@ module _ {κ : Limits} {earlier : Entries} {s : struct.FunctionState} {c k n b e
           ltb-false (s .code) (entriesIn 2 (length c)) l,
           code-count (H .rest z),
           H .rest z .before,
-          length-append (w .function .instructions) (i ∷ []),
+          length-append (w .function .code .instructions) (i ∷ []),
         );
       }
 
   remove-over-go : s .full ≡ 0 → (t : Bool) → eqb (lastOpcode (w .function)) Pop ≡ t → (u : Bool) → eqb (lastOpcode (w .function)) ReturnOp ≡ u
       → (removePopC (coded s c) .state .full ≡ 0 → ⊥)
-      → Overfull κ (removePopC (coded s c)) (w .before + length (method.removePopOrPushNull (w .function) .instructions))
+      → Overfull κ (removePopC (coded s c)) (w .before + length (method.removePopOrPushNull (w .function) .code .instructions))
   remove-over-go z true p u q h =
       let r = eqb-true (lastOpcode (w .function)) Pop p in
       let same = remove-pop (coded s c) z (last-opcode-is (H .rest z) ∙ r) refl in

@@ -17,7 +17,7 @@ use Rattle.definition.specs.Uses.{Use, Limits, limitOf, overBy, firstOver, tota
 use Rattle.definition.specs.Compiler.{Work, withFunction}
 use Rattle.definition.specs.Program.{Entries, flat, filled, codeEntries, bit}
 use Rattle.definition.specs.Book.{hasText}
-use Rattle.definition.specs.Within.{All, none as nil, _&_}
+use Rattle.definition.specs.Within.{All, nil, _&_}
 use Rattle.definition.proofs.Lists.{all-append, all-set}
 use Rattle.definition.proofs.Cells.{Wide, all-at, flat-length, filled-word, single-length}
 use Rattle.words.specs.Opcode.{Instruction}
@@ -238,7 +238,7 @@ breaks-length (s ∷ ss) = length-append (breakEntries ss) (breakEntry s) ∙ om
 
 -- every count within its limit
 pub record Within (κ : Limits) (w : Work) : Type 0 where
-  pub code : w .before + length (w .function .instructions) ≤ limitOf κ codeArea
+  pub code : w .before + length (w .function .code .instructions) ≤ limitOf κ codeArea
   pub constants : length (w .context .constants) ≤ limitOf κ constantsArea
   pub names : total (w .function .scopes) ≤ limitOf κ scopeNamesArea
   pub breaks : total (w .function .breakScopes) ≤ limitOf κ breaksArea
@@ -263,8 +263,8 @@ noted-within {κ} {earlier} {m} {w} K C = record {
     C .code .count,
     C .code .room,
     C .before,
-    length-append earlier (codeEntries (w .function .instructions) (w .function .positions)),
-    code-length (w .function .instructions) (w .function .positions) (C .sized),
+    length-append earlier (codeEntries (w .function .code .instructions) (w .function .code .positions)),
+    code-length (w .function .code .instructions) (w .function .code .positions) (C .sized),
   );
   constants = omega (
     arith,

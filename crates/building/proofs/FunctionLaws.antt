@@ -74,7 +74,7 @@ done w = record {
   compiler = w .compiler;
   context = w .context;
   function = w .function;
-  before = w .before + length (w .function .instructions);
+  before = w .before + length (w .function .code .instructions);
   uses = w .uses;
 }
 
@@ -85,11 +85,11 @@ none-left (x ∷ es) h f = absurd (omega arith)
 module _ {κ : Limits} {E : Entries} {s : struct.FunctionState} {c k n b e : List ℕ} {w : Work} (H : Held κ E (machine s c k n b e) w) where
   -- no name and no break is left
   pub between-law : s .full ≡ 0 → total (w .function .scopes) ≡ 0 → total (w .function .breakScopes) ≡ 0
-      → Between (E ++ codeEntries (w .function .instructions) (w .function .positions)) (s .code) (s .constants) (s .errors) c k n b e (done w)
+      → Between (E ++ codeEntries (w .function .code .instructions) (w .function .code .positions)) (s .code) (s .constants) (s .errors) c k n b e (done w)
   between-law z no-names no-breaks =
       let C = H .rest z in
-      let is = w .function .instructions in
-      let ps = w .function .positions in
+      let is = w .function .code .instructions in
+      let ps = w .function .code .positions in
       record {
         before = rw (length-append E (codeEntries is ps), code-length is ps (C .sized), C .before);
         filled-code = C .code;

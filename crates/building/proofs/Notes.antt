@@ -92,7 +92,7 @@ over-more κ area m m′ h n e = go (ltb (limitOf κ area) m) refl e
 
 -- two steps on the function in the place of one: the first adds no name and no break, and the second has no less code
 pub held-renoted : {κ : Limits} {E E₀ : Entries} {m m₀ : Machine} {w : Work} (f g : FunctionState) → Held κ E₀ m₀ w
-    → length (f .instructions) ≤ length (g .instructions) → total (f .scopes) ≤ total (w .function .scopes)
+    → length (f .code .instructions) ≤ length (g .code .instructions) → total (f .scopes) ≤ total (w .function .scopes)
     → total (f .breakScopes) ≤ total (w .function .breakScopes) → Held κ E m (withFunction g (withFunction f w)) → Held κ E m (withFunction g w)
 unfolding firstOver
 held-renoted {κ} {m₀ = m₀} {w = w} f g H₀ code names breaks H = record {
@@ -111,6 +111,6 @@ held-renoted {κ} {m₀ = m₀} {w = w} f g H₀ code names breaks H = record {
     one : firstOver κ (withFunction g (withFunction f w) .uses) ≡ firstOver κ (withFunction g w .uses)
     one =
         merged (firstOver κ (w .uses)) _ _ _ _ _ _
-        (over-more κ codeArea (w .before + length (f .instructions)) (w .before + length (g .instructions)) (omega arith))
+        (over-more κ codeArea (w .before + length (f .code .instructions)) (w .before + length (g .code .instructions)) (omega arith))
         (λ q. rw (le-ltb (limitOf κ scopeNamesArea) (total (f .scopes)) (omega (arith, within q .names))))
         (λ q. rw (le-ltb (limitOf κ breaksArea) (total (f .breakScopes)) (omega (arith, within q .breaks))))

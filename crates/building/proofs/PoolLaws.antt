@@ -17,7 +17,7 @@ use Rattle.definition.specs.Uses.{Limits, using′}
 use Rattle.definition.specs.Book.{hasText}
 use Rattle.definition.specs.Compiler.{Work, Added, withConstants, addConstantNoCheck, addConstantBy, addConstant, findConstant, markGlobal, pushError}
 use Rattle.definition.specs.Program.{Entries, bit, constantEntry, errorEntry, entriesFrom}
-use Rattle.definition.specs.Within.{All, none as nil, _&_}
+use Rattle.definition.specs.Within.{All, nil, _&_}
 use Rattle.definition.proofs.Program.{added-case}
 use Rattle.definition.proofs.Cells.{single-length, single-at}
 use Rattle.building.specs.declared.function_state.FunctionState.{FunctionState}

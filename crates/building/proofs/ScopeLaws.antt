@@ -14,11 +14,11 @@ use borrow.Author.Tests.{eqb-true, eqb-false, eq-eqb, ltb-true, ltb-false}
 use Rattle.words.specs.Areas.{entriesIn, setEntry, scopeNamesArea}
 use Rattle.definition.specs.FunctionState as Emission
 use Rattle.definition.specs.FunctionState.{Entry, FunctionState, tail, innermost, findName, findLocal, enterScope, exitScope, insertName}
-use Rattle.definition.specs.FunctionState.{defineLocal, defineLocalBy, defineAnonymousLocal}
+use Rattle.definition.specs.FunctionState.{defineLocal, defineLocalIn, defineLocalBy, defineAnonymousLocal}
 use Rattle.definition.specs.Uses.{Use, Limits, limitOf, total}
 use Rattle.definition.specs.Compiler.{Work, withFunction, doing}
 use Rattle.definition.specs.Program.{Entries}
-use Rattle.definition.specs.Within.{none as nil}
+use Rattle.definition.specs.Within.{nil}
 use Rattle.building.specs.declared.scopes.Defined.{Defined}
 use Rattle.building.specs.declared.function_state.FunctionState as struct
 use Rattle.building.specs.Found.{foundOf, wrapped}
@@ -116,12 +116,12 @@ module _ {κ : Limits} {E : Entries} {s : struct.FunctionState} {c k n b e : Lis
       go true q =
           let z = eqb-true (s .full) 0 q in
           let C = H .rest z in
-          named-step z (s .names) (s .names) (s .«local_count») n ([] ∷ w .function .scopes) (w .function .localCount) refl
+          named-step z (s .names) (s .names) (s .«local_count») n ([] ∷ w .function .scopes) (w .function .header .localCount) refl
           (rw (append-nil (nameEntries (w .function .scopes))) (C .names)) (live z) (C .locals)
 
   -- `define_anonymous_local`: both counts wrap alike
-  one-more : s .full ≡ 0 → (s .«local_count» + 1) % 2 ^ 64 ≡ (w .function .localCount + 1) % 2 ^ 64
-  one-more z = rw (H .rest z .locals) (mod-add-mod (w .function .localCount) (2 ^ 64) 1)
+  one-more : s .full ≡ 0 → (s .«local_count» + 1) % 2 ^ 64 ≡ (w .function .header .localCount + 1) % 2 ^ 64
+  one-more z = rw (H .rest z .locals) (mod-add-mod (w .function .header .localCount) (2 ^ 64) 1)
 
   pub anonymous-law : {s′ : struct.FunctionState} → s′ ≡ defineAnonymousC s → Held κ E (machine s′ c k n b e) (doing defineAnonymousLocal w)
   anonymous-law same = rw same (go (eqb (s .full) 0) refl)
@@ -132,7 +132,7 @@ module _ {κ : Limits} {E : Entries} {s : struct.FunctionState} {c k n b e : Lis
       go true q =
           let z = eqb-true (s .full) 0 q in
           let C = H .rest z in
-          named-step z (s .names) (s .«scope_base») ((s .«local_count» + 1) % 2 ^ 64) n (w .function .scopes) (w .function .localCount + 1) refl
+          named-step z (s .names) (s .«scope_base») ((s .«local_count» + 1) % 2 ^ 64) n (w .function .scopes) (w .function .header .localCount + 1) refl
           (C .names) (C .scope) (one-more z)
 
   -- the innermost scope's names given up
@@ -160,7 +160,7 @@ module _ {κ : Limits} {E : Entries} {s : struct.FunctionState} {c k n b e : Lis
       go true p =
           let z = eqb-true (s .full) 0 p in
           named-step z (min (s .«scope_base») (s .names)) start (s .«local_count») (givenUp 2 (s .«scope_base») (s .names) n)
-          (tail (w .function .scopes)) (w .function .localCount) (simp length-sets) (ended z) (around z) (H .rest z .locals)
+          (tail (w .function .scopes)) (w .function .header .localCount) (simp length-sets) (ended z) (around z) (H .rest z .locals)
 
   -- the function's end: no name is left, and the definition's state goes
   pub end-law : {s′ : struct.FunctionState} {n′ : List ℕ} → naming s′ n′ ≡ endFunctionC (naming s n) → Held κ E (machine s′ c k n′ b e) (unnamed w)
@@ -183,7 +183,7 @@ module _ {κ : Limits} {E : Entries} {s : struct.FunctionState} {c k n b e : Lis
             breaks-cap = H .breaks-cap;
             errors-cap = H .errors-cap;
             full = H .full;
-            rest = λ y. contents-named 0 0 (s .«local_count») (givenUp 2 0 (s .names) n) ([] ∷ []) (w .function .localCount) (w .uses) C
+            rest = λ y. contents-named 0 0 (s .«local_count») (givenUp 2 0 (s .names) n) ([] ∷ []) (w .function .header .localCount) (w .uses) C
                 (filled-less [] (nameEntries (w .function .scopes)) (omega arith) nil (C .names)) refl (C .locals);
           }
 
@@ -192,7 +192,7 @@ module _ {κ : Limits} {E : Entries} {s : struct.FunctionState} {c k n b e : Lis
   -- the innermost scope has no such name
   module _ (name : ℕ) (open′ : isOpen (w .function .scopes) ≡ true) (q : eqb (s .full) 0 ≡ true) where
     abbrev entry : Entry
-    entry = record { name = name; index = w .function .localCount }
+    entry = record { name = name; index = w .function .header .localCount }
 
     abbrev grown : FunctionState
     grown = defineLocalBy none name (w .function) .state
@@ -207,7 +207,7 @@ module _ {κ : Limits} {E : Entries} {s : struct.FunctionState} {c k n b e : Lis
         let lt = ltb-true (s .names) (entriesIn 2 (length n)) h in
         rw q
         (named-step z (s .names + 1) (s .«scope_base») ((s .«local_count» + 1) % 2 ^ 64) (setEntry 2 (s .names) (name ∷ s .«local_count» ∷ []) n)
-        (insertName entry ss) (w .function .localCount + 1)
+        (insertName entry ss) (w .function .header .localCount + 1)
         (setEntry-length 2 (s .names) (name ∷ s .«local_count» ∷ []) n refl (room-fits 2 (s .names) (length n) lt))
         (rw (names-insert entry ss open′, ← C .locals) (filled-more (name ∷ s .«local_count» ∷ []) refl lt (C .names)))
         (rw (tail-insert entry ss) (C .scope)) (one-more z))
@@ -243,7 +243,8 @@ module _ {κ : Limits} {E : Entries} {s : struct.FunctionState} {c k n b e : Lis
     define-go op true q (some i) (some j) h =
         let z = eqb-true (s .full) 0 q in
         let C = H .rest z in
-        named-step z (s .names) (s .«scope_base») (s .«local_count») n (w .function .scopes) (w .function .localCount) refl (C .names) (C .scope) (C .locals)
+        named-step z (s .names) (s .«scope_base») (s .«local_count») n (w .function .scopes) (w .function .header .localCount) refl (C .names) (C .scope)
+        (C .locals)
 
     found-go : s .full ≡ 0 → (o p : Option ℕ) → o ≡ wrapped p
         → defineBy o name (naming s n) .found ≡ wrapped (defineLocalBy p name (w .function) .found)
@@ -252,18 +253,23 @@ module _ {κ : Limits} {E : Entries} {s : struct.FunctionState} {c k n b e : Lis
     found-go z (some i) none h = absurd (let y : _≡_ {A = ℕ} 0 1 = cc in omega arith)
     found-go z (some i) (some j) h = refl
 
+    -- where a scope is open, by what the innermost one has
+    define-in : (f : FunctionState) (ss : List (List Entry)) → isOpen ss ≡ true → defineLocalIn ss name f ≡ defineLocalBy (findName name (innermost ss)) name f
+    define-in f [] op = absurd (let z : _≡_ {A = ℕ} 0 1 = cc in omega arith)
+    define-in f (x ∷ ss) op = refl
+
   module _ {name : ℕ} {r : Defined} {n′ : List ℕ} (D : Defines name (naming s n) r n′) where
     pub define-law : isOpen (w .function .scopes) ≡ true → Held κ E (machine (r .state) c k n′ b e) (withFunction (defineLocal name (w .function) .state) w)
     unfolding defineC defineLocal
     define-law op =
-        rw (ap (λ (m : Naming). m .state) (D .memory), ap (λ (m : Naming). m .names) (D .memory))
+        rw (ap (λ (m : Naming). m .state) (D .memory), ap (λ (m : Naming). m .names) (D .memory), define-in name (w .function) (w .function .scopes) op)
         (define-go name op (eqb (s .full) 0) refl (findInScopeC name (naming s n)) (findName name (innermost (w .function .scopes))) (find-in-scope-law name))
 
-    pub define-found : s .full ≡ 0 → r .found ≡ foundOf (wrapped (defineLocal name (w .function) .found))
+    pub define-found : s .full ≡ 0 → isOpen (w .function .scopes) ≡ true → r .found ≡ foundOf (wrapped (defineLocal name (w .function) .found))
     unfolding defineC defineLocal
-    define-found z =
+    define-found z op =
         let same : defineC name (naming s n) .found ≡ wrapped (defineLocal name (w .function) .found) =
-        rw (eq-eqb (s .full) 0 z)
+        rw (eq-eqb (s .full) 0 z, define-in name (w .function) (w .function .scopes) op)
         (found-go name z (findInScopeC name (naming s n)) (findName name (innermost (w .function .scopes))) (find-in-scope-law name z)) in
         D .found ∙ ap foundOf same
 

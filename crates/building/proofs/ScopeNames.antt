@@ -14,7 +14,7 @@ use Rattle.words.specs.Areas.{entryField}
 use Rattle.definition.specs.FunctionState.{Entry, findName, findScopes, orElse, tail, innermost, insertName}
 use Rattle.definition.specs.Uses.{total}
 use Rattle.definition.specs.Program.{Entries}
-use Rattle.definition.specs.Within.{none as nil, _&_}
+use Rattle.definition.specs.Within.{nil, _&_}
 use Rattle.definition.proofs.Lists.{all-append}
 use Rattle.definition.proofs.Cells.{Wide}
 use Rattle.building.specs.Found.{findNewest, wrapped}

@@ -109,16 +109,17 @@ module _ {κ : Limits} {earlier : Entries} {s : struct.FunctionState} {c k n b e
   pub put-depth : (d d′ : ℕ) → (s .full ≡ 0 → d ≡ min mostDepth d′)
       → Held κ earlier (machine (depthC d s) c k n b e) (putFunction (method.withDepth d′ (w .function)) w)
   put-depth d d′ h = put-law H (withDepth d s) (method.withDepth d′ (w .function)) refl
-      (λ z. let C = H .rest z in fields-rest C d d′ _ _ _ _ _ _ (w .function .thisReads) (h z) (C .rescue) (C .is-instance) (C .parameters))
+      (λ z. let C = H .rest z in fields-rest C d d′ _ _ _ _ _ _ (w .function .log .thisReads) (h z) (C .rescue) (C .is-instance) (C .parameters))
 
   pub put-rescue : Held κ earlier (machine (rescueC s) c k n b e) (putFunction (method.withRescue (next w) (w .function)) w)
   put-rescue = put-law H (withRescue (nextC s) s) (method.withRescue (next w) (w .function)) refl
-      (λ z. let C = H .rest z in fields-rest C _ _ (nextC s) (next w) _ _ _ _ (w .function .thisReads) (C .depth) (next-is C) (C .is-instance) (C .parameters))
+      (λ z. let C = H .rest z in fields-rest C _ _ (nextC s) (next w) _ _ _ _ (w .function .log .thisReads) (C .depth) (next-is C) (C .is-instance)
+      (C .parameters))
 
   pub put-parameters : (i i′ : Bool) (p p′ : ℕ) → (s .full ≡ 0 → i ≡ i′) → (s .full ≡ 0 → p ≡ p′)
       → Held κ earlier (machine (parametersC i p s) c k n b e) (putFunction (method.withParameters i′ p′ (w .function)) w)
   put-parameters i i′ p p′ hi hp = put-law H (withParameters i p s) (method.withParameters i′ p′ (w .function)) refl
-      (λ z. let C = H .rest z in fields-rest C _ _ _ _ i i′ p p′ (w .function .thisReads) (C .depth) (C .rescue) (hi z) (hp z))
+      (λ z. let C = H .rest z in fields-rest C _ _ _ _ i i′ p p′ (w .function .log .thisReads) (C .depth) (C .rescue) (hi z) (hp z))
 
   -- `enter_break_scope`
   pub put-enter-break : Held κ earlier (machine (enterBreakC s) c k n b e) (putFunction (method.enterBreakScope (w .function)) w)

@@ -40,6 +40,6 @@ setValueC full count i constant w =
     cond (eqb full 0) (cond (ltb i count) (writeWord 4 i 3 constant (writeWord 4 i 2 1 w)) w) w
 
 -- a function's entry: `add_function`
-abbrev pub functionWords : FunctionState → ℕ → ℕ → List ℕ
-functionWords s file name =
+abbrev pub functionStateWords : FunctionState → ℕ → ℕ → List ℕ
+functionStateWords s file name =
     s .«parameter_count» ∷ s .«local_count» ∷ s .«rescue_position» ∷ bit (s .«is_instance») ∷ s .base ∷ nextC s ∷ file ∷ name ∷ []

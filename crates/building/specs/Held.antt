@@ -63,22 +63,23 @@ isOpen (x ∷ xs) = true
 -- where nothing is full: `earlier` is the code of the functions before this one
 pub record Contents (earlier : Entries) (m : Machine) (w : Work) : Type 0 where
   pub before : w .before ≡ length earlier
-  pub sized : length (w .function .positions) ≡ length (w .function .instructions)
-  pub code : Filled 2 (m .code) (earlier ++ codeEntries (w .function .instructions) (w .function .positions)) (m .state .code)
+  pub sized : length (w .function .code .positions) ≡ length (w .function .code .instructions)
+  pub code : Filled (widthOf codeArea) (m .code) (earlier ++ codeEntries (w .function .code .instructions) (w .function .code .positions)) (m .state .code)
   pub base : m .state .base ≡ length earlier
-  pub constants : Filled 3 (m .constants) (entriesFrom (constantEntry (w .context .globals)) 0 (w .context .constants)) (m .state .constants)
+  pub constants : Filled (widthOf constantsArea) (m .constants) (entriesFrom (constantEntry (w .context .globals)) 0 (w .context .constants))
+      (m .state .constants)
   pub marks : All (λ (n : ℕ). n < length (w .context .constants)) (w .context .globals)
-  pub names : Filled 2 (m .names) (nameEntries (w .function .scopes)) (m .state .names)
+  pub names : Filled (widthOf scopeNamesArea) (m .names) (nameEntries (w .function .scopes)) (m .state .names)
   pub scope : m .state .«scope_base» ≡ total (tail (w .function .scopes))
-  pub breaks : Filled 1 (m .breaks) (breakEntries (w .function .breakScopes)) (m .state .breaks)
+  pub breaks : Filled (widthOf breaksArea) (m .breaks) (breakEntries (w .function .breakScopes)) (m .state .breaks)
   pub loop : m .state .«break_base» ≡ total (tail (w .function .breakScopes))
   pub in-loop : m .state .«in_loop» ≡ isOpen (w .function .breakScopes)
-  pub errors : Filled 4 (m .errors) (entriesFrom errorEntry 0 (w .compiler .errors)) (m .state .errors)
+  pub errors : Filled (widthOf errorsArea) (m .errors) (entriesFrom errorEntry 0 (w .compiler .errors)) (m .state .errors)
   pub depth : m .state .depth ≡ min mostDepth (w .function .depth)
-  pub rescue : m .state .«rescue_position» ≡ w .function .rescuePosition
-  pub is-instance : m .state .«is_instance» ≡ w .function .isInstance
-  pub parameters : m .state .«parameter_count» ≡ w .function .parameterCount
-  pub locals : m .state .«local_count» ≡ w .function .localCount % 2 ^ 64
+  pub rescue : m .state .«rescue_position» ≡ w .function .header .rescuePosition
+  pub is-instance : m .state .«is_instance» ≡ w .function .header .isInstance
+  pub parameters : m .state .«parameter_count» ≡ w .function .header .parameterCount
+  pub locals : m .state .«local_count» ≡ w .function .header .localCount % 2 ^ 64
 
 -- the mark for the first note beyond its area; no area is 0, so that 0 is no area's mark
 pub data Marks : Option ℕ → ℕ → Type 0 where

@@ -6,7 +6,7 @@ ghost use Rattle.words.specs.Areas.{functionsArea};
 ghost use Rattle.definition.specs.Program.{bit};
 ghost use Rattle.building.specs.Found.{foundOf, findContextLocalC};
 ghost use Rattle.building.specs.Taking.{Took, taken};
-ghost use Rattle.building.specs.Context.{localing, defineContextC, setValueC, functionWords};
+ghost use Rattle.building.specs.Context.{localing, defineContextC, setValueC, functionStateWords};
 use crate::function_state;
 use crate::function_state::FunctionState;
 use crate::scopes::Found;
@@ -126,7 +126,7 @@ pub fn add_function(
     file: u64,
     name: u64,
 ) -> Taken
-    ensures { λ r. ⌜ Took functionsArea full count (functionWords state file name) (now (functions .entry)) r (now (functions .exit)) ⌝ }
+    ensures { λ r. ⌜ Took functionsArea full count (functionStateWords state file name) (now (functions .entry)) r (now (functions .exit)) ⌝ }
 {
     let mark = bit_of(state.is_instance);
     let length = function_state::get_next_instruction_index(state);

@@ -10,12 +10,10 @@ ghost use Rattle.building.specs.Emission.{emitReturnC, replaceC, dropC};
 ghost use Rattle.building.specs.Emission.{breaking, emitBreakC, enterBreakC, patchC, exitBreakC, deeperC, depthC, rescueC, parametersC};
 use crate::taking;
 use words::areas;
+use words::object::NULL_CONSTANT;
 use words::opcode::Instruction;
 use words::opcode::OPCODE_UNIT;
 use words::opcode::OpCode;
-
-// Where null stands among the constants: `Program::NULL_CONSTANT_INDEX`.
-pub const NULL_CONSTANT_INDEX: u64 = 0;
 
 // The opcodes that emission looks for: `OpCode::Pop` and `OpCode::Return`.
 const POP: u64 = 1;
@@ -149,7 +147,7 @@ pub fn emit_null(code: &mut [u64], state: FunctionState) -> FunctionState
     ensures { λ r. ⌜ coded r (now (code .exit)) ≡ emitNullC (coded state (now (code .entry))) ⌝ }
 {
     let last = get_last_position(code, state);
-    let instruction = OpCode::PushConstant.to_instruction(NULL_CONSTANT_INDEX);
+    let instruction = OpCode::PushConstant.to_instruction(NULL_CONSTANT);
     emit(code, state, instruction, last)
 }
 

@@ -11,16 +11,16 @@ use lib.Seq.{getD-append-add}
 use Rattle.words.specs.Areas.{entryWord}
 use Rattle.definition.specs.Uses.{sumOf}
 use Rattle.definition.specs.Program.{Entries, flat, filled, filledAll, entriesFrom}
-use Rattle.definition.specs.Within.{All, none, _&_}
+use Rattle.definition.specs.Within.{All, nil, _&_}
 use Rattle.definition.proofs.Lists.{all-append}
 
 pub all-at : {A : Type 0} {P : A → Type 0} {l : List A} → All P l → (i : ℕ) (d : A) → i < length l → P (getD l i d)
-all-at none i d h = absurd (omega arith)
+all-at nil i d h = absurd (omega arith)
 all-at (p & ps) zero d h = p
 all-at (p & ps) (suc i) d h = all-at ps i d (omega arith)
 
 pub all-any : {A : Type 0} (l : List A) → All (λ (x : A). Unit {0}) l
-all-any [] = none
+all-any [] = nil
 all-any (x ∷ l) = tt & all-any l
 
 -- entries of one width
@@ -29,13 +29,13 @@ abbrev pub Wide : ℕ → Entries → Type 0
 Wide width es = All (λ (e : List ℕ). length e ≡ width) es
 
 pub flat-length : (width : ℕ) {es : Entries} → Wide width es → length (flat es) ≡ length es * width
-flat-length width none = sym (zero-mul width)
+flat-length width nil = sym (zero-mul width)
 flat-length width (_&_ {x = e} {xs = es} h hs) = rw (length-append e (flat es), suc-mul (length es) width) (omega (arith, flat-length width hs))
 
 -- the words after the entries do not matter
 flat-word : (width : ℕ) {es : Entries} → Wide width es → (rest : List ℕ) (i k : ℕ) → i < length es → k < width
     → getD (flat es ++ rest) (i * width + k) 0 ≡ getD (getD es i []) k 0
-flat-word width none rest i k h q = absurd (omega arith)
+flat-word width nil rest i k h q = absurd (omega arith)
 flat-word width (_&_ {x = e} {xs = es} w ws) rest zero k h q =
     rw (append-assoc e (flat es) rest, zero-mul width, zero-add k) (List·getD-append e (flat es ++ rest) 0 k (omega arith))
 flat-word width (_&_ {x = e} {xs = es} w ws) rest (suc i) k h q =
@@ -65,7 +65,7 @@ pub data Wides : List ℕ → List Entries → Type 0 where
 infixr 30 _then_
 -- the table of an area
 pub wide-at : {ws : List ℕ} {ts : List Entries} → Wides ws ts → (area : ℕ) → Wide (getD ws area 0) (getD ts area [])
-wide-at end area = none
+wide-at end area = nil
 wide-at (w then ws) zero = w
 wide-at (w then ws) (suc area) = wide-at ws area
 
@@ -100,7 +100,7 @@ module _ {A : Type 0} where
   -- what holds of each entry, where the indices are below n
   pub entries-all : (f : ℕ → A → Entries) {P : A → Type 0} {Q : List ℕ → Type 0} {xs : List A} (n i : ℕ)
       → ((j : ℕ) (x : A) → j < n → P x → All Q (f j x)) → i + length xs ≤ n → All P xs → All Q (entriesFrom f i xs)
-  entries-all f n i each h none = none
+  entries-all f n i each h nil = nil
   entries-all f n i each h (_&_ {x = x} p ps) = all-append (each i x (omega arith) p) (entries-all f n (i + 1) each (omega arith) ps)
 
   pub entries-wide : (f : ℕ → A → Entries) (width i : ℕ) → ((j : ℕ) (x : A) → Wide width (f j x)) → (xs : List A) → Wide width (entriesFrom f i xs)
@@ -109,7 +109,7 @@ module _ {A : Type 0} where
   -- how many: the sum of what each gives
   pub entries-length : (f : ℕ → A → Entries) (g : A → ℕ) {P : A → Type 0} {xs : List A} (i : ℕ)
       → ((j : ℕ) (x : A) → P x → length (f j x) ≡ g x) → All P xs → length (entriesFrom f i xs) ≡ sumOf g xs
-  entries-length f g i each none = refl
+  entries-length f g i each nil = refl
   entries-length f g i each (_&_ {x = x} {xs = xs} p ps) =
       length-append (f i x) (entriesFrom f (i + 1) xs) ∙ omega (arith, each i x p, entries-length f g (i + 1) each ps)
 
@@ -129,7 +129,7 @@ module _ {A : Type 0} where
   pub entries-at : (f : ℕ → A → Entries) (g : A → ℕ) {P : A → Type 0} {xs : List A} (i : ℕ)
       → ((j : ℕ) (x : A) → P x → length (f j x) ≡ g x) → All P xs → (j p : ℕ) (d : A) → j < length xs → p < g (getD xs j d)
       → getD (entriesFrom f i xs) (sumOf g (take j xs) + p) [] ≡ getD (f (i + j) (getD xs j d)) p []
-  entries-at f g i each none j p d h q = absurd (omega arith)
+  entries-at f g i each nil j p d h q = absurd (omega arith)
   entries-at f g i each (_&_ {x = x} {xs = xs} a as′) zero p d h q =
       let same : i + 0 ≡ i = omega arith in
       rw (zero-add p, same) (List·getD-append (f i x) (entriesFrom f (i + 1) xs) [] p (omega (arith, each i x a)))

@@ -31,7 +31,7 @@ use Rattle.definition.specs.Book.{compileImplementDefinition, methodsOf,
 use Rattle.definition.specs.Book.{compileDocument, pushBookError, newContext, Deed}
 use Rattle.definition.specs.DependencySolver.{Worked, Delivered, dependencies, allIn, findDocument, readyBy, ready, without, afterBook, driveBy}
 use Rattle.definition.specs.DependencySolver.{drive, filesOf, loadedOf, compileNeeded}
-use Rattle.definition.specs.Within.{All, none, _&_}
+use Rattle.definition.specs.Within.{All, nil, _&_}
 use Rattle.definition.proofs.Lists.{all-append, cond-case}
 use Rattle.definition.proofs.Limits.{LimitedFunction, LimitedDocument, functionsIn}
 use Rattle.definition.proofs.Room.{room, room-limited}
@@ -43,8 +43,8 @@ use Rattle.definition.specs.Book
 
 -- one function
 pub record FunctionKept (s : FunctionState) : Type 0 where
-  pub small : All (Small mostRecords) (s .instructions)
-  pub locals : s .localCount < 2 ^ 56
+  pub small : All (Small mostRecords) (s .code .instructions)
+  pub locals : s .header .localCount < 2 ^ 56
 
 abbrev pub KeptFunctions : List Function → Type 0
 KeptFunctions fs = All (λ (f : Function). FunctionKept (f .state)) fs
@@ -52,7 +52,7 @@ KeptFunctions fs = All (λ (f : Function). FunctionKept (f .state)) fs
 -- the entries in use, by area; `own`: public names of the book under compilation, `left`: books that are still to come
 abbrev pub countsOf : Context → ℕ → ℕ → List ℕ
 countsOf c own left =
-    0 ∷ codeCount c ∷ length (c .pool .constants) ∷ functionCount c ∷ modelCount c ∷ propertyCount c ∷ length (c .methods) ∷ c .pool .localCount
+    0 ∷ codeCount c ∷ length (c .pool .constants) ∷ functionCount c ∷ modelCount c ∷ propertyCount c ∷ length (c .program .methods) ∷ c .pool .localCount
     ∷ (publicCount c + own) ∷ 0 ∷ 0 ∷ 0 ∷ (bookCount c + left) ∷ []
 
 sum-append : {A : Type 0} (f : A → ℕ) (l : List A) (x : A) → sumOf f (l ++ (x ∷ [])) ≡ sumOf f l + f x
@@ -70,7 +70,7 @@ module _ {A : Type 0} {S : ℕ → ℕ} {us : List Use} {area : ℕ} where
 -- what stood before stays as it was, `P`
 record BookKept (S : ℕ → ℕ) (P : Prior) (left : ℕ) (b : Book.Book) : Type 0 where
   prior : b .context .prior ≡ P
-  functions : KeptFunctions (b .context .functions)
+  functions : KeptFunctions (b .context .program .functions)
   counted : Counted S (b .uses) (countsOf (b .context) (length (b .assembly .publics)) left)
 
 record Keeping (S : ℕ → ℕ) (P : Prior) (left : ℕ) (d : Deed) : Type 0 where
@@ -80,7 +80,7 @@ record Keeping (S : ℕ → ℕ) (P : Prior) (left : ℕ) (d : Deed) : Type 0 wh
 record MadeKept (S : ℕ → ℕ) (P : Prior) (left : ℕ) (m : Made) : Type 0 where
   book : BookKept S P left (m .book)
   function : FunctionKept (m .state)
-  room : Noted S (m .book .uses) codeArea (codeCount (m .book .context) + length (m .state .instructions))
+  room : Noted S (m .book .uses) codeArea (codeCount (m .book .context) + length (m .state .code .instructions))
 
 -- properties of a model that is not yet added
 record PropertiesKept (S : ℕ → ℕ) (P : Prior) (left : ℕ) (p : Properties) : Type 0 where
@@ -170,8 +170,8 @@ module _ {S : ℕ → ℕ} {P : Prior} {left : ℕ} where
       record {
         prior = k .book .prior;
         functions = k .book .functions;
-        counted = counted-at propertiesArea _ (noted-sum _ (λ (x : Model). length (x .properties)) (b .context .models) m (noted-more (k .room)))
-            (counted-at modelsArea _ (noted-one _ (b .context .models) m) (counted-more (k .book .counted)));
+        counted = counted-at propertiesArea _ (noted-sum _ (λ (x : Model). length (x .properties)) (b .context .program .models) m (noted-more (k .room)))
+            (counted-at modelsArea _ (noted-one _ (b .context .program .models) m) (counted-more (k .book .counted)));
       }
 
   kept-model : (n : Token) (ts : List Token) (b : Book.Book) → BookKept S P left b → BookKept S P left (compileModelDefinition n ts b .book)
@@ -219,9 +219,10 @@ module _ {S : ℕ → ℕ} {P : Prior} {left : ℕ} where
       let f : Function = record { state = m .state; name = n; file = b .assembly .index } in
       record {
         prior = k .book .prior;
-        functions = all-append (k .book .functions) (k .function & none);
-        counted = counted-at codeArea _ (noted-sum _ (λ (x : Function). length (x .state .instructions)) (b .context .functions) f (noted-more (k .room)))
-            (counted-at functionsArea _ (noted-one _ (b .context .functions) f) (counted-more (k .book .counted)));
+        functions = all-append (k .book .functions) (k .function & nil);
+        counted = counted-at codeArea _ (noted-sum _ (λ (x : Function). length (x .state .code .instructions)) (b .context .program .functions) f
+            (noted-more (k .room)))
+            (counted-at functionsArea _ (noted-one _ (b .context .program .functions) f) (counted-more (k .book .counted)));
       }
 
   kept-plain : (o : Option ℕ) (s : FunctionState) (n : ℕ) (b : Book.Book) → BookKept S P left (addFunction s n b)
@@ -238,7 +239,7 @@ module _ {S : ℕ → ℕ} {P : Prior} {left : ℕ} where
       let d = defineContextLocal (f .name .value) b in
       let m = compileBase f (d .book) in
       let h = base-kept f l (d .book) (kept-define (f .name .value) b k) in
-      cond-case (λ (p : Placed). BookKept S P left (p .book)) (m .state .isInstance) (λ t. kept-error 8 (f .name) (m .book) (h .book))
+      cond-case (λ (p : Placed). BookKept S P left (p .book)) (m .state .header .isInstance) (λ t. kept-error 8 (f .name) (m .book) (h .book))
       (λ t. kept-plain (d .place) (m .state) (f .name .value) (m .book) (kept-added (f .name .value) m h))
 
   -- implement and apply
@@ -263,7 +264,7 @@ module _ {S : ℕ → ℕ} {P : Prior} {left : ℕ} where
   kept-compile-methods : (fs : List FunctionDefinition) → All LimitedFunction fs → (es : List Entry) (b : Book.Book) → BookKept S P left b
       → BookKept S P left (compileMethods fs es b .book)
   unfolding compileMethods
-  kept-compile-methods [] none es b k = k
+  kept-compile-methods [] nil es b k = k
   kept-compile-methods (f ∷ fs) (l & ls) es b k = kept-compile-methods fs ls _ _ (kept-added (f .name .value) (compileBase f b) (base-kept f l b k))
 
   -- documents
@@ -274,8 +275,8 @@ module _ {S : ℕ → ℕ} {P : Prior} {left : ℕ} where
   kept-definition (IncludeDefinition file l) h = kept-include (file .value) l
   kept-definition (ModelDefinition n ps) h = record { keeps = kept-model n ps }
   kept-definition (PublicModelDefinition n ps) h = record { keeps = λ b k. kept-publish (n .value) _ (kept-model n ps b k) }
-  kept-definition (PlainFunction f) (l & none) = record { keeps = kept-function f l }
-  kept-definition (PublicFunction f) (l & none) = record { keeps = λ b k. kept-publish (f .name .value) _ (kept-function f l b k) }
+  kept-definition (PlainFunction f) (l & nil) = record { keeps = kept-function f l }
+  kept-definition (PublicFunction f) (l & nil) = record { keeps = λ b k. kept-publish (f .name .value) _ (kept-function f l b k) }
   kept-definition (ImplementDefinition m fs) h = record {
     keeps = λ b k.
         let c = compileMethods fs [] b in
@@ -291,13 +292,13 @@ module _ {S : ℕ → ℕ} {P : Prior} {left : ℕ} where
 
   kept-definitions : (ds : List Definition) → All (λ d. All LimitedFunction (functionsIn d)) ds → Keeping S P left (compileDefinitions ds)
   unfolding compileDefinitions
-  kept-definitions [] none = record { keeps = λ b k. k }
+  kept-definitions [] nil = record { keeps = λ b k. k }
   kept-definitions (d ∷ ds) (h & hs) = kept-then (kept-definition d h) (kept-definitions ds hs)
 
 -- a context between books, with its notes
 pub record ContextKept (S : ℕ → ℕ) (P : Prior) (left : ℕ) (c : Context) (us : List Use) : Type 0 where
   pub prior : c .prior ≡ P
-  pub functions : KeptFunctions (c .functions)
+  pub functions : KeptFunctions (c .program .functions)
   pub counted : Counted S us (countsOf c 0 left)
 
 document-kept : {S : ℕ → ℕ} {P : Prior} {left : ℕ} (d : Document) (c : Context) (us : List Use) → LimitedDocument d → ContextKept S P (suc left) c us
@@ -318,7 +319,7 @@ document-kept {S} {P} {left} d c us h k =
 -- in the order of a bundle: a document that is ready is one of the bundle's
 
 find-document : {P : Document → Type 0} (n : ℕ) (d : Document) (l : List Document) → All P l → findDocument n l ≡ some d → P d
-find-document n d [] none e = absurd (let z : _≡_ {A = ℕ} 0 1 = cc in omega arith)
+find-document n d [] nil e = absurd (let z : _≡_ {A = ℕ} 0 1 = cc in omega arith)
 find-document {P} n d (x ∷ l) (p & ps) e = go (eqb (x .filename) n) (λ q. find-document n d l ps q) e
   where
     go : (b : Bool) → (findDocument n l ≡ some d → P d) → cond b (some x) (findDocument n l) ≡ some d → P d
@@ -369,11 +370,11 @@ files-length : (l : List Assembly) → length (filesOf l) ≡ length l
 files-length [] = refl
 files-length (a ∷ l) = ap suc (files-length l)
 
-numbers-length : (es : Entries) → length (fileNumbers es) ≡ length es
+pub numbers-length : (es : Entries) → length (fileNumbers es) ≡ length es
 numbers-length [] = refl
 numbers-length (e ∷ es) = ap suc (numbers-length es)
 
-loaded-length : (c : Context) → length (loadedOf c) ≡ bookCount c
+pub loaded-length : (c : Context) → length (loadedOf c) ≡ bookCount c
 loaded-length c =
     omega (arith, length-append (fileNumbers (c .prior .books)) (filesOf (c .assemblies)), numbers-length (c .prior .books), files-length (c .assemblies))
 
@@ -391,7 +392,7 @@ none-counted us = record { each = λ area. record { known = omega (arith, zeros 
 
 -- the whole work: each count of what is delivered is noted, or stood before
 module _ (numbers : List ℕ) (ds : List Document) (r : Context) (h : All LimitedDocument ds) where
-  pub standing-noted : (c : Context) → KeptFunctions (c .functions) → compileNeeded numbers ds c .ending ≡ Delivered r
+  pub standing-noted : (c : Context) → KeptFunctions (c .program .functions) → compileNeeded numbers ds c .ending ≡ Delivered r
       → ContextKept (standingIn c) (c .prior) 0 r (compileNeeded numbers ds c .uses)
   unfolding compileNeeded
   standing-noted c f e =
@@ -407,7 +408,7 @@ module _ (numbers : List ℕ) (ds : List Document) (r : Context) (h : All Limite
   fresh-noted e =
       drive-kept (length numbers) ds _ numbers newContext r _ h (record {
         prior = refl;
-        functions = none;
+        functions = nil;
         counted = counted-at booksArea _ noted-here (counted-at constantsArea _ (noted-more noted-here) (none-counted _));
       }) e
 

@@ -18,7 +18,7 @@ use Rattle.definition.specs.Prior.{Prior, nothingStands}
 use Rattle.definition.specs.Book.{Function, Context, newContext, codeOf, codeCount}
 use Rattle.definition.specs.Program.{Entries, tablesOf}
 use Rattle.definition.specs.Answer.{Delivery, limitsBy, limitsOf, answerFrom, answer}
-use Rattle.definition.specs.Within.{All, none, _&_, Class, Position, Slot, Read, Pool, ContextSlot, Other, classOf}
+use Rattle.definition.specs.Within.{All, nil, _&_, Class, Position, Slot, Read, Pool, ContextSlot, Other, classOf}
 use Rattle.definition.specs.Within.{logsOf, OnePositionEach, KeepsWithin}
 use Rattle.definition.proofs.Safe.{at, Each, counts, Counts, Within, FunctionSafe, ProgramSafe}
 use Rattle.definition.proofs.Lists.{all-map}
@@ -52,20 +52,20 @@ operand-fits ContextSlot c i n t l p g w s = omega arith
 operand-fits Other c i n t l p g w s = omega arith
 
 functions-fit : (K C n : ℕ) (fs : List Function) → K < 2 ^ 56 → C < 2 ^ 56 → n < 2 ^ 56 → codeOf fs ≤ n → All (λ (f : Function). FunctionSafe K C (f .state)) fs
-    → KeptFunctions fs → All (λ (f : Function). Each (λ i x. x .operand < 2 ^ 56) (f .state .instructions)) fs
-functions-fit K C n [] a b c h none none = none
+    → KeptFunctions fs → All (λ (f : Function). Each (λ i x. x .operand < 2 ^ 56) (f .state .code .instructions)) fs
+functions-fit K C n [] a b c h nil nil = nil
 functions-fit K C n (f ∷ fs) a b c h (s & ss) (k & ks) = here & functions-fit K C n fs a b c (omega arith) ss ks
   where
-    top : length (f .state .instructions) < 2 ^ 56
+    top : length (f .state .code .instructions) < 2 ^ 56
     top = omega arith
 
-    here : Each (λ i x. x .operand < 2 ^ 56) (f .state .instructions)
-    here i q = operand-fits (classOf (at (f .state .instructions) i .opcode)) _ i _ top (k .locals) a b (s .fits i q) (all-at (k .small) i nothing q)
+    here : Each (λ i x. x .operand < 2 ^ 56) (f .state .code .instructions)
+    here i q = operand-fits (classOf (at (f .state .code .instructions) i .opcode)) _ i _ top (k .locals) a b (s .fits i q) (all-at (k .small) i nothing q)
 
 -- a context that lies within areas of those lengths, with functions as they are compiled
 pub record Stands (lengths : List ℕ) (c : Context) : Type 0 where
   pub safe : ProgramSafe c
-  pub functions : KeptFunctions (c .functions)
+  pub functions : KeptFunctions (c .program .functions)
   pub fits : (area : ℕ) → standingIn c area ≤ limitOf (limitsOf lengths) area
 
 stands : {S : ℕ → ℕ} {P : Prior} {us : List Use} (lengths : List ℕ) (r : Context) → ((area : ℕ) → S area ≤ limitOf (limitsOf lengths) area)
@@ -79,7 +79,7 @@ stands {S} {P} {us} lengths r h e k s = record {
 pub stands-fits : (lengths : List ℕ) (c : Context) → Stands lengths c → OperandsFit c
 stands-fits lengths c s =
     let low : (area : ℕ) → standingIn c area < 2 ^ 56 = λ area. let x = s .fits area in omega (arith, limits-capped widths lengths area) in
-    functions-fit (length (c .pool .constants)) (c .pool .localCount) (codeCount c) (c .functions) (low constantsArea) (low contextLocalsArea)
+    functions-fit (length (c .pool .constants)) (c .pool .localCount) (codeCount c) (c .program .functions) (low constantsArea) (low contextLocalsArea)
     (low codeArea) (omega arith) (all-map (λ f p. p .0) (s .safe .parts .functions)) (s .functions)
 
 -- on a fresh context
@@ -118,9 +118,9 @@ standing-fits w lengths c r s e = stands-fits lengths r (standing-stands w lengt
 
 -- demand 3 of the words, with no premise on operands
 pub answer-keeps : (w lengths : List ℕ) (c : Context) → length lengths ≡ 13 → answer w lengths ≡ Delivery c
-    → KeepsWithin (delivered lengths c) 0 (logsOf (c .functions))
+    → KeepsWithin (delivered lengths c) 0 (logsOf (c .program .functions))
 answer-keeps w lengths c n e =
-    subst (λ (p : Prior). KeepsWithin (delivered lengths c) (length (p .functions)) (logsOf (c .functions))) (answer-prior w lengths c e)
+    subst (λ (p : Prior). KeepsWithin (delivered lengths c) (length (p .functions)) (logsOf (c .program .functions))) (answer-prior w lengths c e)
     (delivery-keeps w lengths c n e (answer-fits w lengths c e))
 
 pub standing-answer-keeps : (w lengths : List ℕ) (c r : Context) → length lengths ≡ 13 → Stands lengths c → answerFrom c w lengths ≡ Delivery r
@@ -128,7 +128,7 @@ pub standing-answer-keeps : (w lengths : List ℕ) (c r : Context) → length le
 standing-answer-keeps w lengths c r n s e = standing-keeps c w lengths r n e (s .safe) (standing-fits w lengths c r s e)
 
 -- every function of a delivery has exactly one position for each instruction
-pub one-position-each : (w lengths : List ℕ) (c : Context) → answer w lengths ≡ Delivery c → OnePositionEach (c .functions)
+pub one-position-each : (w lengths : List ℕ) (c : Context) → answer w lengths ≡ Delivery c → OnePositionEach (c .program .functions)
 one-position-each w lengths c e = all-map (λ f s. s .0 .sized) (answer-stands w lengths c e .safe .parts .functions)
 
 -- the entries of each area are within what was lent

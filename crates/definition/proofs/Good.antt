@@ -14,7 +14,7 @@ use Rattle.words.specs.Ast.{Token, Expression, Expressions, Variables, Statemen
 use Rattle.words.specs.Ast.{Identifier, This, Null, Integer, Float, Text, Boolean, Array, Prefix, Infix, If, IfElse, Call, InstanceGet, IndexGet}
 use Rattle.words.specs.Ast.{∅ₑ, _∷ₑ_, ∅ᵥ, Bare, Valued, Local, Return, For, Break, Rescue, Expr, ∅ₛ, _∷ₛ_}
 use Rattle.words.specs.Opcode.{Instruction, toInstruction, nothing}
-use Rattle.definition.specs.FunctionState.{FunctionState, Entry, pushBreaks, innermost, tail, lastOpcode, init, popLast, removePopOrPushNull}
+use Rattle.definition.specs.FunctionState.{FunctionState, Entry, pushBreaks, tail, lastOpcode, init, popLast, removePopOrPushNull}
 use Rattle.definition.specs.FunctionState.{emitReturn, emitBreak, exitBreakScope, defineLocal, Defined, findName, getNextInstructionIndex}
 use Rattle.definition.specs.FunctionState.{getLastPosition, withRescue, withDepth, withParameters}
 use Rattle.definition.specs.Within.{Loop}
@@ -34,7 +34,7 @@ use Rattle.definition.specs.Compiler.{compilePrefixExpression, compileIn
 use Rattle.definition.specs.Compiler.{compilePair, compileAssignName}
 use Rattle.definition.specs.Compiler.{compileThisExpression, compileIdentifierExpression, emitName, compileNullExpression, compileBooleanExpression}
 use Rattle.definition.specs.Compiler.{compileStringExpression, compileFloatExpression, compileIntegerExpression, emitGlobal, emitConstant}
-use Rattle.definition.specs.Within.{All, none, _&_, loopsOf, breaksOf, exitsOf, readTrace, Among, here, there, InLoop, classOf}
+use Rattle.definition.specs.Within.{All, nil, _&_, loopsOf, breaksOf, exitsOf, readTrace, Among, here, there, InLoop, classOf}
 use Rattle.definition.proofs.Safe.{at, Each, Landed, Safe, countsOf, Counts, Within, Fits}
 use Rattle.definition.proofs.Lists.{all-map, all-append, Kept, Fresh, kept-refl, kept-trans, fresh-ge, fresh-trans, kept-append, kept-set}
 use Rattle.definition.proofs.Lists.{kept-patch, kept-init, cond-case}
@@ -223,7 +223,7 @@ part-yields {a} A = record {
   moves = Moves.part-moves (A .moves);
   gives = λ w g e.
       let w₁ = doing Emission.enterScope w in
-      let g₂ : Good (a w₁) = A .goes w₁ (good-function g (sound-scopes (w .function) _ _ (g .sound) (le-refl _) (none & g .sound .scopes))) e in
+      let g₂ : Good (a w₁) = A .goes w₁ (good-function g (sound-scopes (w .function) _ _ (g .sound) (le-refl _) (nil & g .sound .scopes))) e in
       let s : Sound _ _ (Emission.exitScope (a w₁ .function)) = sound-scopes (a w₁ .function) _ _ (g₂ .sound) (le-refl _) (all-tail (g₂ .sound .scopes)) in
       good-solid (good-function g₂ s) (sound-close (g₂ .pool) _ s);
 }
@@ -254,7 +254,7 @@ good-fields n b m g = record {
 }
 
 good-depth : {w : Work} (n : ℕ) → Good w → Good (withFunction (withDepth n (w .function)) w)
-good-depth {w} n g = good-fields n (w .function .isInstance) (w .function .parameterCount) g
+good-depth {w} n g = good-fields n (w .function .header .isInstance) (w .function .header .parameterCount) g
 
 pub deeper-compiles : {a : Step} → Compiles a → Compiles (deeper a)
 unfolding deeper
@@ -281,11 +281,11 @@ rescue-compiles t = record {
     rescued : {K C : ℕ} (w : Work) → SoundSolid K C (emitReturn (t .position) (w .function))
         → Sound K C (withRescue (getNextInstructionIndex (emitReturn (t .position) (w .function))) (emitReturn (t .position) (w .function)))
     rescued w s = record {
-      reach = length (emitReturn (t .position) (w .function) .instructions);
+      reach = length (emitReturn (t .position) (w .function) .code .instructions);
       sized = s .sound .sized;
       low = le-refl _;
       room = λ q. absurd (s .solid .no-pop q);
-      fits = fits-mono (emitReturn (t .position) (w .function) .instructions)
+      fits = fits-mono (emitReturn (t .position) (w .function) .code .instructions)
           (record { tops = s .sound .low; slots = le-refl _; pools = le-refl _; globals = le-refl _; reads = λ i a. a }) (s .sound .fits);
       rescue = le-refl _;
       scopes = s .sound .scopes;
@@ -390,10 +390,11 @@ good-entered w g = good-function g (record {
   sized = s .sized;
   low = s .low;
   room = s .room;
-  fits = fits-mono (f .instructions) (record { tops = le-refl _; slots = omega arith; pools = le-refl _; globals = le-refl _; reads = λ i a. a }) (s .fits);
+  fits = fits-mono (f .code .instructions) (record { tops = le-refl _; slots = omega arith; pools = le-refl _; globals = le-refl _; reads = λ i a. a })
+      (s .fits);
   rescue = s .rescue;
-  scopes = none & all-map (λ es qs. all-map (λ e q. omega arith) qs) (s .scopes);
-  breaks = none & s .breaks;
+  scopes = nil & all-map (λ es qs. all-map (λ e q. omega arith) qs) (s .scopes);
+  breaks = nil & s .breaks;
   loops = s .loops;
   traced = ap (λ l. [] ∷ l) (s .traced);
   belongs = all-map (λ b q. deep q) (s .belongs);
@@ -411,7 +412,7 @@ good-entered w g = good-function g (record {
 
 -- an opcode over a local that was there at w
 slot-emit : {waiting : List ℕ} {w v : Work} (o n p : ℕ) → ((d : Counts) (i n : ℕ) → n < d .locals → Within (classOf o) d i n) → o ≢ 1
-    → MovesBut waiting w v → n < w .function .localCount → Good v → GoodSolid (emit (toInstruction o n) p v)
+    → MovesBut waiting w v → n < w .function .header .localCount → Good v → GoodSolid (emit (toInstruction o n) p v)
 slot-emit {w = w} {v = v} o n p f d m h g = good-emit v o n p g (f _ _ _ (le-trans h (m .locals))) d
 
 -- the enumerable a, the statements b
@@ -420,8 +421,8 @@ unfolding compileForStatement entered
 for-compiles {a} {b} A B t i = record {
   moves = for-moves (A .moves) (B .moves) t i;
   goes = λ w h e.
-      let x = w .function .localCount in
-      let y = w .function .localCount + 1 in
+      let x = w .function .header .localCount in
+      let y = w .function .header .localCount + 1 in
       let p = t .position in
       let w₁ = withFunction (entered (w .function)) w in
       let w₂ = a w₁ in
@@ -463,7 +464,7 @@ for-compiles {a} {b} A B t i = record {
       let g₆ : Good w₆ = good-function g₅ (sound-define (i .value) (w₅ .function) (g₅ .sound)) in
       let g₇ : GoodSolid w₇ = slot-emit ForNext x p fit (omega arith) m₆ (omega arith) g₆ in
       let g₈ : GoodSolid w₈ = good-emit w₇ JumpIf 0 _ (g₇ .good) (omega arith) (omega arith) in
-      let z : getOr 0 (d .found) < d .state .localCount = slot (i .value) (w₅ .function) (le-trans (omega arith) (m₅ .locals)) in
+      let z : getOr 0 (d .found) < d .state .header .localCount = slot (i .value) (w₅ .function) (le-trans (omega arith) (m₅ .locals)) in
       let g₉ : Good w₉ = good-pop u₉ (good-emit w₈ LocalSet (getOr 0 (d .found)) (i .position) (g₈ .good) z (omega arith)) in
       let k₁ : Good v₁ = B .goes w₉ g₉ e in
       let k₂ : GoodSolid v₂ = slot-emit Iterate y _ fit (omega arith) o₁ (omega arith) k₁ in
@@ -479,8 +480,8 @@ for-compiles {a} {b} A B t i = record {
       let l₄ : length (code v₄) ≡ length (code v₃) = length-set (code v₃) exit (toInstruction JumpIf (next v₃)) in
       let a₄ : at (code v₄) exit ≡ toInstruction JumpIf (length (code v₄)) = getD-set-same (code v₃) exit (toInstruction JumpIf (next v₃)) nothing (b₃ .0)
       ∙ ap (toInstruction JumpIf) (sym l₄) in
-      let outer : All (All (Pending (exitBreakScope exit (v₄ .function) .instructions))) (tail (v₄ .function .breakScopes)) =
-      subst (All (All (Pending (exitBreakScope exit (v₄ .function) .instructions)))) (sym (ap tail (o₃ .breaks)))
+      let outer : All (All (Pending (exitBreakScope exit (v₄ .function) .code .instructions))) (tail (v₄ .function .breakScopes)) =
+      subst (All (All (Pending (exitBreakScope exit (v₄ .function) .code .instructions)))) (sym (ap tail (o₃ .breaks)))
       (all-map (λ bs ps. all-map (pending-kept (for-moves (A .moves) (B .moves) t i w .kept)) ps) (h .sound .breaks)) in
       let s₅ = sound-exit (v₄ .function) exit s₄ (omega (arith, b₃ .0, l₄), a₄) outer in
       let g₄ : Good v₄ = good-function (k₃ .good) (s₄ .sound) in
@@ -488,10 +489,10 @@ for-compiles {a} {b} A B t i = record {
       good-function g₅ (sound-scopes _ _ _ (s₅ .sound) (le-refl _) (all-tail (s₅ .sound .scopes)));
 }
   where
-    slot : (n : ℕ) (f : FunctionState) → 0 < f .localCount → getOr 0 (defineLocal n f .found) < defineLocal n f .state .localCount
+    slot : (n : ℕ) (f : FunctionState) → 0 < f .header .localCount → getOr 0 (defineLocal n f .found) < defineLocal n f .state .header .localCount
     slot n f h = go (defineLocal n f .found) refl
       where
-        go : (o : Option ℕ) → defineLocal n f .found ≡ o → getOr 0 o < defineLocal n f .state .localCount
+        go : (o : Option ℕ) → defineLocal n f .found ≡ o → getOr 0 o < defineLocal n f .state .header .localCount
         go none e = le-trans h (Moves.define-same n f .1)
         go (some k) e = define-found n k f e
 
@@ -501,7 +502,7 @@ this-yields t = record {
   moves = Moves.this-moves t;
   gives = λ w g e.
       let f = w .function in
-      let reads : List ℕ = f .thisReads ++ (length (f .instructions) ∷ []) in
+      let reads : List ℕ = f .log .thisReads ++ (length (f .code .instructions) ∷ []) in
       let s = g .sound in
       let s′ : Sound (length (w .context .constants)) (w .context .localCount)
       (Emission.withThisReads reads f) = record {
@@ -509,7 +510,7 @@ this-yields t = record {
         sized = s .sized;
         low = s .low;
         room = s .room;
-        fits = fits-mono (f .instructions) (record {
+        fits = fits-mono (f .code .instructions) (record {
           tops = le-refl _;
           slots = le-refl _;
           pools = le-refl _;
@@ -524,7 +525,7 @@ this-yields t = record {
         belongs = s .belongs;
       } in
       record {
-        good = good-function g (sound-emit (toInstruction LocalGet 0) (t .position) s′ (read (f .localCount) reads (latest (f .thisReads)))
+        good = good-function g (sound-emit (toInstruction LocalGet 0) (t .position) s′ (read (f .header .localCount) reads (latest (f .log .thisReads)))
             (λ q. absurd (omega arith)));
         solid = solid-emit (Emission.withThisReads reads f) (toInstruction LocalGet 0) (t .position) (omega arith);
       };
@@ -676,11 +677,11 @@ good-new w r = record {
     room = λ e. absurd (omega arith);
     fits = λ i h. absurd (omega arith);
     rescue = omega arith;
-    scopes = none & none;
-    breaks = none;
-    loops = none;
+    scopes = nil & nil;
+    breaks = nil;
+    loops = nil;
     traced = refl;
-    belongs = none;
+    belongs = nil;
   };
   pool = r .pool;
   names = r .names;
@@ -691,7 +692,7 @@ nowhere : {b : ℕ} → InSome b [] → ⊥
 nowhere q = elim q [ ]
 
 pub safe-of-good : (w : Work) → Good w → w .function .breakScopes ≡ []
-    → ((i : ℕ) → Moves.Next (code w) i → Among (i + 1) (exitsOf (loopsOf (w .function .trace)))) → Safe w
+    → ((i : ℕ) → Moves.Next (code w) i → Among (i + 1) (exitsOf (loopsOf (w .function .log .trace)))) → Safe w
 safe-of-good w g c n = record {
   sized = g .sound .sized;
   fits = fits-mono (code w)
@@ -703,7 +704,7 @@ safe-of-good w g c n = record {
   nexts = λ i h e. n i (h, e);
 }
   where
-    closed : {b : ℕ} → InSome b (w .function .breakScopes) ⊎ InLoop b (loopsOf (w .function .trace)) → InLoop b (loopsOf (w .function .trace))
+    closed : {b : ℕ} → InSome b (w .function .breakScopes) ⊎ InLoop b (loopsOf (w .function .log .trace)) → InLoop b (loopsOf (w .function .log .trace))
     closed (inl q) = absurd (nowhere (subst (InSome _) c q))
     closed (inr q) = q
 
@@ -732,8 +733,8 @@ function-safe ps body w r e = safe-of-good _ (function-good ps body w r e) (func
     v : Work
     v = compileFunctionDefinitionBase ps body w
 
-    known : (i : ℕ) → (Moves.Next [] i ⊎ Among i []) ⊎ Among (i + 1) (exitsOf (loopsOf (v .function .trace)))
-        → Among (i + 1) (exitsOf (loopsOf (v .function .trace)))
+    known : (i : ℕ) → (Moves.Next [] i ⊎ Among i []) ⊎ Among (i + 1) (exitsOf (loopsOf (v .function .log .trace)))
+        → Among (i + 1) (exitsOf (loopsOf (v .function .log .trace)))
     known i (inl (inl q)) = absurd (let h : i < 0 = q .0 in omega arith)
     known i (inl (inr q)) = absurd (elim q [ ])
     known i (inr q) = q

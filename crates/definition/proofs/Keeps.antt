@@ -18,17 +18,17 @@ use Rattle.words.specs.Object.{Constant, modelKind, functionKind}
 use lib.Dec.{T, eqb, ltb, leb, leb→le, ltb→lt, eqb→eq}
 use Rattle.words.specs.Opcode.{Instruction, unword, word, LocalGet}
 use Rattle.definition.specs.Uses.{sumOf}
-use Rattle.definition.specs.FunctionState.{FunctionState, Entry, findName}
+use Rattle.definition.specs.FunctionState.{FunctionState, Entry, Log, findName}
 use Rattle.definition.specs.Book.{Function, Context, hasText, codeOf, functionCount, modelCount, bookCount}
 use Rattle.definition.specs.Program.{Entries, bit, entriesFrom, functionCode, constantEntry, functionEntry, functionEntries, modelEntry, propertyEntries}
 use Rattle.definition.specs.Program.{modelProperties, methodEntry, localWords, localEntry, publicEntries, assemblyPublics, bookEntry, tablesOf}
 use Rattle.definition.specs.Program.{globalDependencies, filledAll}
 use Rattle.definition.specs.Answer.{Delivery, replyOf, areasOf}
-use Rattle.definition.specs.Within.{All, none, _&_, Areas, Totals, Program, totalOf, total, present, cell, field, instructionAt, startOf, lengthOf}
+use Rattle.definition.specs.Within.{All, nil, _&_, Areas, Totals, Program, totalOf, total, present, cell, field, instructionAt, startOf, lengthOf}
 use Rattle.definition.specs.Within.{localsOf, instructionOf, Class, Position, Slot, Read, Pool, ContextSlot, Other, classOf, boundByTotals}
-use Rattle.definition.specs.Within.{boundByFunction, has, where′, allBelow, operandBound, codeBound, constantBound, functionBound, modelBound}
+use Rattle.definition.specs.Within.{boundByFunction, hasInstruction, where′, allBelow, codeBound, constantBound, functionBound, modelBound}
 use Rattle.definition.specs.Within.{propertyBound, methodBound, localBound, publicBound, entryBound, areaBound, entryPointBound, Among, Loop, Lands}
-use Rattle.definition.specs.Within.{Log, noLog, logOf, logsOf, FunctionLogged, marked, KeepsWithin}
+use Rattle.definition.specs.Within.{logsOf, FunctionLogged, marked, KeepsWithin}
 use Rattle.definition.proofs.Safe.{at, Landed, Counts, Within, Fits, counts, EntryWithin, FunctionSafe, LooseBy, Loose, standingCounts, StandingSafe}
 use Rattle.definition.proofs.Safe.{PriorSafe, PriorWide, below, ProgramSafe}
 use Rattle.definition.proofs.Tests.{Test, both, or-first, or-second, where-holds, less, at-most, equal, passes, all-below, first-of, second-of}
@@ -80,7 +80,7 @@ module _ {p : Program} {this : List ℕ} {j : ℕ} (f : FunctionWithin p this j)
       (at-most (field p functionsArea j rescueWord) (lengthOf p j) (f .rescue))) (less (field p functionsArea j functionFileWord) (total p booksArea) (f .file))
 
   -- an entry of area 1 that the function has
-  operand-bound : (i : ℕ) → T (has p j i)
+  operand-bound : (i : ℕ) → T (hasInstruction p j i)
       → Test (boundByFunction (classOf (instructionAt (p .areas) i .opcode)) p j (instructionAt (p .areas) i .operand))
   operand-bound i t =
       let from : startOf p j ≤ i = leb→le (startOf p j) i (first-of (leb (startOf p j) i) (ltb i (startOf p j + lengthOf p j)) t) in
@@ -101,13 +101,13 @@ loose-test Slot p n a b h = passes
 loose-test Read p n a b h = passes
 loose-test Other p n a b h = passes
 
-module _ {K C n : ℕ} {at′ : ℕ → Instruction} {f : FunctionState} (safe : FunctionSafe K C f) (long : n ≡ length (f .instructions))
-    (same : (i : ℕ) → i < length (f .instructions) → at′ i ≡ at (f .instructions) i) where
+module _ {K C n : ℕ} {at′ : ℕ → Instruction} {f : FunctionState} (safe : FunctionSafe K C f) (long : n ≡ length (f .code .instructions))
+    (same : (i : ℕ) → i < length (f .code .instructions) → at′ i ≡ at (f .code .instructions) i) where
   -- just after a loop is within the function, as it is the operand of the loop's exit
-  lands : (e : Loop) → Landed (f .instructions) e → Lands at′ n e
+  lands : (e : Loop) → Landed (f .code .instructions) e → Lands at′ n e
   lands e r =
-      let inside : e .after ≤ length (f .instructions) =
-      subst (λ (x : Instruction). Fits (counts (length (f .instructions)) K C f) (e .exit) x) (r .exit-lands .1)
+      let inside : e .after ≤ length (f .code .instructions) =
+      subst (λ (x : Instruction). Fits (counts (length (f .code .instructions)) K C f) (e .exit) x) (r .exit-lands .1)
       (safe .fits (e .exit) (r .exit-lands .0)) in
       record {
         exit-lands = (omega (arith, r .exit-lands .0), same (e .exit) (r .exit-lands .0) ∙ r .exit-lands .1);
@@ -116,8 +116,8 @@ module _ {K C n : ℕ} {at′ : ℕ → Instruction} {f : FunctionState} (safe :
       }
 
 module _ (p : Program) (c : Context) (safe : ProgramSafe c) (fit : OperandsFit c)
-    (code : Holds (p .areas) (p .totals) codeArea (c .prior .code ++ entriesFrom functionCode 0 (c .functions)))
-    (functions : Holds (p .areas) (p .totals) functionsArea (c .prior .functions ++ functionEntries (length (c .prior .code)) (c .functions)))
+    (code : Holds (p .areas) (p .totals) codeArea (c .prior .code ++ entriesFrom functionCode 0 (c .program .functions)))
+    (functions : Holds (p .areas) (p .totals) functionsArea (c .prior .functions ++ functionEntries (length (c .prior .code)) (c .program .functions)))
     (constants : total p constantsArea ≡ length (c .pool .constants))
     (context : total p contextLocalsArea ≡ c .pool .localCount)
     (books : total p booksArea ≡ bookCount c) where
@@ -129,7 +129,7 @@ module _ (p : Program) (c : Context) (safe : ProgramSafe c) (fit : OperandsFit c
       starts,
       long,
       code .total,
-      length-append (c .prior .code) (entriesFrom functionCode 0 (c .functions)),
+      length-append (c .prior .code) (entriesFrom functionCode 0 (c .program .functions)),
       f-safe .inside (omega (arith, long)),
     );
     fits = λ i k. subst (λ (x : Instruction). Fits read i x) (sym (same i (omega (arith, long))))
@@ -148,7 +148,7 @@ module _ (p : Program) (c : Context) (safe : ProgramSafe c) (fit : OperandsFit c
       f-safe = all-at (safe .parts .prior .functions) j [] h
 
       added : Entries
-      added = functionEntries (length (c .prior .code)) (c .functions)
+      added = functionEntries (length (c .prior .code)) (c .program .functions)
 
       word-of : (k : ℕ) → k < 8 → field p functionsArea j k ≡ getD e k 0
       word-of k q = functions .cells j k (omega (arith, length-append (c .prior .functions) added)) q
@@ -163,7 +163,7 @@ module _ (p : Program) (c : Context) (safe : ProgramSafe c) (fit : OperandsFit c
       same : (i : ℕ) → i < getD e lengthWord 0 → instructionAt (p .areas) (field p functionsArea j startWord + i) ≡ instruction i
       same i k =
           let n = getD e startWord 0 + i in
-          let new = entriesFrom functionCode 0 (c .functions) in
+          let new = entriesFrom functionCode 0 (c .program .functions) in
           let stood : n < length (c .prior .code) = omega (arith, f-safe .inside (omega arith)) in
           let stands : field p codeArea n 0 ≡ getD (getD (c .prior .code) n []) 0 0 =
           code .cells n 0 (omega (arith, length-append (c .prior .code) new)) (omega arith)
@@ -183,9 +183,9 @@ module _ (p : Program) (c : Context) (safe : ProgramSafe c) (fit : OperandsFit c
       counted = rw (long, word-of localsWord (omega arith), constants, context)
 
   -- and one that was added
-  function-within : (j : ℕ) → j < length (c .functions)
-      → FunctionWithin p (functionAt (c .functions) j .state .thisReads) (length (c .prior .functions) + j)
-      × FunctionLogged p (logOf (functionAt (c .functions) j .state)) (length (c .prior .functions) + j)
+  function-within : (j : ℕ) → j < length (c .program .functions)
+      → FunctionWithin p (functionAt (c .program .functions) j .state .log .thisReads) (length (c .prior .functions) + j)
+      × FunctionLogged p (functionAt (c .program .functions) j .state .log) (length (c .prior .functions) + j)
   function-within j h = (
     record {
       inside = λ k. omega (
@@ -213,13 +213,13 @@ module _ (p : Program) (c : Context) (safe : ProgramSafe c) (fit : OperandsFit c
   )
     where
       fs : List Function
-      fs = c .functions
+      fs = c .program .functions
 
       f : Function
       f = functionAt fs j
 
       l : List Instruction
-      l = f .state .instructions
+      l = f .state .code .instructions
 
       f-safe : FunctionSafe (length (c .pool .constants)) (c .pool .localCount) (f .state)
       f-safe = all-at (safe .parts .functions) j noFunction h .0
@@ -262,16 +262,17 @@ module _ (p : Program) (c : Context) (safe : ProgramSafe c) (fit : OperandsFit c
         locals = field p functionsArea (n + j) localsWord;
         constants = total p constantsArea;
         context = total p contextLocalsArea;
-        this = f .state .thisReads;
+        this = f .state .log .thisReads;
       }
 
       -- a read where there is no local is one of `this`
-      this-read : (i : ℕ) → i < length l → at l i .opcode ≡ LocalGet → f .state .localCount ≡ 0 → Among i (f .state .thisReads)
+      this-read : (i : ℕ) → i < length l → at l i .opcode ≡ LocalGet → f .state .header .localCount ≡ 0 → Among i (f .state .log .thisReads)
       this-read i k o z = go (subst (λ n. Within (classOf n) (counts (length l) (length (c .pool .constants)) (c .pool .localCount) (f .state)) i
           (at l i .operand)) o (f-safe .fits i k))
         where
-          go : (at l i .operand < f .state .localCount) ⊎ ((at l i .operand ≡ 0) × (f .state .localCount ≡ 0) × Among i (f .state .thisReads))
-              → Among i (f .state .thisReads)
+          go : (at l i .operand < f .state .header .localCount) ⊎
+              ((at l i .operand ≡ 0) × (f .state .header .localCount ≡ 0) × Among i (f .state .log .thisReads))
+              → Among i (f .state .log .thisReads)
           go (inl q) = absurd (omega arith)
           go (inr q) = q .2
 
@@ -285,12 +286,12 @@ bit-small true = omega arith
 bit-small false = omega arith
 
 property-words : {M i : ℕ} (ns : List ℕ) → i < M → All (λ (e : List ℕ). getD e 0 0 < M) (propertyEntries i ns)
-property-words [] h = none
+property-words [] h = nil
 property-words (n ∷ ns) h = h & property-words ns h
 
 public-words : {A K file : ℕ} {es : List Entry} → file < A → All (λ (e : Entry). e .index < K) es
     → All (λ (e : List ℕ). (getD e 0 0 < A) × (getD e 2 0 < K)) (publicEntries file es)
-public-words h none = none
+public-words h nil = nil
 public-words h (k & ks) = (h, k) & public-words h ks
 
 -- a context local: its book, its mark, and its value if it has one
@@ -334,11 +335,11 @@ present-below p area = omega arith
 
 -- a context's numbers beside areas and totals
 abbrev programOf : Areas → Totals → Context → Program
-programOf m t c = record { areas = m; totals = t; entryPoint = c .entryPoint; globals = globalDependencies (c .pool .globals) 0 (c .pool .constants) }
+programOf m t c = record { areas = m; totals = t; entryPoint = c .program .entryPoint; globals = globalDependencies (c .pool .globals) 0 (c .pool .constants) }
 
 module _ {m : Areas} {t : Totals} (c : Context) (holds : (area : ℕ) → Holds m t area (getD (tablesOf c) area []))
     (whole : (area : ℕ) → totalOf t area * widthOf area ≤ length (getD m area [])) (safe : ProgramSafe c) (fit : OperandsFit c) where
-  holds-within : KeepsWithin (programOf m t c) (length (c .prior .functions)) (logsOf (c .functions))
+  holds-within : KeepsWithin (programOf m t c) (length (c .prior .functions)) (logsOf (c .program .functions))
   unfolding tablesOf areaBound
   holds-within = record {
     whole = whole;
@@ -347,10 +348,10 @@ module _ {m : Areas} {t : Totals} (c : Context) (holds : (area : ℕ) → Holds 
     globals-counted =
         sym (marks-summed (c .pool .globals) 0 (c .pool .constants))
         ∙ (rw (constantsHeld .total, marked-sum constantsHeld _ (le-refl _), take-length) refl);
-    logs-each = ap (λ n. length (c .prior .functions) + n) (logs-length (c .functions)) ∙ sym functionTotal;
+    logs-each = ap (λ n. length (c .prior .functions) + n) (logs-length (c .program .functions)) ∙ sym functionTotal;
     logged = λ j h.
-        let k : j < length (c .functions) = omega (arith, logs-length (c .functions)) in
-        subst (λ (g : Log). FunctionLogged p g (length (c .prior .functions) + j)) (sym (logs-at (c .functions) j k)) (within j k .1);
+        let k : j < length (c .program .functions) = omega (arith, logs-length (c .program .functions)) in
+        subst (λ (g : Log). FunctionLogged p g (length (c .prior .functions) + j)) (sym (logs-at (c .program .functions) j k)) (within j k .1);
   }
     where
       p : Program
@@ -372,13 +373,13 @@ module _ {m : Areas} {t : Totals} (c : Context) (holds : (area : ℕ) → Holds 
       A = bookCount c
 
       addedModels : Entries
-      addedModels = entriesFrom modelEntry 0 (c .models)
+      addedModels = entriesFrom modelEntry 0 (c .program .models)
 
       addedProperties : Entries
-      addedProperties = entriesFrom modelProperties (length (c .prior .models)) (c .models)
+      addedProperties = entriesFrom modelProperties (length (c .prior .models)) (c .program .models)
 
       addedLocals : Entries
-      addedLocals = entriesFrom (localEntry (c .localValues)) (length (c .prior .locals)) (c .localNames)
+      addedLocals = entriesFrom (localEntry (c .locals .values)) (length (c .prior .locals)) (c .locals .names)
 
       addedPublics : Entries
       addedPublics = entriesFrom assemblyPublics 0 (c .assemblies)
@@ -392,7 +393,7 @@ module _ {m : Areas} {t : Totals} (c : Context) (holds : (area : ℕ) → Holds 
       propertiesHeld : Holds m t propertiesArea (c .prior .properties ++ addedProperties)
       propertiesHeld = holds propertiesArea
 
-      methodsHeld : Holds m t methodsArea (entriesFrom methodEntry 0 (c .methods))
+      methodsHeld : Holds m t methodsArea (entriesFrom methodEntry 0 (c .program .methods))
       methodsHeld = holds methodsArea
 
       localsHeld : Holds m t contextLocalsArea (c .prior .locals ++ addedLocals)
@@ -403,17 +404,18 @@ module _ {m : Areas} {t : Totals} (c : Context) (holds : (area : ℕ) → Holds 
 
       functionTotal : totalOf t functionsArea ≡ F
       functionTotal = holds functionsArea .total ∙ length-append (c .prior .functions) _
-          ∙ ap (λ k. length (c .prior .functions) + k) (functions-length _ (c .functions))
+          ∙ ap (λ k. length (c .prior .functions) + k) (functions-length _ (c .program .functions))
 
       constantTotal : totalOf t constantsArea ≡ K
       constantTotal = constantsHeld .total ∙ single-length _ 0 (c .pool .constants)
 
       modelTotal : totalOf t modelsArea ≡ M
-      modelTotal = modelsHeld .total ∙ length-append (c .prior .models) addedModels ∙ ap (λ k. length (c .prior .models) + k) (single-length _ 0 (c .models))
+      modelTotal = modelsHeld .total ∙ length-append (c .prior .models) addedModels ∙ ap (λ k. length (c .prior .models) + k)
+          (single-length _ 0 (c .program .models))
 
       contextTotal : totalOf t contextLocalsArea ≡ c .pool .localCount
       contextTotal = localsHeld .total ∙ length-append (c .prior .locals) addedLocals
-          ∙ ap (λ k. length (c .prior .locals) + k) (single-length _ (length (c .prior .locals)) (c .localNames)) ∙ safe .counted
+          ∙ ap (λ k. length (c .prior .locals) + k) (single-length _ (length (c .prior .locals)) (c .locals .names)) ∙ safe .counted
 
       bookTotal : totalOf t booksArea ≡ A
       bookTotal = holds booksArea .total ∙ length-append (c .prior .books) _ ∙ ap (λ k. length (c .prior .books) + k) (single-length _ 0 (c .assemblies))
@@ -421,30 +423,30 @@ module _ {m : Areas} {t : Totals} (c : Context) (holds : (area : ℕ) → Holds 
       constantsNamed : All (λ (e : List ℕ). (getD e 0 0 ≡ modelKind → getD e 1 0 < M) × (getD e 0 0 ≡ functionKind → getD e 1 0 < F) × (getD e 2 0 ≤ 1))
           (entriesFrom (constantEntry (c .pool .globals)) 0 (c .pool .constants))
       constantsNamed = entries-all (constantEntry (c .pool .globals)) K 0
-          (λ j x h n. (n .0, n .1, bit-small (hasText j (c .pool .globals))) & none) (omega arith) (safe .parts .constants)
+          (λ j x h n. (n .0, n .1, bit-small (hasText j (c .pool .globals))) & nil) (omega arith) (safe .parts .constants)
 
       modelsFiled : All (λ (e : List ℕ). getD e 0 0 < A) (c .prior .models ++ addedModels)
-      modelsFiled = all-append (safe .parts .prior .models) (entries-all modelEntry M 0 (λ j x h f. f & none) (omega arith) (safe .parts .models))
+      modelsFiled = all-append (safe .parts .prior .models) (entries-all modelEntry M 0 (λ j x h f. f & nil) (omega arith) (safe .parts .models))
 
       propertiesOwned : All (λ (e : List ℕ). getD e 0 0 < M) (c .prior .properties ++ addedProperties)
       propertiesOwned = all-append (safe .parts .prior .properties)
           (entries-all modelProperties M (length (c .prior .models)) (λ j x h f. property-words (x .properties) h) (omega arith) (safe .parts .models))
 
-      methodsNamed : All (λ (e : List ℕ). (getD e 0 0 < M) × (getD e 2 0 < F)) (entriesFrom methodEntry 0 (c .methods))
-      methodsNamed = entries-all methodEntry (length (c .methods)) 0 (λ j x h n. n & none) (omega arith) (safe .parts .methods)
+      methodsNamed : All (λ (e : List ℕ). (getD e 0 0 < M) × (getD e 2 0 < F)) (entriesFrom methodEntry 0 (c .program .methods))
+      methodsNamed = entries-all methodEntry (length (c .program .methods)) 0 (λ j x h n. n & nil) (omega arith) (safe .parts .methods)
 
       localsValued : All (Local A K) (c .prior .locals ++ addedLocals)
       localsValued = all-append (safe .parts .prior .locals)
-          (entries-all (localEntry (c .localValues)) (length (c .prior .locals) + length (c .localNames)) (length (c .prior .locals))
-          (λ j x h f. local-words (c .localValues) j x (safe .parts .values) f & none) (le-refl _) (safe .parts .names))
+          (entries-all (localEntry (c .locals .values)) (length (c .prior .locals) + length (c .locals .names)) (length (c .prior .locals))
+          (λ j x h f. local-words (c .locals .values) j x (safe .parts .values) f & nil) (le-refl _) (safe .parts .names))
 
       publicsNamed : All (λ (e : List ℕ). (getD e 0 0 < A) × (getD e 2 0 < K)) (c .prior .publics ++ addedPublics)
       publicsNamed = all-append (safe .parts .prior .publics)
           (entries-all assemblyPublics A 0 (λ j x h p. public-words (p .0) (p .1)) (omega arith) (safe .parts .publics))
 
-      within : (j : ℕ) → j < length (c .functions)
-          → FunctionWithin p (functionAt (c .functions) j .state .thisReads) (length (c .prior .functions) + j)
-          × FunctionLogged p (logOf (functionAt (c .functions) j .state)) (length (c .prior .functions) + j)
+      within : (j : ℕ) → j < length (c .program .functions)
+          → FunctionWithin p (functionAt (c .program .functions) j .state .log .thisReads) (length (c .prior .functions) + j)
+          × FunctionLogged p (functionAt (c .program .functions) j .state .log) (length (c .prior .functions) + j)
       within = function-within p c safe fit (holds codeArea) (holds functionsArea) constantTotal contextTotal bookTotal
 
       -- what holds of a function's entry, whether it stood before or was added
@@ -457,9 +459,10 @@ module _ {m : Areas} {t : Totals} (c : Context) (holds : (area : ℕ) → Holds 
           go (no q) =
               let i = j - length (c .prior .functions) in
               let there : length (c .prior .functions) + i ≡ j = omega arith in
-              subst Q there (f (length (c .prior .functions) + i) (functionAt (c .functions) i .state .thisReads) (within i (omega (arith, functionTotal)) .0))
+              subst Q there (f (length (c .prior .functions) + i) (functionAt (c .program .functions) i .state .log .thisReads)
+              (within i (omega (arith, functionTotal)) .0))
 
-      codeLoose : All (λ (e : List ℕ). Loose K C (unword (getD e 0 0))) (c .prior .code ++ entriesFrom functionCode 0 (c .functions))
+      codeLoose : All (λ (e : List ℕ). Loose K C (unword (getD e 0 0))) (c .prior .code ++ entriesFrom functionCode 0 (c .program .functions))
       codeLoose = all-append (safe .parts .prior .code) (code-loose (all-map (λ f s. s .0) (safe .parts .functions)) fit)
 
       code-bound : (i : ℕ) → i < totalOf t codeArea → Test (codeBound p i)
@@ -467,9 +470,9 @@ module _ {m : Areas} {t : Totals} (c : Context) (holds : (area : ℕ) → Holds 
           let (k, q) = held (holds codeArea) codeLoose i h in
           let x : Loose K C (instructionAt m i) = rw (holds codeArea .cells i 0 k (omega arith)) q in
           both (loose-test (classOf (instructionAt m i .opcode)) p (instructionAt m i .operand) constantTotal contextTotal x)
-          (all-below (present p functionsArea) (λ j. where′ (has p j i)
+          (all-below (present p functionsArea) (λ j. where′ (hasInstruction p j i)
           (boundByFunction (classOf (instructionAt m i .opcode)) p j (instructionAt m i .operand)))
-          (λ j n. where-holds (has p j i) (each-function (λ n. T (has p n i)
+          (λ j n. where-holds (hasInstruction p j i) (each-function (λ n. T (hasInstruction p n i)
           → Test (boundByFunction (classOf (instructionAt m i .opcode)) p n (instructionAt m i .operand)))
           (λ n this f. operand-bound f i) j (omega (arith, present-below p functionsArea)))))
 
@@ -530,19 +533,19 @@ module _ {m : Areas} {t : Totals} (c : Context) (holds : (area : ℕ) → Holds 
           (by area contextLocalsArea i h (local-bound i)
           (by area publicNamesArea i h (public-bound i) passes)))))))
 
-      entered : EntryWithin F (c .entryPoint) → Test (entryPointBound (totalOf t functionsArea) (c .entryPoint))
-      entered (inl q) = or-first (eqb (c .entryPoint) 0 && eqb (totalOf t functionsArea) 0)
-          (less (c .entryPoint) (totalOf t functionsArea) (omega (arith, functionTotal)))
-      entered (inr q) = or-second (ltb (c .entryPoint) (totalOf t functionsArea)) (both (equal (q .0)) (equal (functionTotal ∙ q .1)))
+      entered : EntryWithin F (c .program .entryPoint) → Test (entryPointBound (totalOf t functionsArea) (c .program .entryPoint))
+      entered (inl q) = or-first (eqb (c .program .entryPoint) 0 && eqb (totalOf t functionsArea) 0)
+          (less (c .program .entryPoint) (totalOf t functionsArea) (omega (arith, functionTotal)))
+      entered (inr q) = or-second (ltb (c .program .entryPoint) (totalOf t functionsArea)) (both (equal (q .0)) (equal (functionTotal ∙ q .1)))
 
 -- every table has its area's width
 
 property-wide : (i : ℕ) (ns : List ℕ) → Wide 2 (propertyEntries i ns)
-property-wide i [] = none
+property-wide i [] = nil
 property-wide i (n ∷ ns) = refl & property-wide i ns
 
 public-wide : (file : ℕ) (es : List Entry) → Wide 3 (publicEntries file es)
-public-wide file [] = none
+public-wide file [] = nil
 public-wide file (e ∷ es) = refl & public-wide file es
 
 local-wide : (o : Option ℕ) (file name : ℕ) → length (localWords o file name) ≡ 4
@@ -552,19 +555,19 @@ local-wide (some c) file name = refl
 pub tables-wide : (c : Context) → PriorWide (c .prior) → Wides widths (tablesOf c)
 unfolding tablesOf
 tables-wide c p =
-    none then all-append (p .code) (functionsCode-wide (c .functions))
-    then entries-wide (constantEntry (c .pool .globals)) 3 0 (λ i x. refl & none) (c .pool .constants)
-    then all-append (p .functions) (functions-wide _ (c .functions))
-    then all-append (p .models) (entries-wide modelEntry 2 0 (λ i x. refl & none) (c .models))
-    then all-append (p .properties) (entries-wide modelProperties 2 _ (λ i x. property-wide i (x .properties)) (c .models))
-    then entries-wide methodEntry 3 0 (λ i x. refl & none) (c .methods)
+    nil then all-append (p .code) (functionsCode-wide (c .program .functions))
+    then entries-wide (constantEntry (c .pool .globals)) 3 0 (λ i x. refl & nil) (c .pool .constants)
+    then all-append (p .functions) (functions-wide _ (c .program .functions))
+    then all-append (p .models) (entries-wide modelEntry 2 0 (λ i x. refl & nil) (c .program .models))
+    then all-append (p .properties) (entries-wide modelProperties 2 _ (λ i x. property-wide i (x .properties)) (c .program .models))
+    then entries-wide methodEntry 3 0 (λ i x. refl & nil) (c .program .methods)
     then all-append (p .locals)
-    (entries-wide (localEntry (c .localValues)) 4 _ (λ i x. local-wide (findName i (c .localValues)) (x .index) (x .name) & none) (c .localNames))
+    (entries-wide (localEntry (c .locals .values)) 4 _ (λ i x. local-wide (findName i (c .locals .values)) (x .index) (x .name) & nil) (c .locals .names))
     then all-append (p .publics) (entries-wide assemblyPublics 3 0 (λ i x. public-wide (x .index) (x .publics)) (c .assemblies))
-    then none
-    then none
-    then none
-    then all-append (p .books) (entries-wide bookEntry 1 0 (λ i x. refl & none) (c .assemblies))
+    then nil
+    then nil
+    then nil
+    then all-append (p .books) (entries-wide bookEntry 1 0 (λ i x. refl & nil) (c .assemblies))
     then end
 
 -- what a delivery leaves in areas of those lengths
@@ -578,7 +581,7 @@ delivered lengths c = record {
 
 -- demand 3 of it
 abbrev pub WordsKeep : List ℕ → Context → Type 0
-WordsKeep lengths c = KeepsWithin (delivered lengths c) (length (c .prior .functions)) (logsOf (c .functions))
+WordsKeep lengths c = KeepsWithin (delivered lengths c) (length (c .prior .functions)) (logsOf (c .program .functions))
 
 pub program-keeps : (lengths : List ℕ) (c : Context) → length lengths ≡ 13 → ProgramSafe c → OperandsFit c → WordsKeep lengths c
 unfolding areasOf replyOf

@@ -2,6 +2,7 @@ pub mod AllRows
 pub mod AllStandingRows
 pub mod Safe
 pub mod Lists
+pub mod Defining
 pub mod Needed
 pub mod Moves
 pub mod Sound

@@ -12,7 +12,7 @@ use Rattle.tree.specs.Check.{shapeOf}
 use Rattle.tree.specs.Reading.{documentsOf}
 use Rattle.tree.specs.declared.Shape.the-variants.{Fine}
 use Rattle.tree.proofs.Bundle.{fine-spells}
-use Rattle.definition.specs.Within.{All, none, _&_}
+use Rattle.definition.specs.Within.{All, nil, _&_}
 use Rattle.definition.proofs.Lists.{all-map}
 
 -- records and levels within the limits
@@ -23,7 +23,7 @@ pub record Limited {A : Type 0} (size depth : A → ℕ) (x : A) : Type 0 where
 -- each of a run is no larger than the run
 run-limited : {A : Type 0} (size depth : A → ℕ) (xs : List A) → runSize size xs ≤ mostRecords → runDepth depth xs ≤ mostLevels → All (Limited size depth) xs
 unfolding runSize runDepth
-run-limited size depth [] s d = none
+run-limited size depth [] s d = nil
 run-limited size depth (x ∷ xs) s d =
     let first : Limited size depth x = record { records = omega arith; levels = omega arith } in
     first & run-limited size depth xs (omega arith) (omega arith)
@@ -47,14 +47,14 @@ LimitedDocument d = All (λ x. All LimitedFunction (functionsIn x)) (d .definiti
 
 definition-limited : (d : Definition) → Limited sizeD depthD d → All LimitedFunction (functionsIn d)
 unfolding sizeD depthD
-definition-limited (PlainFunction f) s = record { records = s .records; levels = s .levels } & none
-definition-limited (PublicFunction f) s = record { records = s .records; levels = s .levels } & none
+definition-limited (PlainFunction f) s = record { records = s .records; levels = s .levels } & nil
+definition-limited (PublicFunction f) s = record { records = s .records; levels = s .levels } & nil
 definition-limited (ImplementDefinition m fs) s = run-limited sizeF depthF fs (omega (arith, s .records)) (omega (arith, s .levels))
-definition-limited (LocalDefinition x) s = none
-definition-limited (IncludeDefinition x y) s = none
-definition-limited (ModelDefinition x y) s = none
-definition-limited (PublicModelDefinition x y) s = none
-definition-limited (ApplyDefinition x y) s = none
+definition-limited (LocalDefinition x) s = nil
+definition-limited (IncludeDefinition x y) s = nil
+definition-limited (ModelDefinition x y) s = nil
+definition-limited (PublicModelDefinition x y) s = nil
+definition-limited (ApplyDefinition x y) s = nil
 
 document-limited : (d : Document) → Limited sizeDoc depthDoc d → LimitedDocument d
 document-limited d s = all-map definition-limited (run-limited sizeD depthD (d .definitions) (omega (arith, s .records)) (omega (arith, s .levels)))

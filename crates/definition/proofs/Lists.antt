@@ -11,26 +11,26 @@ use lib.Seq.{getD-set-same, getD-set-other, getD-take, getD-append-seam, set-out
 use lib.Dec.{T, eqb, eqb→eq, eqb-refl}
 use Rattle.words.specs.Opcode.{Instruction, toInstruction, nothing, Jump}
 use Rattle.definition.specs.FunctionState.{patchAll, init, last}
-use Rattle.definition.specs.Within.{All, none, _&_}
+use Rattle.definition.specs.Within.{All, nil, _&_}
 use Rattle.definition.proofs.Safe.{at, Each}
 
 module _ {A : Type 0} where
   pub all-map : {P Q : A → Type 0} {l : List A} → ((x : A) → P x → Q x) → All P l → All Q l
-  all-map f none = none
+  all-map f nil = nil
   all-map f (p & ps) = f _ p & all-map f ps
 
   pub all-append : {P : A → Type 0} {l m : List A} → All P l → All P m → All P (l ++ m)
-  all-append none qs = qs
+  all-append nil qs = qs
   all-append (p & ps) qs = p & all-append ps qs
 
   pub all-set : {P : A → Type 0} {l : List A} {a : A} → All P l → P a → (i : ℕ) → All P (set l i a)
-  all-set none q i = none
+  all-set nil q i = nil
   all-set (p & ps) q zero = q & ps
   all-set (p & ps) q (suc i) = p & all-set ps q i
 
   pub all-take : {P : A → Type 0} {l : List A} → All P l → (n : ℕ) → All P (take n l)
-  all-take ps zero = none
-  all-take none (suc n) = none
+  all-take ps zero = nil
+  all-take nil (suc n) = nil
   all-take (p & ps) (suc n) = p & all-take ps n
 
   pub cond-case : (P : A → Type 0) (b : Bool) {x y : A} → (T b → P x) → (T (not b) → P y) → P (cond b x y)
@@ -93,7 +93,7 @@ kept-set {l₀} {l} {j} a k f = record {
 }
 
 pub kept-patch : {l₀ l : List Instruction} (bs : List ℕ) (t : ℕ) → Kept l₀ l → All (Fresh l₀) bs → Kept l₀ (patchAll bs t l)
-kept-patch [] t k none = k
+kept-patch [] t k nil = k
 kept-patch (b ∷ bs) t k (f & fs) = kept-patch bs t (kept-set (toInstruction Jump t) k f) fs
 
 pub kept-init : (l : List Instruction) → last l nothing .opcode ≡ 1 → Kept l (init l)
@@ -105,7 +105,7 @@ kept-init l e = record { keeps = λ i h q. go i h q (decLt i (length l - 1)) }
 
 -- after patches
 pub patch-other : (bs : List ℕ) (t : ℕ) (l : List Instruction) (i : ℕ) → All (λ b. b ≢ i) bs → at (patchAll bs t l) i ≡ at l i
-patch-other [] t l i none = refl
+patch-other [] t l i nil = refl
 patch-other (b ∷ bs) t l i (n & ns) = patch-other bs t (set l b (toInstruction Jump t)) i ns
     ∙ getD-set-other l b i (toInstruction Jump t) nothing (λ e. n (sym e))
 
@@ -126,7 +126,7 @@ patch-stays (b ∷ bs) t l i h e = patch-stays bs t l′ i (omega (arith, length
 
 pub patch-hits : (bs : List ℕ) (t : ℕ) (l : List Instruction) → All (λ b. b < length l) bs
     → All (λ b. (b < length (patchAll bs t l)) × (at (patchAll bs t l) b ≡ toInstruction Jump t)) bs
-patch-hits [] t l none = none
+patch-hits [] t l nil = nil
 patch-hits (b ∷ bs) t l (h & hs) = head & patch-hits bs t l′ (all-map (λ x q. omega (arith, same)) hs)
   where
     J : Instruction
@@ -183,7 +183,7 @@ opcode-set l j x k e = go (ℕ-discrete k j) (decLt j (length l))
     go (yes q) (no h) = ap (λ (y : List Instruction). at y k .opcode) (set-out l j x (omega arith))
 
 pub opcode-patch : (bs : List ℕ) (t : ℕ) (l : List Instruction) (k : ℕ) → All (λ b. at l b .opcode ≡ Jump) bs → at (patchAll bs t l) k .opcode ≡ at l k .opcode
-opcode-patch [] t l k none = refl
+opcode-patch [] t l k nil = refl
 opcode-patch (b ∷ bs) t l k (p & ps) = opcode-patch bs t l′ k (all-map (λ c q. opcode-set l b J c p ∙ q) ps) ∙ opcode-set l b J k p
   where
     J : Instruction

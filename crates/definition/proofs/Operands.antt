@@ -31,7 +31,8 @@ use Rattle.definition.specs.Compiler.{compileInfixExpression, compileInf
 use Rattle.definition.specs.Compiler.{compileAssignName, compileFunctionDefinitionBase, compileThisExpression, compileIdentifierExpression}
 use Rattle.definition.specs.Compiler.{emitName, compileNullExpression, compileBooleanExpression, compileStringExpression}
 use Rattle.definition.specs.Compiler.{compileFloatExpression, compileIntegerExpression, emitGlobal, emitConstant, compileParameter}
-use Rattle.definition.specs.Within.{All, none, _&_, Class, Position, Slot, Read, Pool, ContextSlot, Other, classOf}
+use Rattle.definition.specs.Within.{All, nil, _&_, Class, Position, Slot, Read, Pool, ContextSlot, Other, classOf}
+use Rattle.definition.proofs.Defining.{define-cases}
 use Rattle.definition.proofs.Lists.{all-append, all-set, all-take, all-patch, cond-case}
 use Rattle.definition.proofs.Uses.{Later, Noted, later-same, later-more, noted-here, noted-more}
 use Rattle.definition.proofs.Room.{room, room-deeper, room-two, room-more, room-beside, get-once, get-twice}
@@ -56,7 +57,7 @@ pub record Body (B m : ℕ) (code : List Instruction) (locals : ℕ) : Type 0 wh
   pub few : locals ≤ m
 
 abbrev BodyOf : ℕ → ℕ → FunctionState → Type 0
-BodyOf B m f = Body B m (f .instructions) (f .localCount)
+BodyOf B m f = Body B m (f .code .instructions) (f .header .localCount)
 
 -- what a function is compiled under: the greatest small operand, the entries that stand, the notes and the code before it
 pub record Frame : Type 0 where
@@ -67,10 +68,10 @@ pub record Frame : Type 0 where
 
 -- what holds all through it, where m locals may be defined so far
 pub record Kept (K : Frame) (m : ℕ) (w : Work) : Type 0 where
-  pub body : Body (K .operands) m (w .function .instructions) (w .function .localCount)
+  pub body : Body (K .operands) m (w .function .code .instructions) (w .function .header .localCount)
   pub before : w .before ≡ K .before
   pub later : Later (K .uses) (w .uses)
-  pub code : Noted (K .standing) (w .uses) codeArea (w .before + length (w .function .instructions))
+  pub code : Noted (K .standing) (w .uses) codeArea (w .before + length (w .function .code .instructions))
   pub constants : Noted (K .standing) (w .uses) constantsArea (length (w .context .constants))
 
 -- a step that keeps it and defines n locals at most
@@ -81,12 +82,12 @@ pub record Keeps (K : Frame) (n : ℕ) (s : Step) : Type 0 where
 
 module _ {B m : ℕ} where
   body-emit : {code : List Instruction} {n : ℕ} (i : Instruction) → Small B i → Body B m code n → Body B m (code ++ (i ∷ [])) n
-  body-emit i h b = record { small = all-append (b .small) (h & none); few = b .few }
+  body-emit i h b = record { small = all-append (b .small) (h & nil); few = b .few }
 
   body-close : (f : FunctionState) → BodyOf B m f → BodyOf B m (removePopOrPushNull f)
   unfolding removePopOrPushNull
   body-close f b =
-      cond-case (BodyOf B m) (eqb (lastOpcode f) Pop) (λ t. record { small = all-take (b .small) (length (f .instructions) - 1); few = b .few })
+      cond-case (BodyOf B m) (eqb (lastOpcode f) Pop) (λ t. record { small = all-take (b .small) (length (f .code .instructions) - 1); few = b .few })
       (λ t. cond-case (BodyOf B m) (eqb (lastOpcode f) ReturnOp) (λ u. b) (λ u. body-emit _ tt b))
 
   body-return : (p : ℕ) (f : FunctionState) → BodyOf B m f → BodyOf B m (emitReturn p f)
@@ -96,8 +97,7 @@ module _ {B m : ℕ} where
       (λ t. body-emit _ (omega arith) (body-close f b))
 
   body-define : (n : ℕ) (f : FunctionState) → BodyOf B m f → BodyOf B (m + 1) (defineLocal n f .state)
-  unfolding defineLocal
-  body-define n f b = go (findName n (innermost (f .scopes)))
+  body-define n f b = define-cases (λ d. BodyOf B (m + 1) (d .state)) n f go
     where
       go : (o : Option ℕ) → BodyOf B (m + 1) (Emission.defineLocalBy o n f .state)
       go none = record { small = b .small; few = omega (arith, b .few) }
@@ -332,25 +332,25 @@ module _ {K : Frame} where
       keeps = λ w m k.
           let w₁ = doing (λ f. Emission.enterBreakScope (Emission.enterScope (Emission.defineAnonymousLocal (Emission.defineAnonymousLocal f)))) w in
           let k₁ : Kept K (m + 2) w₁ = keep-function w _ k (record { small = k .body .small; few = omega (arith, k .body .few) }) in
-          let u₃ = emit (toInstruction LocalSet (w .function .localCount)) (t .position) (a w₁) in
+          let u₃ = emit (toInstruction LocalSet (w .function .header .localCount)) (t .position) (a w₁) in
           let w₃ = Compiler.emitOpcodeWithoutPosition Pop u₃ in
           let k₃ = keep-emit u₃ Pop 0 _ (keep-emit (a w₁) LocalSet _ (t .position) (X .keeps w₁ (m + 2) k₁) tt) (omega arith) in
           let w₄ = emitConstant PushConstant (constantOf 2 0) (t .position) w₃ in
           let k₄ : Kept K (m + 2 + x + 0) w₄ = emit-constant-keeps PushConstant (constantOf 2 0) (t .position) (λ n. tt) .keeps w₃ (m + 2 + x) k₃ in
-          let u₅ = emit (toInstruction LocalSet (w .function .localCount + 1)) (t .position) w₄ in
+          let u₅ = emit (toInstruction LocalSet (w .function .header .localCount + 1)) (t .position) w₄ in
           let w₅ = Compiler.emitOpcodeWithoutPosition Pop u₅ in
           let k₅ = keep-emit u₅ Pop 0 _ (keep-emit w₄ LocalSet _ (t .position) k₄ tt) (omega arith) in
           let d = defineLocal (i .value) (w₅ .function) in
           let w₆ = withFunction (d .state) w₅ in
           let k₆ = keep-function w₅ (d .state) k₅ (body-define (i .value) (w₅ .function) (k₅ .body)) in
-          let w₇ = emit (toInstruction ForNext (w .function .localCount)) (t .position) w₆ in
+          let w₇ = emit (toInstruction ForNext (w .function .header .localCount)) (t .position) w₆ in
           let w₈ = Compiler.emitOpcodeWithoutPosition JumpIf w₇ in
           let k₈ = keep-emit w₇ JumpIf 0 _ (keep-emit w₆ ForNext _ (t .position) k₆ tt) tt in
           let u₉ = emit (toInstruction LocalSet (getOr 0 (d .found))) (i .position) w₈ in
           let w₉ = Compiler.emitOpcodeWithoutPosition Pop u₉ in
           let k₉ : Kept K (m + (3 + x)) w₉ = kept-le (omega arith) (keep-emit u₉ Pop 0 _ (keep-emit w₈ LocalSet _ (i .position) k₈ tt) (omega arith)) in
           let v₁ = b w₉ in
-          let v₂ = emit (toInstruction Iterate (w .function .localCount + 1)) (Emission.getLastPosition (v₁ .function)) v₁ in
+          let v₂ = emit (toInstruction Iterate (w .function .header .localCount + 1)) (Emission.getLastPosition (v₁ .function)) v₁ in
           let v₃ = emit (toInstruction Jump (Compiler.next w₆)) (Emission.getLastPosition (v₂ .function)) v₂ in
           let j₁ : Kept K (m + (3 + x + y)) v₁ = kept-le (omega arith) (Y .keeps w₉ (m + (3 + x)) k₉) in
           close (m + (3 + x + y)) (Compiler.next w₇) v₃ (keep-emit v₂ Jump _ _ (keep-emit v₁ Iterate _ _ j₁ tt) tt);
@@ -576,7 +576,7 @@ unfolding compileFunctionDefinitionBase
 function-kept B S ps body b h w n =
     let w₀ = withFunction Emission.newFunctionState w in
     let k₀ : Kept (record { operands = B; standing = S; uses = w .uses; before = w .before }) 0 w₀ = record {
-      body = record { small = none; few = omega arith };
+      body = record { small = nil; few = omega arith };
       before = refl;
       later = later-more _ (later-more _ (later-more _ (later-same _)));
       code = noted-more (noted-more noted-here);
@@ -584,6 +584,6 @@ function-kept B S ps body b h w n =
     } in
     let w₁ = compileParameters ps w₀ in
     let k₁ = parameters-keep ps .keeps w₀ 0 k₀ in
-    let w₂ = doing (λ f. withParameters (f .isInstance) (length ps) f) w₁ in
+    let w₂ = doing (λ f. withParameters (f .header .isInstance) (length ps) f) w₁ in
     let k₃ = statements-keep b body h .keeps w₂ _ (keep-function w₁ _ k₁ (k₁ .body)) in
     kept-le (omega arith) (return-keeps _ .keeps (compileStatements body w₂) _ k₃)

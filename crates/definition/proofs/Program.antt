@@ -35,7 +35,7 @@ use Rattle.definition.specs.Book.{compileMethods, compileImplementDefini
 use Rattle.definition.specs.Book.{compileDefinitions, opened, compileDocument, pushBookError, newContext}
 use Rattle.words.specs.Areas.{propertiesArea}
 use Rattle.definition.specs.DependencySolver.{Worked, Delivered, ready, without, afterBook, driveBy, drive, compileNeeded}
-use Rattle.definition.specs.Within.{All, none, _&_, Class, Position, Slot, Read, Pool, ContextSlot, Other, classOf}
+use Rattle.definition.specs.Within.{All, nil, _&_, Class, Position, Slot, Read, Pool, ContextSlot, Other, classOf}
 use Rattle.definition.proofs.Safe.{EntryWithin, FunctionSafe, Named, LooseBy, Loose, standingCounts, StandingSafe, PriorSafe, PriorWide, Parts, PartsOf}
 use Rattle.definition.proofs.Safe.{ProgramSafe}
 use Rattle.definition.proofs.Lists.{all-map, all-append, all-set, cond-case}
@@ -53,7 +53,7 @@ record BookGood (b : Book.Book) : Type 0 where
   wide : PriorWide (b .context .prior)
   parts : PartsOf (bookCount (b .context) + 1) (b .context)
   index : b .assembly .index ≡ bookCount (b .context)
-  counted : length (b .context .prior .locals) + length (b .context .localNames) ≡ b .context .pool .localCount
+  counted : length (b .context .prior .locals) + length (b .context .locals .names) ≡ b .context .pool .localCount
   pool : 3 ≤ length (b .context .pool .constants)
   names : All (λ (e : Entry). e .index < b .context .pool .localCount) (b .compiler .locals)
   own : All (λ (e : Entry). e .index < length (b .context .pool .constants)) (b .assembly .publics)
@@ -63,7 +63,7 @@ record BookGood (b : Book.Book) : Type 0 where
 safe-mono : {K K′ C C′ : ℕ} {f : FunctionState} → K ≤ K′ → C ≤ C′ → FunctionSafe K C f → FunctionSafe K′ C′ f
 safe-mono {f = f} k c s = record {
   sized = s .sized;
-  fits = fits-mono (f .instructions)
+  fits = fits-mono (f .code .instructions)
       (record { tops = le-refl _; slots = le-refl _; pools = k; globals = c; reads = λ i a. a }) (s .fits);
   rescue = s .rescue;
   loops = s .loops;
@@ -129,7 +129,7 @@ parts-mono k c m f a p = record {
 -- lists
 
 all-insert : {P : Entry → Type 0} {l : List Entry} (e : Entry) → P e → All P l → All P (insertEntry e l)
-all-insert e p none = p & none
+all-insert e p nil = p & nil
 all-insert {P} {l} e p (_&_ {x = x} {xs = xs} q qs) = cond-case (All P) (eqb (x .name) (e .name)) (λ t. p & qs) (λ t. q & all-insert e p qs)
 
 -- a pool's constant, found or added
@@ -174,7 +174,7 @@ constant-placed c b g n = added-case (λ (a : Added). BookPlaced b (record { pla
         parts = record {
           prior = p .prior;
           functions = p .functions;
-          constants = all-append (p .constants) (n & none);
+          constants = all-append (p .constants) (n & nil);
           globals = p .globals;
           models = p .models;
           names = p .names;
@@ -199,7 +199,7 @@ record BookDefined (b : Book.Book) (d : MaybePlaced) : Type 0 where
   good : BookGood (d .book)
   inside : (i : ℕ) → d .place ≡ some i → i < d .book .context .pool .localCount
   constants : d .book .context .pool .constants ≡ b .context .pool .constants
-  functions : d .book .context .functions ≡ b .context .functions
+  functions : d .book .context .program .functions ≡ b .context .program .functions
   faults-same : faults (d .book) ≡ faults b
 
 defined : (n : ℕ) (b : Book.Book) → BookGood b → BookDefined b (defineContextLocal n b)
@@ -229,17 +229,17 @@ defined n b g = go (findName n (b .compiler .locals))
           constants = p .constants;
           globals = p .globals;
           models = p .models;
-          names = all-append (p .names) (mine & none);
+          names = all-append (p .names) (mine & nil);
           values = p .values;
           methods = p .methods;
           publics = p .publics;
           entry = p .entry;
         };
         pool = g .pool;
-        names = all-append (all-map (λ x h. omega arith) (g .names)) (here & none);
+        names = all-append (all-map (λ x h. omega arith) (g .names)) (here & nil);
         own = g .own;
         index = g .index;
-        counted = omega (arith, length-append (b .context .localNames) (record { name = n; index = b .assembly .index } ∷ []), g .counted);
+        counted = omega (arith, length-append (b .context .locals .names) (record { name = n; index = b .assembly .index } ∷ []), g .counted);
         wide = g .wide;
       };
       inside = λ j e. let z : L ≡ j = cc in omega arith;
@@ -308,7 +308,7 @@ fine-then D E = record { before = λ b h. D .before b (E .before _ h); keeps = �
 -- includes
 
 pub find-assembly : {P : Assembly → Type 0} (n : ℕ) (a : Assembly) (l : List Assembly) → All P l → findAssembly n l ≡ some a → P a
-find-assembly n a [] none e = absurd (let z : _≡_ {A = ℕ} 0 1 = cc in omega arith)
+find-assembly n a [] nil e = absurd (let z : _≡_ {A = ℕ} 0 1 = cc in omega arith)
 find-assembly {P} n a (x ∷ l) (p & ps) e = go (eqb (x .filename) n) (λ q. find-assembly n a l ps q) e
   where
     go : (b : Bool) → (findAssembly n l ≡ some a → P a) → cond b (some x) (findAssembly n l) ≡ some a → P a
@@ -316,7 +316,7 @@ find-assembly {P} n a (x ∷ l) (p & ps) e = go (eqb (x .filename) n) (λ q. fin
     go false r q = r q
 
 standing-public : {K : ℕ} (book name i : ℕ) {es : Entries} → All (λ (e : List ℕ). getD e 2 0 < K) es → findPublic book name es ≡ some i → i < K
-standing-public book name i none e = absurd (let z : _≡_ {A = ℕ} 0 1 = cc in omega arith)
+standing-public book name i nil e = absurd (let z : _≡_ {A = ℕ} 0 1 = cc in omega arith)
 standing-public {K} book name i (_&_ {x = x} {xs = es} p ps) e = go (hasKey book name x) (λ q. standing-public book name i ps q) e
   where
     go : (b : Bool) → (findPublic book name es ≡ some i → i < K) → cond b (some (getD x 2 0)) (findPublic book name es) ≡ some i → i < K
@@ -455,7 +455,7 @@ model-added b ps n g = record {
     functions = p .functions;
     constants = p .constants;
     globals = p .globals;
-    models = all-append (p .models) (mine & none);
+    models = all-append (p .models) (mine & nil);
     names = p .names;
     values = p .values;
     methods = p .methods;
@@ -477,9 +477,9 @@ model-added b ps n g = record {
     mine = omega (arith, g .index)
 
     p : Parts (length (b .context .pool .constants)) (b .context .pool .localCount)
-        (length (b .context .prior .models) + length (b .context .models ++ (m ∷ [])))
+        (length (b .context .prior .models) + length (b .context .program .models ++ (m ∷ [])))
         (functionCount (b .context)) (bookCount (b .context) + 1) (b .context)
-    p = parts-mono (le-refl _) (le-refl _) (omega (arith, length-append (b .context .models) (m ∷ []))) (le-refl _) (le-refl _) (g .parts)
+    p = parts-mono (le-refl _) (le-refl _) (omega (arith, length-append (b .context .program .models) (m ∷ []))) (le-refl _) (le-refl _) (g .parts)
 
 record Places (d : Book.Book → Placed) : Type 0 where
   before : (b : Book.Book) → faults (d b .book) ≡ [] → faults b ≡ []
@@ -495,7 +495,7 @@ model-places n ts = record {
       let b₂ = second b in
       let g₂ : BookGood b₂ = model-added b₁ (compileProperties ts [] b .texts) (n .value) g₁ in
       let c = constantOf 5 (modelCount (b₁ .context)) in
-      let a = constant-placed c b₂ g₂ (λ q. omega (arith, length-append (b₁ .context .models) (newModel b ∷ [])), λ q. absurd (omega arith)) in
+      let a = constant-placed c b₂ g₂ (λ q. omega (arith, length-append (b₁ .context .program .models) (newModel b ∷ [])), λ q. absurd (omega arith)) in
       let d = defined (n .value) (addBookConstant c b₂ .book) (a .good) in
       record {
         good = value-good _ _ _ (d .good) (d .inside) (rw (d .constants) (a .inside));
@@ -604,7 +604,7 @@ function-added : (s : FunctionState) (n : ℕ) (b : Book.Book) → BookGood b
 function-added s n b g h = record {
   parts = record {
     prior = p .prior;
-    functions = all-append (p .functions) ((h, mine) & none);
+    functions = all-append (p .functions) ((h, mine) & nil);
     constants = p .constants;
     globals = p .globals;
     models = p .models;
@@ -628,7 +628,7 @@ function-added s n b g h = record {
     p : Parts (length (b .context .pool .constants)) (b .context .pool .localCount) (modelCount (b .context))
         (functionCount (addFunction s n b .context)) (bookCount (b .context) + 1) (b .context)
     p = parts-mono (le-refl _) (le-refl _) (le-refl _) (omega
-        (arith, length-append (b .context .functions) (record { state = s; name = n; file = b .assembly .index } ∷ []))) (le-refl _) (g .parts)
+        (arith, length-append (b .context .program .functions) (record { state = s; name = n; file = b .assembly .index } ∷ []))) (le-refl _) (g .parts)
 
 value-functions : (o : Option ℕ) (c : ℕ) (b : Book.Book) → functionCount (setLocalValue o c b .context) ≡ functionCount (b .context)
 value-functions none c b = refl
@@ -666,7 +666,7 @@ unfolding addPlainFunction
 plain-placed o s n b g h local = cond-case (λ x. BookPlaced b (record { place = a .place; book = x })) (eqb n 1)
     (λ t. record {
       good = entry-good (functionCount (b .context)) b₁ g₁
-          (omega (arith, value-functions o (a .place) (a .book), constant-functions c b₀, length-append (b .context .functions) (f ∷ [])));
+          (omega (arith, value-functions o (a .place) (a .book), constant-functions c b₀, length-append (b .context .program .functions) (f ∷ [])));
       inside = in₁;
     })
     (λ t. record { good = g₁; inside = in₁ })
@@ -684,7 +684,7 @@ plain-placed o s n b g h local = cond-case (λ x. BookPlaced b (record { place =
     a = addBookConstant c b₀
 
     p : BookPlaced b₀ a
-    p = constant-placed c b₀ (function-added s n b g h) (λ q. absurd (omega arith), λ q. omega (arith, length-append (b .context .functions) (f ∷ [])))
+    p = constant-placed c b₀ (function-added s n b g h) (λ q. absurd (omega arith), λ q. omega (arith, length-append (b .context .program .functions) (f ∷ [])))
 
     b₁ : Book.Book
     b₁ = setLocalValue o (a .place) (a .book)
@@ -708,8 +708,8 @@ plain-before o s n b = cond-case (λ x. faults x ≡ faults b) (eqb n 1) (λ t. 
 function-places : (f : FunctionDefinition) → Places (compileFunctionDefinition f)
 unfolding compileFunctionDefinition
 function-places f = record {
-  before = λ b e. define-before (f .name .value) b (base-before f (d b .book) (back b (made b .state .isInstance) e));
-  places = λ b g e. go b (made b .state .isInstance) g e;
+  before = λ b e. define-before (f .name .value) b (base-before f (d b .book) (back b (made b .state .header .isInstance) e));
+  places = λ b g e. go b (made b .state .header .isInstance) g e;
 }
   where
     d : Book.Book → MaybePlaced
@@ -737,7 +737,7 @@ function-places f = record {
 -- implement and apply
 
 constant-at : {P : Constant → Type 0} (l : List Constant) (n : ℕ) (c : Constant) → All P l → constantAt l n ≡ some c → P c
-constant-at [] n c none e = absurd (let z : _≡_ {A = ℕ} 0 1 = cc in omega arith)
+constant-at [] n c nil e = absurd (let z : _≡_ {A = ℕ} 0 1 = cc in omega arith)
 constant-at {P} (x ∷ l) zero c (p & ps) e = let z : x ≡ c = cc in subst P z p
 constant-at (x ∷ l) (suc n) c (p & ps) e = constant-at l n c ps e
 
@@ -756,7 +756,7 @@ unfolding findModelIndexByLocalName
 model-case P t b g yes′ no′ = outer (findName (t .value) (b .compiler .locals))
   where
     named : (local : ℕ) (c : Constant) → getLocalValue local (b .context) ≡ some c → Named (modelCount (b .context)) (functionCount (b .context)) c
-    named local c e = go (findName local (b .context .localValues)) e
+    named local c e = go (findName local (b .context .locals .values)) e
       where
         go : (o : Option ℕ) → valueAt o (b .context .pool .constants) ≡ some c → Named (modelCount (b .context)) (functionCount (b .context)) c
         go none q = absurd (let z : _≡_ {A = ℕ} 0 1 = cc in omega arith)
@@ -783,17 +783,17 @@ find-before t b e = outer (findName (t .value) (b .compiler .locals)) e
     outer (some local) q = inner (modelOf (getLocalValue local (b .context))) q
 
 all-method : {P : Method → Type 0} {l : List Method} (e : Method) → P e → All P l → All P (insertMethod e l)
-all-method e p none = p & none
+all-method e p nil = p & nil
 all-method {P} {l} e p (_&_ {x = x} {xs = xs} q qs) = cond-case (All P) (sameMethod x e) (λ t. p & qs) (λ t. q & all-method e p qs)
 
 all-methods : {M F : ℕ} {l : List Method} (m : ℕ) (es : List Entry) → m < M → All (λ (e : Entry). e .index < F) es
     → All (λ (x : Method). (x .model < M) × (x .function < F)) l → All (λ (x : Method). (x .model < M) × (x .function < F)) (insertMethods m es l)
-all-methods m [] k none qs = qs
+all-methods m [] k nil qs = qs
 all-methods m (e ∷ es) k (p & ps) qs = all-methods m es k ps (all-method _ (k, p) qs)
 
 own-methods : {M F : ℕ} (m : ℕ) (l : List Method) → All (λ (x : Method). (x .model < M) × (x .function < F)) l
     → All (λ (e : Entry). e .index < F) (methodsIn m l)
-own-methods m [] none = none
+own-methods m [] nil = nil
 own-methods {M} {F} m (x ∷ l) (p & ps) = cond-case (All (λ (e : Entry). e .index < F)) (eqb (x .model) m) (λ t. p .1 & own-methods m l ps)
     (λ t. own-methods m l ps)
 
@@ -839,8 +839,8 @@ unfolding compileMethods compileBase
 methods-good [] es b g h e = record { good = g; entries = h }
 methods-good (f ∷ fs) es b g h e =
     let m = base-made f b g (methods-before fs _ _ e) in
-    let n : length (addFunction (compileBase f b .state) (f .name .value) (compileBase f b .book) .context .functions) ≡ length
-    (b .context .functions) + 1 = length-append (b .context .functions) _ in
+    let n : length (addFunction (compileBase f b .state) (f .name .value) (compileBase f b .book) .context .program .functions) ≡ length
+    (b .context .program .functions) + 1 = length-append (b .context .program .functions) _ in
     let here : functionCount (b .context) < functionCount (addFunction (compileBase f b .state) (f .name .value) (compileBase f b .book) .context) =
     omega (arith, n) in
     methods-good fs _ _ (function-added _ _ _ (m .good) (m .safe)) (all-insert _ here (all-map (λ x q. omega (arith, n)) h)) e
@@ -862,7 +862,7 @@ unfolding compileImplementDefinition
 implement-fine t fs = record {
   before = λ b e. methods-before fs [] b (to-model-before t (compileMethods fs [] b .entries) (compileMethods fs [] b .book) e);
   keeps = λ b g e.
-      let c = methods-good fs [] b g none (to-model-before t (compileMethods fs [] b .entries) (compileMethods fs [] b .book) e) in
+      let c = methods-good fs [] b g nil (to-model-before t (compileMethods fs [] b .entries) (compileMethods fs [] b .book) e) in
       to-model-good t (compileMethods fs [] b .entries) (compileMethods fs [] b .book) (c .good) (c .entries) e;
 }
 
@@ -873,7 +873,7 @@ apply-fine s t = record {
       (findModelIndexByLocalName s b .book) e);
   keeps = λ b g. model-case (λ (d : MaybePlaced). faults (toModel t (methodsOf (d .place) (d .book .context)) (d .book)) ≡ []
       → BookGood (toModel t (methodsOf (d .place) (d .book .context)) (d .book))) s b g
-      (λ m h e. to-model-good t (methodsOf (some m) (b .context)) b g (own-methods m (b .context .methods) (g .parts .methods)) e)
+      (λ m h e. to-model-good t (methodsOf (some m) (b .context)) b g (own-methods m (b .context .program .methods) (g .parts .methods)) e)
       (λ n e. faulty n s b (to-model-before t [] (pushBookError n s b) e));
 }
 
@@ -909,7 +909,7 @@ document-good d c us s e = record {
     values = p .values;
     names = p .names;
     methods = p .methods;
-    publics = all-append (p .publics) ((mine, g .own) & none);
+    publics = all-append (p .publics) ((mine, g .own) & nil);
     entry = p .entry;
   };
   pool = g .pool;
@@ -927,8 +927,8 @@ document-good d c us s e = record {
       counted = s .counted;
       wide = s .wide;
       pool = s .pool;
-      names = none;
-      own = none;
+      names = nil;
+      own = nil;
     }
 
     g : BookGood b
@@ -977,18 +977,18 @@ worked-safe numbers ds c r s e = drive-good (length numbers) ds _ numbers c r _ 
 pub fresh-safe : ProgramSafe newContext
 fresh-safe = record {
   parts = record {
-    prior = record { code = none; functions = none; models = none; properties = none; locals = none; publics = none };
-    functions = none;
-    constants = plain-named 0 0 (omega arith) & plain-named 1 1 (omega arith) & plain-named 1 0 (omega arith) & none;
-    globals = none;
-    models = none;
-    values = none;
-    names = none;
-    methods = none;
-    publics = none;
+    prior = record { code = nil; functions = nil; models = nil; properties = nil; locals = nil; publics = nil };
+    functions = nil;
+    constants = plain-named 0 0 (omega arith) & plain-named 1 1 (omega arith) & plain-named 1 0 (omega arith) & nil;
+    globals = nil;
+    models = nil;
+    values = nil;
+    names = nil;
+    methods = nil;
+    publics = nil;
     entry = inr (refl, refl);
   };
   pool = omega arith;
   counted = refl;
-  wide = record { code = none; functions = none; models = none; properties = none; locals = none; publics = none; books = none };
+  wide = record { code = nil; functions = nil; models = nil; properties = nil; locals = nil; publics = nil; books = nil };
 }

@@ -54,20 +54,20 @@ pub record Landed (l : List Instruction) (e : Loop) : Type 0 where
 
 -- the counts over a function whose jumps go up to `top`, in a program of K constants and C context locals
 abbrev pub counts : ℕ → ℕ → ℕ → FunctionState → Counts
-counts top K C f = record { top = top; locals = f .localCount; constants = K; context = C; this = f .thisReads }
+counts top K C f = record { top = top; locals = f .header .localCount; constants = K; context = C; this = f .log .thisReads }
 
 abbrev pub countsOf : Work → Counts
-countsOf w = counts (length (w .function .instructions)) (length (w .context .constants)) (w .context .localCount) (w .function)
+countsOf w = counts (length (w .function .code .instructions)) (length (w .context .constants)) (w .context .localCount) (w .function)
 
 -- one function
 pub record FunctionSafe (K C : ℕ) (f : FunctionState) : Type 0 where
-  pub sized : length (f .positions) ≡ length (f .instructions)
-  pub fits : Each (Fits (counts (length (f .instructions)) K C f)) (f .instructions)
-  pub rescue : f .rescuePosition ≤ length (f .instructions)
-  pub loops : All (Landed (f .instructions)) (loopsOf (f .trace))
-  pub breaks : All (λ b. InLoop b (loopsOf (f .trace))) (breaksOf (f .trace))
-  pub closed : readTrace (f .trace) .open′ ≡ []
-  pub nexts : Each (λ i x. x .opcode ≡ ForNext → Among (i + 1) (exitsOf (loopsOf (f .trace)))) (f .instructions)
+  pub sized : length (f .code .positions) ≡ length (f .code .instructions)
+  pub fits : Each (Fits (counts (length (f .code .instructions)) K C f)) (f .code .instructions)
+  pub rescue : f .header .rescuePosition ≤ length (f .code .instructions)
+  pub loops : All (Landed (f .code .instructions)) (loopsOf (f .log .trace))
+  pub breaks : All (λ b. InLoop b (loopsOf (f .log .trace))) (breaksOf (f .log .trace))
+  pub closed : readTrace (f .log .trace) .open′ ≡ []
+  pub nexts : Each (λ i x. x .opcode ≡ ForNext → Among (i + 1) (exitsOf (loopsOf (f .log .trace)))) (f .code .instructions)
 
 abbrev pub Safe : Work → Type 0
 Safe w = FunctionSafe (length (w .context .constants)) (w .context .localCount) (w .function)
@@ -130,15 +130,15 @@ pub record PriorWide (p : Prior) : Type 0 where
 -- a context over K constants, C context locals, M models, F functions and A books
 pub record Parts (K C M F A : ℕ) (c : Context) : Type 0 where
   pub prior : PriorSafe K C M A (c .prior)
-  pub functions : All (λ (f : Function). FunctionSafe K C (f .state) × (f .file < A)) (c .functions)
+  pub functions : All (λ (f : Function). FunctionSafe K C (f .state) × (f .file < A)) (c .program .functions)
   pub constants : All (Named M F) (c .pool .constants)
   pub globals : All (λ n. n < K) (c .pool .globals)
-  pub models : All (λ (m : Model). m .file < A) (c .models)
-  pub values : All (λ (e : Entry). (e .name < C) × (e .index < K)) (c .localValues)
-  pub names : All (λ (e : Entry). e .index < A) (c .localNames)
-  pub methods : All (λ (m : Method). (m .model < M) × (m .function < F)) (c .methods)
+  pub models : All (λ (m : Model). m .file < A) (c .program .models)
+  pub values : All (λ (e : Entry). (e .name < C) × (e .index < K)) (c .locals .values)
+  pub names : All (λ (e : Entry). e .index < A) (c .locals .names)
+  pub methods : All (λ (m : Method). (m .model < M) × (m .function < F)) (c .program .methods)
   pub publics : All (λ (a : Assembly). (a .index < A) × All (λ (e : Entry). e .index < K) (a .publics)) (c .assemblies)
-  pub entry : EntryWithin F (c .entryPoint)
+  pub entry : EntryWithin F (c .program .entryPoint)
 
 abbrev pub PartsOf : ℕ → Context → Type 0
 PartsOf A c = Parts (length (c .pool .constants)) (c .pool .localCount) (modelCount c) (functionCount c) A c
@@ -148,4 +148,4 @@ pub record ProgramSafe (c : Context) : Type 0 where
   pub wide : PriorWide (c .prior)
   pub parts : PartsOf (bookCount c) c
   pub pool : 3 ≤ length (c .pool .constants)
-  pub counted : length (c .prior .locals) + length (c .localNames) ≡ c .pool .localCount
+  pub counted : length (c .prior .locals) + length (c .locals .names) ≡ c .pool .localCount

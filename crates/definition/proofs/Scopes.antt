@@ -20,6 +20,7 @@ use Rattle.definition.specs.Compiler.{compileAssignExpression, compilePa
 use Rattle.definition.specs.Compiler.{compileIdentifierExpression, emitName, compileNullExpression, compileBooleanExpression}
 use Rattle.definition.specs.Compiler.{compileStringExpression, compileFloatExpression, compileIntegerExpression, emitGlobal, emitConstant}
 use Rattle.words.specs.Object.{Constant, constantOf, isShared}
+use Rattle.definition.proofs.Defining.{define-cases}
 use Rattle.definition.proofs.Lists.{cond-case}
 use Rattle.definition.proofs.Moves.{close-same, return-same}
 use Rattle.definition.specs.FunctionState as Emission
@@ -63,8 +64,7 @@ name-still l c g n p w = go (Emission.findLocal n (w .function))
     go (some i) = refl
 
 define-inner : (n : ℕ) (f : FunctionState) → tail (defineLocal n f .state .scopes) ≡ tail (f .scopes)
-unfolding defineLocal
-define-inner n f = go (findName n (innermost (f .scopes)))
+define-inner n f = define-cases (λ d. tail (d .state .scopes) ≡ tail (f .scopes)) n f go
   where
     insert : (e : Entry) (ss : List (List Entry)) → tail (Emission.insertName e ss) ≡ tail ss
     insert e [] = refl
@@ -166,9 +166,9 @@ break-inner p w = go (w .function .breakScopes)
 pub before-variable : (t : Token) → Step → Work → Work
 before-variable t a w =
     let w₁ = doing (λ f. Emission.enterBreakScope (Emission.enterScope (Emission.defineAnonymousLocal (Emission.defineAnonymousLocal f)))) w in
-    let w₃ = Compiler.emitOpcodeWithoutPosition Pop (emit (toInstruction LocalSet (w .function .localCount)) (t .position) (a w₁)) in
+    let w₃ = Compiler.emitOpcodeWithoutPosition Pop (emit (toInstruction LocalSet (w .function .header .localCount)) (t .position) (a w₁)) in
     let w₄ = emitConstant PushConstant (constantOf 2 0) (t .position) w₃ in
-    Compiler.emitOpcodeWithoutPosition Pop (emit (toInstruction LocalSet (w .function .localCount + 1)) (t .position) w₄)
+    Compiler.emitOpcodeWithoutPosition Pop (emit (toInstruction LocalSet (w .function .header .localCount + 1)) (t .position) w₄)
 
 before-names : (a : Step) → Still a → (t : Token) (w : Work) → names (before-variable t a w) ≡ [] ∷ names w
 unfolding before-variable
@@ -240,8 +240,8 @@ mutual
 
 -- the unwrap of compile_for_statement: the variable is new, whatever the enumerable
 pub for-unwraps : (t i : Token) (e : Expression) (w : Work)
-    → let f = before-variable t (compileExpression e) w .function in defineLocal (i .value) f .found ≡ some (f .localCount)
+    → let f = before-variable t (compileExpression e) w .function in defineLocal (i .value) f .found ≡ some (f .header .localCount)
 unfolding defineLocal
 for-unwraps t i e w =
     let f = before-variable t (compileExpression e) w .function in
-    ap (λ ss. Emission.defineLocalBy (findName (i .value) (innermost ss)) (i .value) f .found) (before-names _ (expression-still e) t w)
+    ap (λ ss. Emission.defineLocalIn ss (i .value) f .found) (before-names _ (expression-still e) t w)

@@ -169,7 +169,7 @@ grows-function f b =
     let d = defineContextLocal (f .name .value) b in
     let m = compileBase f (d .book) in
     let g = grows-trans (grows-define (f .name .value) b) (grows-base f (d .book)) in
-    cond-case (λ (p : Placed). PoolGrows (poolOf b) (poolOf (p .book))) (m .state .isInstance) (λ t. g)
+    cond-case (λ (p : Placed). PoolGrows (poolOf b) (poolOf (p .book))) (m .state .header .isInstance) (λ t. g)
     (λ t. grows-trans g (grows-plain (d .place) (m .state) (f .name .value) (m .book)))
 
 -- implement and apply

@@ -16,8 +16,9 @@ use Rattle.definition.specs.FunctionState.{FunctionState, Entry, pushBre
 use Rattle.definition.specs.FunctionState.{emitReturn, emitBreak, exitBreakScope, defineLocal, findName}
 use Rattle.definition.specs.Within.{Loop}
 use Rattle.definition.specs.FunctionState as Emission
-use Rattle.definition.specs.Within.{All, none, _&_, Loop, readTrace, loopsOf, breaksOf, Among, here, there, InLoop, first, later, Class, breakIn, leave}
+use Rattle.definition.specs.Within.{All, nil, _&_, Loop, readTrace, loopsOf, breaksOf, Among, here, there, InLoop, first, later, Class, breakIn, leave}
 use Rattle.definition.specs.Within.{Position, Slot, Read, Pool, ContextSlot, Other, classOf}
+use Rattle.definition.proofs.Defining.{define-cases}
 use Rattle.definition.proofs.Safe.{at, Each, counts, Landed, Counts, Within, Fits}
 use Rattle.definition.proofs.Lists.{all-map, all-append, Kept, Fresh, kept-append, kept-init, kept-set, cond-case, ne-of-test, each-map, each-snoc}
 use Rattle.definition.proofs.Lists.{each-set, each-init, each-patch, last-snoc, opcode-set, opcode-patch, patch-other, patch-hits, length-patch}
@@ -34,21 +35,21 @@ pub data InSome (b : ℕ) : List (List ℕ) → Type 0 where
 -- `reach`: no jump goes beyond it, and a last Pop stands after it
 pub record Sound (K C : ℕ) (f : FunctionState) : Type 0 where
   pub reach : ℕ
-  pub sized : length (f .positions) ≡ length (f .instructions)
-  pub low : reach ≤ length (f .instructions)
-  pub room : lastOpcode f ≡ 1 → (reach < length (f .instructions)) × (2 ≤ length (f .instructions))
-      × (at (f .instructions) (length (f .instructions) - 2) .opcode ≢ 1)
-  pub fits : Each (Fits (counts reach K C f)) (f .instructions)
-  pub rescue : f .rescuePosition ≤ reach
-  pub scopes : All (All (λ (e : Entry). e .index < f .localCount)) (f .scopes)
-  pub breaks : All (All (Pending (f .instructions))) (f .breakScopes)
-  pub loops : All (Landed (f .instructions)) (loopsOf (f .trace))
-  pub traced : readTrace (f .trace) .open′ ≡ f .breakScopes
-  pub belongs : All (λ b. InSome b (f .breakScopes) ⊎ InLoop b (loopsOf (f .trace))) (breaksOf (f .trace))
+  pub sized : length (f .code .positions) ≡ length (f .code .instructions)
+  pub low : reach ≤ length (f .code .instructions)
+  pub room : lastOpcode f ≡ 1 → (reach < length (f .code .instructions)) × (2 ≤ length (f .code .instructions))
+      × (at (f .code .instructions) (length (f .code .instructions) - 2) .opcode ≢ 1)
+  pub fits : Each (Fits (counts reach K C f)) (f .code .instructions)
+  pub rescue : f .header .rescuePosition ≤ reach
+  pub scopes : All (All (λ (e : Entry). e .index < f .header .localCount)) (f .scopes)
+  pub breaks : All (All (Pending (f .code .instructions))) (f .breakScopes)
+  pub loops : All (Landed (f .code .instructions)) (loopsOf (f .log .trace))
+  pub traced : readTrace (f .log .trace) .open′ ≡ f .breakScopes
+  pub belongs : All (λ b. InSome b (f .breakScopes) ⊎ InLoop b (loopsOf (f .log .trace))) (breaksOf (f .log .trace))
 
 -- its last instruction is there, and is no Pop
 pub record Solid (f : FunctionState) : Type 0 where
-  pub some-code : 0 < length (f .instructions)
+  pub some-code : 0 < length (f .code .instructions)
   pub no-pop : lastOpcode f ≢ 1
 
 pub record SoundSolid (K C : ℕ) (f : FunctionState) : Type 0 where
@@ -100,8 +101,8 @@ lands-kept {l} {l′} k e r = record {
 
 pub solid-emit : (f : FunctionState) (i : Instruction) (p : ℕ) → i .opcode ≢ 1 → Solid (Emission.emit i p f)
 solid-emit f i p h = record {
-  some-code = omega (arith, length-append (f .instructions) (i ∷ []));
-  no-pop = λ e. h (ap (λ (y : Instruction). y .opcode) (sym (last-snoc (f .instructions) i)) ∙ e);
+  some-code = omega (arith, length-append (f .code .instructions) (i ∷ []));
+  no-pop = λ e. h (ap (λ (y : Instruction). y .opcode) (sym (last-snoc (f .code .instructions) i)) ∙ e);
 }
 
 -- a list with a last instruction that is not `nothing`
@@ -117,7 +118,7 @@ module _ {K C : ℕ} where
     sized = s .sized;
     low = s .low;
     room = s .room;
-    fits = fits-mono (f .instructions) (record { tops = le-refl _; slots = le-refl _; pools = k; globals = c; reads = λ i a. a }) (s .fits);
+    fits = fits-mono (f .code .instructions) (record { tops = le-refl _; slots = le-refl _; pools = k; globals = c; reads = λ i a. a }) (s .fits);
     rescue = s .rescue;
     scopes = s .scopes;
     breaks = s .breaks;
@@ -127,11 +128,12 @@ module _ {K C : ℕ} where
   }
 
   -- an instruction within its counts; a Pop only after what is no Pop
-  pub sound-emit : {f : FunctionState} (i : Instruction) (p : ℕ) → Sound K C f → Fits (counts (length (f .instructions)) K C f) (length (f .instructions)) i
+  pub sound-emit : {f : FunctionState} (i : Instruction) (p : ℕ) → Sound K C f → Fits (counts (length (f .code .instructions)) K C f)
+      (length (f .code .instructions)) i
       → (i .opcode ≡ 1 → Solid f) → Sound K C (Emission.emit i p f)
   sound-emit {f} i p s fit pop = record {
     reach = n;
-    sized = omega (arith, length-append l (i ∷ []), length-append (f .positions) (p ∷ []), s .sized);
+    sized = omega (arith, length-append l (i ∷ []), length-append (f .code .positions) (p ∷ []), s .sized);
     low = omega (arith, longer);
     room = λ e. (omega (arith, longer), two e, before e);
     fits = each-snoc (Fits (counts n K C f)) l i (fits-mono l
@@ -145,7 +147,7 @@ module _ {K C : ℕ} where
   }
     where
       l : List Instruction
-      l = f .instructions
+      l = f .code .instructions
 
       n : ℕ
       n = length l
@@ -168,7 +170,7 @@ module _ {K C : ℕ} where
   sound-pop f s e = record {
     sound = record {
       reach = s .reach;
-      sized = omega (arith, shorter, length-take (length (f .positions) - 1) (f .positions), s .sized);
+      sized = omega (arith, shorter, length-take (length (f .code .positions) - 1) (f .code .positions), s .sized);
       low = omega (arith, shorter, s .room e .0);
       room = λ q. absurd (no q);
       fits = each-init (Fits (counts (s .reach) K C f)) l (s .fits);
@@ -183,7 +185,7 @@ module _ {K C : ℕ} where
   }
     where
       l : List Instruction
-      l = f .instructions
+      l = f .code .instructions
 
       shorter : length (init l) ≡ length l - 1
       shorter = omega (arith, length-take (length l - 1) l)
@@ -200,7 +202,7 @@ module _ {K C : ℕ} where
     unfolding removePopOrPushNull
     sound-close f s = cond-case (SoundSolid K C) (eqb (lastOpcode f) Pop) (λ t. sound-pop f s (eqb→eq _ _ t))
         (λ t. cond-case (SoundSolid K C) (eqb (lastOpcode f) ReturnOp)
-        (λ u. record { sound = s; solid = record { some-code = some-last (f .instructions) (eqb→eq _ _ u); no-pop = ne-of-test t } }) (λ u. sound-null s))
+        (λ u. record { sound = s; solid = record { some-code = some-last (f .code .instructions) (eqb→eq _ _ u); no-pop = ne-of-test t } }) (λ u. sound-null s))
 
     pub sound-return : (p : ℕ) (f : FunctionState) → Sound K C f → SoundSolid K C (emitReturn p f)
     unfolding emitReturn
@@ -212,9 +214,9 @@ module _ {K C : ℕ} where
         })
 
   -- a jump that waits, patched to here
-  pub sound-set : (f : FunctionState) (j o : ℕ) → SoundSolid K C f → j < length (f .instructions) → at (f .instructions) j ≡ toInstruction o 0
-      → Within (classOf o) (counts (length (f .instructions)) K C f) j (length (f .instructions)) → All (All (λ b. b ≢ j)) (f .breakScopes)
-      → SoundSolid K C (Emission.replaceInstruction j (toInstruction o (length (f .instructions))) f)
+  pub sound-set : (f : FunctionState) (j o : ℕ) → SoundSolid K C f → j < length (f .code .instructions) → at (f .code .instructions) j ≡ toInstruction o 0
+      → Within (classOf o) (counts (length (f .code .instructions)) K C f) j (length (f .code .instructions)) → All (All (λ b. b ≢ j)) (f .breakScopes)
+      → SoundSolid K C (Emission.replaceInstruction j (toInstruction o (length (f .code .instructions))) f)
   sound-set f j o s h e fit apart = record {
     sound = record {
       reach = n;
@@ -234,7 +236,7 @@ module _ {K C : ℕ} where
   }
     where
       l : List Instruction
-      l = f .instructions
+      l = f .code .instructions
 
       n : ℕ
       n = length l
@@ -255,11 +257,11 @@ module _ {K C : ℕ} where
       other b y d q = (omega (arith, same, q .0), getD-set-other l j b x nothing d ∙ q .1)
 
       waits : {bs : List ℕ} → All (λ b. b ≢ j) bs → All (Pending l) bs → All (Pending l′) bs
-      waits none none = none
+      waits nil nil = nil
       waits (d & ds) (p & ps) = other _ _ d p & waits ds ps
 
       waiting : {ss : List (List ℕ)} → All (All (λ b. b ≢ j)) ss → All (All (Pending l)) ss → All (All (Pending l′)) ss
-      waiting none none = none
+      waiting nil nil = nil
       waiting (d & ds) (p & ps) = waits d p & waiting ds ps
 
       far : (b k t : ℕ) → 0 < t → at l b ≡ toInstruction k t → b ≢ j
@@ -278,15 +280,15 @@ pub pending-apart : (l : List Instruction) {ss : List (List ℕ)} (j o : ℕ) �
 pending-apart l j o d e ps = all-map (λ bs h. all-map (λ b p c. d (ap (λ (y : Instruction). y .opcode) (sym e ∙ ap (λ m. at l m) (sym c) ∙ p .1))) h) ps
 
 pub all-push : {P : ℕ → Type 0} {ss : List (List ℕ)} {is : List ℕ} → All (All P) ss → All P is → All (All P) (pushBreaks is ss)
-all-push none qs = none
+all-push nil qs = nil
 all-push (p & ps) qs = all-append p qs & ps
 
 pub all-tail : {A : Type 0} {P : A → Type 0} {l : List A} → All P l → All P (tail l)
-all-tail none = none
+all-tail nil = nil
 all-tail (p & ps) = ps
 
 pub all-innermost : {A : Type 0} {P : A → Type 0} {l : List (List A)} → All (All P) l → All P (innermost l)
-all-innermost none = none
+all-innermost nil = nil
 all-innermost (p & ps) = p
 
 among-append : {i : ℕ} {l : List ℕ} (m : List ℕ) → Among i l → Among i (l ++ m)
@@ -341,8 +343,8 @@ module _ {K C : ℕ} where
       r = sound-emit (toInstruction Jump 0) p s (omega arith) (λ e. absurd (omega arith))
 
       newest : (b : List ℕ) (bs : List (List ℕ)) → f .breakScopes ≡ b ∷ bs
-          → InSome (length (f .instructions)) (pushBreaks (length (f .instructions) ∷ []) (f .breakScopes))
-          ⊎ InLoop (length (f .instructions)) (loopsOf (f .trace))
+          → InSome (length (f .code .instructions)) (pushBreaks (length (f .code .instructions) ∷ []) (f .breakScopes))
+          ⊎ InLoop (length (f .code .instructions)) (loopsOf (f .log .trace))
       newest b bs e = inl (rw e (own (among-last b)))
 
       go : (bs : List (List ℕ)) → f .breakScopes ≡ bs → Sound K C (Emission.emitBreakIn bs p f)
@@ -356,19 +358,20 @@ module _ {K C : ℕ} where
         rescue = r .rescue;
         scopes = r .scopes;
         breaks = all-push (r .breaks) ((
-          omega (arith, length-append (f .instructions) (toInstruction Jump 0 ∷ [])),
-          getD-append-seam (f .instructions)
+          omega (arith, length-append (f .code .instructions) (toInstruction Jump 0 ∷ [])),
+          getD-append-seam (f .code .instructions)
               (toInstruction Jump 0) [] nothing,
-        ) & none);
+        ) & nil);
         loops = r .loops;
-        traced = break-in (length (f .instructions)) (readTrace (f .trace) .open′) ∙ ap (pushBreaks (length (f .instructions) ∷ [])) (r .traced);
-        belongs = newest b bs e & all-map (λ k q. pushed-one (length (f .instructions)) q) (r .belongs);
+        traced = break-in (length (f .code .instructions)) (readTrace (f .log .trace) .open′) ∙ ap (pushBreaks (length (f .code .instructions) ∷ []))
+            (r .traced);
+        belongs = newest b bs e & all-map (λ k q. pushed-one (length (f .code .instructions)) q) (r .belongs);
       }
 
   -- the end of a loop: its breaks go to here
-  pub sound-exit : (f : FunctionState) (exit : ℕ) → SoundSolid K C f → (exit < length (f .instructions))
-      × (at (f .instructions) exit ≡ toInstruction JumpIf (length (f .instructions)))
-      → All (All (Pending (exitBreakScope exit f .instructions))) (tail (f .breakScopes)) → SoundSolid K C (exitBreakScope exit f)
+  pub sound-exit : (f : FunctionState) (exit : ℕ) → SoundSolid K C f → (exit < length (f .code .instructions))
+      × (at (f .code .instructions) exit ≡ toInstruction JumpIf (length (f .code .instructions)))
+      → All (All (Pending (exitBreakScope exit f .code .instructions))) (tail (f .breakScopes)) → SoundSolid K C (exitBreakScope exit f)
   unfolding exitBreakScope
   sound-exit f exit s e outer = record {
     sound = record {
@@ -382,16 +385,16 @@ module _ {K C : ℕ} where
       scopes = s .sound .scopes;
       breaks = outer;
       loops = subst (All (Landed l′)) (sym closed) (all-append (all-map land (s .sound .loops))
-          (subst (λ (ks : List ℕ). Landed l′ (record { exit = exit; breaks = ks; after = n })) (sym own-breaks) this & none));
-      traced = leave-open exit n (readTrace (f .trace) .open′) (loopsOf (f .trace)) ∙ ap tail (s .sound .traced);
-      belongs = subst (λ (es : List Loop). All (λ b. InSome b (tail (f .breakScopes)) ⊎ InLoop b es) (breaksOf (f .trace))) (sym closed)
+          (subst (λ (ks : List ℕ). Landed l′ (record { exit = exit; breaks = ks; after = n })) (sym own-breaks) this & nil));
+      traced = leave-open exit n (readTrace (f .log .trace) .open′) (loopsOf (f .log .trace)) ∙ ap tail (s .sound .traced);
+      belongs = subst (λ (es : List Loop). All (λ b. InSome b (tail (f .breakScopes)) ⊎ InLoop b es) (breaksOf (f .log .trace))) (sym closed)
           (all-map (λ b q. left b q) (s .sound .belongs));
     };
     solid = record { some-code = omega (arith, same, s .solid .some-code); no-pop = no };
   }
     where
       l : List Instruction
-      l = f .instructions
+      l = f .code .instructions
 
       n : ℕ
       n = length l
@@ -405,18 +408,18 @@ module _ {K C : ℕ} where
       same : length l′ ≡ n
       same = length-patch bs n l
 
-      own-breaks : innermost (readTrace (f .trace) .open′) ≡ bs
+      own-breaks : innermost (readTrace (f .log .trace) .open′) ≡ bs
       own-breaks = ap innermost (s .sound .traced)
 
       new : Loop
-      new = record { exit = exit; breaks = innermost (readTrace (f .trace) .open′); after = n }
+      new = record { exit = exit; breaks = innermost (readTrace (f .log .trace) .open′); after = n }
 
-      closed : leave exit n (readTrace (f .trace) .open′) (loopsOf (f .trace)) .closed ≡ loopsOf (f .trace) ++ (new ∷ [])
-      closed = leave-closed exit n (readTrace (f .trace) .open′) (loopsOf (f .trace))
+      closed : leave exit n (readTrace (f .log .trace) .open′) (loopsOf (f .log .trace)) .closed ≡ loopsOf (f .log .trace) ++ (new ∷ [])
+      closed = leave-closed exit n (readTrace (f .log .trace) .open′) (loopsOf (f .log .trace))
 
-      left : (b : ℕ) → InSome b (f .breakScopes) ⊎ InLoop b (loopsOf (f .trace)) → InSome b (tail (f .breakScopes))
-          ⊎ InLoop b (loopsOf (f .trace) ++ (new ∷ []))
-      left b (inl q) = left-scope new (loopsOf (f .trace)) own-breaks q
+      left : (b : ℕ) → InSome b (f .breakScopes) ⊎ InLoop b (loopsOf (f .log .trace)) → InSome b (tail (f .breakScopes))
+          ⊎ InLoop b (loopsOf (f .log .trace) ++ (new ∷ []))
+      left b (inl q) = left-scope new (loopsOf (f .log .trace)) own-breaks q
       left b (inr q) = inr (in-loop-append _ q)
 
       waits : All (Pending l) bs
@@ -451,7 +454,7 @@ module _ {K C : ℕ} where
 -- locals
 
 pub find-name : {L : ℕ} {es : List Entry} (n i : ℕ) → All (λ (e : Entry). e .index < L) es → findName n es ≡ some i → i < L
-find-name n i none e = absurd (let z : _≡_ {A = ℕ} 0 1 = cc in omega arith)
+find-name n i nil e = absurd (let z : _≡_ {A = ℕ} 0 1 = cc in omega arith)
 find-name {L} {es} n i (_&_ {x = x} {xs = xs} p ps) e = go (eqb (x .name) n) (λ q. find-name n i ps q) e
   where
     go : (b : Bool) → (findName n xs ≡ some i → i < L) → cond b (some (x .index)) (findName n xs) ≡ some i → i < L
@@ -459,7 +462,7 @@ find-name {L} {es} n i (_&_ {x = x} {xs = xs} p ps) e = go (eqb (x .name) n) (λ
     go false r q = r q
 
 pub find-scopes : {L : ℕ} {ss : List (List Entry)} (n i : ℕ) → All (All (λ (e : Entry). e .index < L)) ss → Emission.findScopes n ss ≡ some i → i < L
-find-scopes n i none e = absurd (let z : _≡_ {A = ℕ} 0 1 = cc in omega arith)
+find-scopes n i nil e = absurd (let z : _≡_ {A = ℕ} 0 1 = cc in omega arith)
 find-scopes {L} {ss} n i (_&_ {x = s} {xs = xs} p ps) e = go (findName n s) refl (λ q. find-scopes n i ps q) e
   where
     go : (o : Option ℕ) → findName n s ≡ o → (Emission.findScopes n xs ≡ some i → i < L) → Emission.orElse o (Emission.findScopes n xs) ≡ some i → i < L
@@ -468,14 +471,14 @@ find-scopes {L} {ss} n i (_&_ {x = s} {xs = xs} p ps) e = go (findName n s) refl
 
 module _ {K C : ℕ} where
   -- more locals, other scopes
-  pub sound-scopes : (f : FunctionState) (L : ℕ) (ss : List (List Entry)) → Sound K C f → f .localCount ≤ L → All (All (λ (e : Entry). e .index < L)) ss
+  pub sound-scopes : (f : FunctionState) (L : ℕ) (ss : List (List Entry)) → Sound K C f → f .header .localCount ≤ L → All (All (λ (e : Entry). e .index < L)) ss
       → Sound K C (Emission.withScopes ss (Emission.withLocalCount L f))
   sound-scopes f L ss s h ps = record {
     reach = s .reach;
     sized = s .sized;
     low = s .low;
     room = s .room;
-    fits = fits-mono (f .instructions) (record { tops = le-refl _; slots = h; pools = le-refl _; globals = le-refl _; reads = λ i a. a }) (s .fits);
+    fits = fits-mono (f .code .instructions) (record { tops = le-refl _; slots = h; pools = le-refl _; globals = le-refl _; reads = λ i a. a }) (s .fits);
     rescue = s .rescue;
     scopes = ps;
     breaks = s .breaks;
@@ -485,22 +488,20 @@ module _ {K C : ℕ} where
   }
 
   pub sound-define : (n : ℕ) (f : FunctionState) → Sound K C f → Sound K C (defineLocal n f .state)
-  unfolding defineLocal
-  sound-define n f s = go (findName n (innermost (f .scopes)))
+  sound-define n f s = define-cases (λ d. Sound K C (d .state)) n f go
     where
-      insert : {ss : List (List Entry)} → All (All (λ (e : Entry). e .index < f .localCount + 1)) ss
-          → All (All (λ (e : Entry). e .index < f .localCount + 1)) (Emission.insertName (record { name = n; index = f .localCount }) ss)
-      insert none = none
-      insert (p & ps) = let new : f .localCount < f .localCount + 1 = omega arith in (new & p) & ps
+      insert : {ss : List (List Entry)} → All (All (λ (e : Entry). e .index < f .header .localCount + 1)) ss
+          → All (All (λ (e : Entry). e .index < f .header .localCount + 1)) (Emission.insertName (record { name = n; index = f .header .localCount }) ss)
+      insert nil = nil
+      insert (p & ps) = let new : f .header .localCount < f .header .localCount + 1 = omega arith in (new & p) & ps
 
       go : (o : Option ℕ) → Sound K C (Emission.defineLocalBy o n f .state)
-      go none = sound-scopes f (f .localCount + 1) _ s (omega arith) (insert (all-map (λ es qs. all-map (λ e q. omega arith) qs) (s .scopes)))
+      go none = sound-scopes f (f .header .localCount + 1) _ s (omega arith) (insert (all-map (λ es qs. all-map (λ e q. omega arith) qs) (s .scopes)))
       go (some i) = s
 
-pub define-found : (n i : ℕ) (f : FunctionState) → defineLocal n f .found ≡ some i → i < defineLocal n f .state .localCount
-unfolding defineLocal
-define-found n i f e = go (findName n (innermost (f .scopes))) e
+pub define-found : (n i : ℕ) (f : FunctionState) → defineLocal n f .found ≡ some i → i < defineLocal n f .state .header .localCount
+define-found n i f = define-cases (λ d. d .found ≡ some i → i < d .state .header .localCount) n f go
   where
-    go : (o : Option ℕ) → Emission.defineLocalBy o n f .found ≡ some i → i < Emission.defineLocalBy o n f .state .localCount
-    go none q = let z : f .localCount ≡ i = cc in omega arith
+    go : (o : Option ℕ) → Emission.defineLocalBy o n f .found ≡ some i → i < Emission.defineLocalBy o n f .state .header .localCount
+    go none q = let z : f .header .localCount ≡ i = cc in omega arith
     go (some k) q = absurd (let z : _≡_ {A = ℕ} 0 1 = cc in omega arith)

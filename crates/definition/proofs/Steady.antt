@@ -14,8 +14,8 @@ use Rattle.words.specs.Ast.{∅ₑ, _∷ₑ_, ∅ᵥ, Bare, Valued, Local, Retu
 use Rattle.words.specs.Object.{Constant, constantOf, isShared, integerKind}
 use Rattle.words.specs.Opcode.{Instruction, toInstruction, Pop, PushConstant, ReturnOp, Jump, JumpIf, LocalSet, ForNext, Iterate}
 use Rattle.definition.specs.FunctionState as Emission
-use Rattle.definition.specs.FunctionState.{FunctionState, Entry, removePopOrPushNull, emitReturn, emitBreak, exitBreakScope, defineLocal, lastOpcode}
-use Rattle.definition.specs.FunctionState.{innermost, findName, getNextInstructionIndex, newFunctionState}
+use Rattle.definition.specs.FunctionState.{FunctionState, removePopOrPushNull, emitReturn, emitBreak, exitBreakScope, defineLocal, lastOpcode}
+use Rattle.definition.specs.FunctionState.{findName, getNextInstructionIndex, newFunctionState}
 use Rattle.definition.specs.Uses.{Use}
 use Rattle.definition.specs.Compiler
 use Rattle.definition.specs.Compiler.{Work, Step, Added, withFunction, doing, emit, emitOpcode, pushError, addConstant, addConstantNoCheck, findConstant}
@@ -29,6 +29,7 @@ use Rattle.definition.specs.Compiler.{compileArrayExpression, compileCal
 use Rattle.definition.specs.Compiler.{compileAssignExpression, compilePair, compileAssignName, compileThisExpression, compileIdentifierExpression}
 use Rattle.definition.specs.Compiler.{compileNullExpression, compileBooleanExpression, compileStringExpression, compileFloatExpression}
 use Rattle.definition.specs.Compiler.{compileIntegerExpression, compileFunctionDefinitionBase}
+use Rattle.definition.proofs.Defining.{define-cases}
 use Rattle.definition.proofs.Lists.{cond-case}
 
 -- notes are added in front
@@ -110,8 +111,7 @@ steady-break p w = go (w .function .breakScopes)
     go (s ∷ ss) = steady-function w _ refl
 
 pub steady-define : (n : ℕ) (w : Work) → Steady w (withFunction (defineLocal n (w .function) .state) w)
-unfolding defineLocal
-steady-define n w = go (findName n (innermost (w .function .scopes)))
+steady-define n w = define-cases (λ d. Steady w (withFunction (d .state) w)) n (w .function) go
   where
     go : (o : Option ℕ) → Steady w (withFunction (Emission.defineLocalBy o n (w .function) .state) w)
     go none = steady-function w _ refl
@@ -233,7 +233,7 @@ steady-if {c} {t} {f} C R F w =
 pub steady-for : {a b : Step} → Steadily a → Steadily b → (t i : Token) → Steadily (compileForStatement t i a b)
 unfolding compileForStatement exitBreakScope
 steady-for {a} {b} A B t i w =
-    let x = w .function .localCount in
+    let x = w .function .header .localCount in
     let p = t .position in
     let w₁ = doing (λ f. Emission.enterBreakScope (Emission.enterScope (Emission.defineAnonymousLocal (Emission.defineAnonymousLocal f)))) w in
     let w₂ = a w₁ in
@@ -393,7 +393,7 @@ pub steady-base : (f : FunctionDefinition) (w : Work) → Steady (withFunction n
 unfolding compileFunctionDefinitionBase
 steady-base f w =
     let w₁ = compileParameters (f .parameters) (withFunction newFunctionState w) in
-    let w₂ = doing (λ g. Emission.withParameters (g .isInstance) (length (f .parameters)) g) w₁ in
+    let w₂ = doing (λ g. Emission.withParameters (g .header .isInstance) (length (f .parameters)) g) w₁ in
     let w₃ = compileStatements (f .body) w₂ in
     steady-trans (steady-parameters (f .parameters) (withFunction newFunctionState w)) (steady-trans {b = w₂} (steady-function w₁ _ refl)
     (steady-trans (steady-statements (f .body) w₂) (steady-return (Emission.getLastPosition (w₃ .function)) w₃)))

@@ -32,18 +32,19 @@ pub totals-counted : (c : Context) → ProgramSafe c → map (λ (es : Entries).
 unfolding tablesOf
 totals-counted c s =
     let p = c .prior in
-    let code = more (p .code) (entriesFrom functionCode 0 (c .functions))
+    let code = more (p .code) (entriesFrom functionCode 0 (c .program .functions))
     (functionsCode-length (all-map (λ (f : Function) p. p .0 .sized) (s .parts .functions))) in
     let pool = c .pool .constants in
     let constants : length (entriesFrom (constantEntry (c .pool .globals)) 0 pool) ≡ length pool = single-length _ 0 pool in
-    let functions = more (p .functions) (functionEntries (length (p .code)) (c .functions)) (functions-length (length (p .code)) (c .functions)) in
-    let models = more (p .models) (entriesFrom modelEntry 0 (c .models)) (single-length _ 0 (c .models)) in
+    let functions = more (p .functions) (functionEntries (length (p .code)) (c .program .functions))
+    (functions-length (length (p .code)) (c .program .functions)) in
+    let models = more (p .models) (entriesFrom modelEntry 0 (c .program .models)) (single-length _ 0 (c .program .models)) in
     let M = length (p .models) in
-    let properties = more (p .properties) (entriesFrom modelProperties M (c .models))
-    (entries-length modelProperties (λ m. length (m .properties)) M (λ j m u. properties-length j (m .properties)) (all-any (c .models))) in
-    let methods : length (entriesFrom methodEntry 0 (c .methods)) ≡ length (c .methods) = single-length _ 0 (c .methods) in
+    let properties = more (p .properties) (entriesFrom modelProperties M (c .program .models))
+    (entries-length modelProperties (λ m. length (m .properties)) M (λ j m u. properties-length j (m .properties)) (all-any (c .program .models))) in
+    let methods : length (entriesFrom methodEntry 0 (c .program .methods)) ≡ length (c .program .methods) = single-length _ 0 (c .program .methods) in
     let L = length (p .locals) in
-    let names = more (p .locals) (entriesFrom (localEntry (c .localValues)) L (c .localNames)) (single-length _ L (c .localNames)) in
+    let names = more (p .locals) (entriesFrom (localEntry (c .locals .values)) L (c .locals .names)) (single-length _ L (c .locals .names)) in
     let publics = more (p .publics) (entriesFrom assemblyPublics 0 (c .assemblies))
     (entries-length assemblyPublics (λ a. length (a .publics)) 0 (λ j a u. publics-length (a .index) (a .publics)) (all-any (c .assemblies))) in
     let books = more (p .books) (entriesFrom bookEntry 0 (c .assemblies)) (single-length _ 0 (c .assemblies)) in

@@ -13,7 +13,7 @@ use lib.Seq.{getD-set-same, getD-set-other, set-out}
 use lib.Dec.{T, eqb, ltb, eqb→eq, eqb-refl, ltb→lt, nltb→le}
 use Rattle.definition.specs.FunctionState.{orElse}
 use Rattle.definition.specs.Uses.{Use, using′, Limits, limitOf, overBy, firstOver, greatestUse}
-use Rattle.definition.specs.Within.{All, none, _&_}
+use Rattle.definition.specs.Within.{All, nil, _&_}
 use Rattle.definition.proofs.Lists.{all-map, cond-case}
 
 -- a note within its area
@@ -31,14 +31,14 @@ by-none false n e = tt
 -- row 9 is not met just where every note is within its area
 pub over-none : (l : Limits) (us : List Use) → firstOver l us ≡ none → All (FitsArea l) us
 unfolding firstOver
-over-none l [] e = none
+over-none l [] e = nil
 over-none l (u ∷ us) e =
     let x = or-none (firstOver l us) (overBy l u) e in
     nltb→le _ _ (by-none (ltb (limitOf l (u .area)) (u .count)) (u .area) (x .1)) & over-none l us (x .0)
 
 pub none-over : (l : Limits) (us : List Use) → All (FitsArea l) us → firstOver l us ≡ none
 unfolding firstOver
-none-over l [] none = refl
+none-over l [] nil = refl
 none-over l (u ∷ us) (h & hs) = rw (none-over l us hs) (go (ltb (limitOf l (u .area)) (u .count)) (ltb→lt (limitOf l (u .area)) (u .count)))
   where
     go : (b : Bool) → (T b → limitOf l (u .area) < u .count) → cond b (some (u .area)) none ≡ none
@@ -48,7 +48,7 @@ none-over l (u ∷ us) (h & hs) = rw (none-over l us hs) (go (ltb (limitOf l (u 
 -- the greatest note of an area is within n just where each of its notes is
 greatest-within : (area n : ℕ) (us : List Use) → All (λ (u : Use). u .area ≡ area → u .count ≤ n) us → greatestUse area us ≤ n
 unfolding greatestUse
-greatest-within area n [] none = omega arith
+greatest-within area n [] nil = omega arith
 greatest-within area n (u ∷ us) (h & hs) =
     let x : cond (eqb (u .area) area) (u .count) 0 ≤ n = cond-case (λ k. k ≤ n) (eqb (u .area) area) (λ t. h (eqb→eq _ _ t)) (λ t. omega arith) in
     omega (arith, greatest-within area n us hs)
@@ -69,7 +69,7 @@ each-greatest : (us : List Use) → All (λ (u : Use). u .count ≤ greatestUse 
 each-greatest us = go us (λ a. le-refl _)
   where
     go : (vs : List Use) → ((a : ℕ) → greatestUse a vs ≤ greatestUse a us) → All (λ (u : Use). u .count ≤ greatestUse (u .area) us) vs
-    go [] h = none
+    go [] h = nil
     go (v ∷ vs) h = le-trans (greatest-here (v .area) (v .count) vs) (h (v .area)) & go vs (λ a. le-trans (greatest-later a v vs) (h a))
 
 -- 2026-09: row 9 is not met just where for every area the greatest note is within it

@@ -10,10 +10,10 @@ use lib.ListN.{length, getD, take, set}
 use lib.Dec.{T, lit≤}
 use Rattle.words.specs.Areas.{widthOf, booksArea}
 use Rattle.words.specs.Opcode.{Instruction, toInstruction, unword, word, Jump}
-use Rattle.definition.specs.FunctionState.{Event, Entered, Broke, Left}
-use Rattle.definition.specs.Within.{All, none, _&_, Among, here, there, Program, total, lengthOf, localsOf, instructionOf, areaBound, InLoop, first}
+use Rattle.definition.specs.FunctionState.{Event, Entered, Broke, Left, Log}
+use Rattle.definition.specs.Within.{All, nil, _&_, Among, here, there, Program, total, lengthOf, localsOf, instructionOf, areaBound, InLoop, first}
 use Rattle.definition.specs.Within.{later}
-use Rattle.definition.specs.Within.{Loop, Lands, Log, FunctionLogged, KeepsWithin}
+use Rattle.definition.specs.Within.{Loop, Lands, FunctionLogged, KeepsWithin}
 use Rattle.definition.specs.WithinBench.{kept, noted, keptLogs}
 
 -- with a bound that fails there is no claim, whatever the logs: of each change in `broken`

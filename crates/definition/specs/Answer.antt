@@ -105,7 +105,7 @@ replyOf (Delivery c) = record {
   number = 0;
   place = 0;
   totals = map (λ (es : Entries). length es) (tablesOf c);
-  entryPoint = c .entryPoint;
+  entryPoint = c .program .entryPoint;
   globals = globalDependencies (c .pool .globals) 0 (c .pool .constants);
 }
 replyOf (Refusal n p es) = record { number = n; place = p; totals = replicate 13 0; entryPoint = 0; globals = 0 }

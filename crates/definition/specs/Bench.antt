@@ -70,12 +70,12 @@ pub record Result : Type 0 where
 
 abbrev compiled : Function → Compiled
 compiled f = record {
-  parameters = f .state .parameterCount;
-  locals = f .state .localCount;
-  rescue = f .state .rescuePosition;
-  instance = bit (f .state .isInstance);
-  code = f .state .instructions;
-  positions = f .state .positions;
+  parameters = f .state .header .parameterCount;
+  locals = f .state .header .localCount;
+  rescue = f .state .header .rescuePosition;
+  instance = bit (f .state .header .isInstance);
+  code = f .state .code .instructions;
+  positions = f .state .code .positions;
 }
 
 -- without the three that every pool has
@@ -90,7 +90,7 @@ resultOf (Delivery c) = record {
   row = 0;
   place = 0;
   errors = [];
-  functions = map compiled (c .functions);
+  functions = map compiled (c .program .functions);
   constants = added (getD (tablesOf c) 2 []);
 }
 resultOf (Refusal n p es) = record { row = n; place = p; errors = getD (errorTables es) 11 []; functions = []; constants = [] }

@@ -39,20 +39,27 @@ pub record Assembly : Type 0 where
   pub index : ℕ
   pub publics : List Entry
 
--- the Rust's `CompilerContext`; `pool` is what functions need of it. localValues: context local, constant. localNames: each context local's name and
--- its book's index, which area 7 keeps though the Rust drops its books' `locals`. methods: those of all models, in the order in which each first came.
--- prior: what stood before a bundle (2026-01). Constants, marks and methods are whole lists, those that stood first; models, functions, context locals'
--- names and values, and assemblies are those added, and their indices go on from what stood
+-- of the Rust's `Program`. methods: those of all models, in the order in which each first came
+pub record ProgramParts : Type 0 where
+  pub models : List Model
+  pub methods : List Method
+  pub functions : List Function
+  pub entryPoint : ℕ
+
+-- values: context local, constant. names: each context local's name and its book's index, which area 7 keeps though the Rust drops its books' `locals`
+pub record ContextLocals : Type 0 where
+  pub values : List Entry
+  pub names : List Entry
+
+-- the Rust's `CompilerContext`; `pool` is what functions need of it. prior: what stood before a bundle (2026-01). Constants, marks and methods are whole
+-- lists, those that stood first; models, functions, context locals' names and values, and assemblies are those added, and their indices go on from
+-- what stood
 pub record Context : Type 0 where
   pub pool : CompilerContext
   pub prior : Prior
-  pub models : List Model
-  pub functions : List Function
-  pub localValues : List Entry
-  pub entryPoint : ℕ
+  pub program : ProgramParts
+  pub locals : ContextLocals
   pub assemblies : List Assembly
-  pub localNames : List Entry
-  pub methods : List Method
 
 -- the Rust's `CompilerState` and `CompilerContext` together; `uses`: the entries in use so far, the newest note first
 pub record Book : Type 0 where
@@ -69,119 +76,49 @@ abbrev pub newContext : Context
 newContext = record {
   pool = record { constants = defaultConstants; globals = []; localCount = 0 };
   prior = nothingStands;
-  models = [];
-  functions = [];
-  localValues = [];
-  entryPoint = 0;
+  program = record { models = []; methods = []; functions = []; entryPoint = 0 };
+  locals = record { values = []; names = [] };
   assemblies = [];
-  localNames = [];
-  methods = [];
 }
 
 -- one field anew
 abbrev pub withPool : CompilerContext → Context → Context
-withPool p c = record {
-  pool = p;
-  prior = c .prior;
-  models = c .models;
-  functions = c .functions;
-  localValues = c .localValues;
-  entryPoint = c .entryPoint;
-  assemblies = c .assemblies;
-  localNames = c .localNames;
-  methods = c .methods;
-}
+withPool p c = record { pool = p; prior = c .prior; program = c .program; locals = c .locals; assemblies = c .assemblies }
 
-abbrev pub withModels : List Model → Context → Context
-withModels m c = record {
-  pool = c .pool;
-  prior = c .prior;
-  models = m;
-  functions = c .functions;
-  localValues = c .localValues;
-  entryPoint = c .entryPoint;
-  assemblies = c .assemblies;
-  localNames = c .localNames;
-  methods = c .methods;
-}
+abbrev pub withProgram : ProgramParts → Context → Context
+withProgram p c = record { pool = c .pool; prior = c .prior; program = p; locals = c .locals; assemblies = c .assemblies }
 
-abbrev pub withFunctions : List Function → Context → Context
-withFunctions f c = record {
-  pool = c .pool;
-  prior = c .prior;
-  models = c .models;
-  functions = f;
-  localValues = c .localValues;
-  entryPoint = c .entryPoint;
-  assemblies = c .assemblies;
-  localNames = c .localNames;
-  methods = c .methods;
-}
-
-abbrev pub withLocalValues : List Entry → Context → Context
-withLocalValues v c = record {
-  pool = c .pool;
-  prior = c .prior;
-  models = c .models;
-  functions = c .functions;
-  localValues = v;
-  entryPoint = c .entryPoint;
-  assemblies = c .assemblies;
-  localNames = c .localNames;
-  methods = c .methods;
-}
-
-abbrev pub withEntryPoint : ℕ → Context → Context
-withEntryPoint n c = record {
-  pool = c .pool;
-  prior = c .prior;
-  models = c .models;
-  functions = c .functions;
-  localValues = c .localValues;
-  entryPoint = n;
-  assemblies = c .assemblies;
-  localNames = c .localNames;
-  methods = c .methods;
-}
+abbrev pub withLocals : ContextLocals → Context → Context
+withLocals l c = record { pool = c .pool; prior = c .prior; program = c .program; locals = l; assemblies = c .assemblies }
 
 abbrev pub withAssemblies : List Assembly → Context → Context
-withAssemblies a c = record {
-  pool = c .pool;
-  prior = c .prior;
-  models = c .models;
-  functions = c .functions;
-  localValues = c .localValues;
-  entryPoint = c .entryPoint;
-  assemblies = a;
-  localNames = c .localNames;
-  methods = c .methods;
-}
+withAssemblies a c = record { pool = c .pool; prior = c .prior; program = c .program; locals = c .locals; assemblies = a }
 
-abbrev pub withLocalNames : List Entry → Context → Context
-withLocalNames n c = record {
-  pool = c .pool;
-  prior = c .prior;
-  models = c .models;
-  functions = c .functions;
-  localValues = c .localValues;
-  entryPoint = c .entryPoint;
-  assemblies = c .assemblies;
-  localNames = n;
-  methods = c .methods;
-}
+abbrev pub withModels : List Model → Context → Context
+withModels m c =
+    let p = c .program in
+    withProgram (record { models = m; methods = p .methods; functions = p .functions; entryPoint = p .entryPoint }) c
 
 abbrev pub withMethods : List Method → Context → Context
-withMethods l c = record {
-  pool = c .pool;
-  prior = c .prior;
-  models = c .models;
-  functions = c .functions;
-  localValues = c .localValues;
-  entryPoint = c .entryPoint;
-  assemblies = c .assemblies;
-  localNames = c .localNames;
-  methods = l;
-}
+withMethods l c =
+    let p = c .program in
+    withProgram (record { models = p .models; methods = l; functions = p .functions; entryPoint = p .entryPoint }) c
+
+abbrev pub withFunctions : List Function → Context → Context
+withFunctions f c =
+    let p = c .program in
+    withProgram (record { models = p .models; methods = p .methods; functions = f; entryPoint = p .entryPoint }) c
+
+abbrev pub withEntryPoint : ℕ → Context → Context
+withEntryPoint n c =
+    let p = c .program in
+    withProgram (record { models = p .models; methods = p .methods; functions = p .functions; entryPoint = n }) c
+
+abbrev pub withLocalValues : List Entry → Context → Context
+withLocalValues v c = withLocals (record { values = v; names = c .locals .names }) c
+
+abbrev pub withLocalNames : List Entry → Context → Context
+withLocalNames n c = withLocals (record { values = c .locals .values; names = n }) c
 
 abbrev pub withContext : Context → Deed
 withContext c b = record { compiler = b .compiler; assembly = b .assembly; context = c; uses = b .uses }
@@ -198,7 +135,7 @@ pushBookError n t b =
 
 -- how many instructions functions have, properties models, and public names books
 abbrev pub codeOf : List Function → ℕ
-codeOf fs = sumOf (λ f. length (f .state .instructions)) fs
+codeOf fs = sumOf (λ f. length (f .state .code .instructions)) fs
 
 abbrev pub propertiesOf : List Model → ℕ
 propertiesOf ms = sumOf (λ m. length (m .properties)) ms
@@ -208,16 +145,16 @@ publicsOf as′ = sumOf (λ a. length (a .publics)) as′
 
 -- the entries of areas 1, 3, 4, 5, 8 and 12, those that stood before and those added; the public names are those of the books before this one
 abbrev pub codeCount : Context → ℕ
-codeCount c = length (c .prior .code) + codeOf (c .functions)
+codeCount c = length (c .prior .code) + codeOf (c .program .functions)
 
 abbrev pub functionCount : Context → ℕ
-functionCount c = length (c .prior .functions) + length (c .functions)
+functionCount c = length (c .prior .functions) + length (c .program .functions)
 
 abbrev pub modelCount : Context → ℕ
-modelCount c = length (c .prior .models) + length (c .models)
+modelCount c = length (c .prior .models) + length (c .program .models)
 
 abbrev pub propertyCount : Context → ℕ
-propertyCount c = length (c .prior .properties) + propertiesOf (c .models)
+propertyCount c = length (c .prior .properties) + propertiesOf (c .program .models)
 
 abbrev pub publicCount : Context → ℕ
 publicCount c = length (c .prior .publics) + publicsOf (c .assemblies)
@@ -259,7 +196,7 @@ withLocalName n b =
     record {
       compiler = record { locals = b .compiler .locals ++ (record { name = n; index = index } ∷ []); errors = b .compiler .errors };
       assembly = b .assembly;
-      context = withLocalNames (b .context .localNames ++ (record { name = n; index = b .assembly .index } ∷ []))
+      context = withLocalNames (b .context .locals .names ++ (record { name = n; index = b .assembly .index } ∷ []))
           (withPool (record { constants = b .context .pool .constants; globals = b .context .pool .globals; localCount = index + 1 }) (b .context));
       uses = b .uses;
     }
@@ -283,7 +220,9 @@ insertEntry e (x ∷ xs) = cond (eqb (x .name) (e .name)) (e ∷ xs) (x ∷ inse
 -- `local_values.insert`
 abbrev pub setLocalValue : Option ℕ → ℕ → Deed
 setLocalValue none constant b = b
-setLocalValue (some i) constant b = withContext (withLocalValues (insertEntry (record { name = i; index = constant }) (b .context .localValues)) (b .context)) b
+setLocalValue (some i) constant b =
+    let values = insertEntry (record { name = i; index = constant }) (b .context .locals .values) in
+    withContext (withLocalValues values (b .context)) b
 
 -- includes
 
@@ -381,7 +320,7 @@ compileProperties (t ∷ ts) ps b = let a = addProperty t ps b in compilePropert
 abbrev pub addModel : List ℕ → ℕ → Deed
 addModel properties name b =
     noted modelsArea (modelCount (b .context) + 1)
-    (withContext (withModels (b .context .models ++ (record { properties = properties; name = name; file = b .assembly .index } ∷ [])) (b .context)) b)
+    (withContext (withModels (b .context .program .models ++ (record { properties = properties; name = name; file = b .assembly .index } ∷ [])) (b .context)) b)
 
 -- `compile_model_definition`: the properties one by one, the model, its constant, its context local
 unfoldable pub compileModelDefinition : Token → List Token → Book → Placed
@@ -423,7 +362,7 @@ compileBase f b = let w = compileFunctionDefinitionBase (f .parameters) (f .body
 abbrev pub addFunction : FunctionState → ℕ → Deed
 addFunction s name b =
     noted functionsArea (functionCount (b .context) + 1)
-    (withContext (withFunctions (b .context .functions ++ (record { state = s; name = name; file = b .assembly .index } ∷ [])) (b .context)) b)
+    (withContext (withFunctions (b .context .program .functions ++ (record { state = s; name = name; file = b .assembly .index } ∷ [])) (b .context)) b)
 
 -- the rest of `compile_function_definition`: the last `main`, text 1, is the entry point
 unfoldable pub addPlainFunction : Option ℕ → FunctionState → ℕ → Book → Placed
@@ -438,7 +377,7 @@ unfoldable pub compileFunctionDefinition : FunctionDefinition → Book → Place
 compileFunctionDefinition f b =
     let d = defineContextLocal (f .name .value) b in
     let m = compileBase f (d .book) in
-    cond (m .state .isInstance) (record { place = 0; book = pushBookError 8 (f .name) (m .book) })
+    cond (m .state .header .isInstance) (record { place = 0; book = pushBookError 8 (f .name) (m .book) })
     (addPlainFunction (d .place) (m .state) (f .name .value) (m .book))
 
 -- implement and apply
@@ -459,7 +398,7 @@ valueAt (some i) cs = constantAt cs i
 
 -- `get_local_value`
 abbrev pub getLocalValue : ℕ → Context → Option Constant
-getLocalValue local c = valueAt (findName local (c .localValues)) (c .pool .constants)
+getLocalValue local c = valueAt (findName local (c .locals .values)) (c .pool .constants)
 
 abbrev pub findModelBy : Option ℕ → Token → Book → MaybePlaced
 findModelBy (some m) t b = record { place = some m; book = b }
@@ -488,7 +427,7 @@ insertMethods m (e ∷ es) l = insertMethods m es (insertMethod (record { model 
 abbrev pub addMethods : Option ℕ → List Entry → Deed
 addMethods none es b = b
 addMethods (some m) es b =
-    let methods = insertMethods m es (b .context .methods) in
+    let methods = insertMethods m es (b .context .program .methods) in
     noted methodsArea (length methods) (withContext (withMethods methods (b .context)) b)
 
 pub record Methods : Type 0 where
@@ -517,7 +456,7 @@ methodsIn m (x ∷ xs) = let rest = methodsIn m xs in cond (eqb (x .model) m) (r
 
 abbrev pub methodsOf : Option ℕ → Context → List Entry
 methodsOf none c = []
-methodsOf (some m) c = methodsIn m (c .methods)
+methodsOf (some m) c = methodsIn m (c .program .methods)
 
 -- `compile_apply_definition`: with an unknown source the target is still looked at
 unfoldable pub compileApplyDefinition : Token → Token → Deed

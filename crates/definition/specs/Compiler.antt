@@ -54,7 +54,7 @@ withFunction f w = record {
   function = f;
   before = w .before;
   uses = using′ breaksArea (total (f .breakScopes)) ∷ using′ scopeNamesArea (total (f .scopes)) ∷ using′ codeArea
-      (w .before + length (f .instructions)) ∷ w .uses;
+      (w .before + length (f .code .instructions)) ∷ w .uses;
 }
 
 -- a method of the function's state as a step
@@ -183,7 +183,7 @@ compileIdentifierExpression t = emitName LocalGet ContextGet GlobalGet (t .value
 -- `compile_this_expression`, with the ghost log of `this` reads
 unfoldable pub compileThisExpression : Token → Step
 compileThisExpression t =
-    doing (λ f. Emission.withThisReads (f .thisReads ++ (getNextInstructionIndex f ∷ [])) (Emission.emit (toInstruction LocalGet 0) (t .position) f))
+    doing (λ f. Emission.withThisReads (f .log .thisReads ++ (getNextInstructionIndex f ∷ [])) (Emission.emit (toInstruction LocalGet 0) (t .position) f))
 
 -- the identifier's arm of `compile_assign_expression_left_part`: `infix′` is the token of the assignment
 unfoldable pub compileAssignName : Token → Token → Step
@@ -295,8 +295,8 @@ getOr d (some i) = i
 -- `compile_for_statement`. The name is in a scope just entered, so it is never there before: the Rust unwraps, and here a 0 stands for none
 unfoldable pub compileForStatement : Token → Token → Step → Step → Step
 compileForStatement t identifier enumerable statements w =
-    let enumerableIndex = w .function .localCount in
-    let iteratorIndex = w .function .localCount + 1 in
+    let enumerableIndex = w .function .header .localCount in
+    let iteratorIndex = w .function .header .localCount + 1 in
     let w₁ = doing (λ f. Emission.enterBreakScope (Emission.enterScope (Emission.defineAnonymousLocal (Emission.defineAnonymousLocal f)))) w in
     let w₂ = enumerable w₁ in
     let w₃ = emitOpcodeWithoutPosition Pop (emit (toInstruction LocalSet enumerableIndex) (t .position) w₂) in
@@ -435,7 +435,7 @@ unfoldable mutual
 -- a parameter: kind 41 is `this`
 unfoldable pub compileParameter : Token → Step
 compileParameter t w =
-    let w₁ = doing (λ f. withParameters (cond (eqb (t .kind) 41) true (f .isInstance)) (f .parameterCount) f) w in
+    let w₁ = doing (λ f. withParameters (cond (eqb (t .kind) 41) true (f .header .isInstance)) (f .header .parameterCount) f) w in
     compileBare 7 t w₁
 
 unfoldable pub compileParameters : List Token → Step
@@ -446,6 +446,6 @@ compileParameters (t ∷ ts) = andThen (compileParameter t) (compileParameters t
 unfoldable pub compileFunctionDefinitionBase : List Token → Statements → Step
 compileFunctionDefinitionBase parameters body w =
     let w₁ = compileParameters parameters (withFunction newFunctionState w) in
-    let w₂ = doing (λ f. withParameters (f .isInstance) (length parameters) f) w₁ in
+    let w₂ = doing (λ f. withParameters (f .header .isInstance) (length parameters) f) w₁ in
     let w₃ = compileStatements body w₂ in
     doing (λ f. Emission.emitReturn (getLastPosition f) f) w₃

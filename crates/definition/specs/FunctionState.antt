@@ -20,172 +20,83 @@ pub data Event : Type 0 where
   Broke : ℕ → Event
   Left : ℕ → ℕ → Event
 
--- scopes and breakScopes: the innermost first, and in a scope the newest name first. Ghosts: `trace`, the newest event first; `thisReads`, the indices
--- of the reads of `this`
-pub record FunctionState : Type 0 where
+-- what the Rust's `Function` keeps of it
+pub record Header : Type 0 where
   pub isInstance : Bool
   pub parameterCount : ℕ
   pub localCount : ℕ
-  pub depth : ℕ
   pub rescuePosition : ℕ
-  pub scopes : List (List Entry)
-  pub breakScopes : List (List ℕ)
+
+pub record Code : Type 0 where
   pub instructions : List Instruction
   pub positions : List ℕ
+
+-- ghosts: `trace`, the newest event first; `thisReads`, the indices of the reads of `this`
+pub record Log : Type 0 where
   pub trace : List Event
   pub thisReads : List ℕ
 
+-- scopes and breakScopes: the innermost first, and in a scope the newest name first
+pub record FunctionState : Type 0 where
+  pub header : Header
+  pub depth : ℕ
+  pub scopes : List (List Entry)
+  pub breakScopes : List (List ℕ)
+  pub code : Code
+  pub log : Log
+
+abbrev pub newHeader : Header
+newHeader = record { isInstance = false; parameterCount = 0; localCount = 0; rescuePosition = 0 }
+
+abbrev pub noLog : Log
+noLog = record { trace = []; thisReads = [] }
+
 -- `FunctionState::new`, with its first scope
 abbrev pub newFunctionState : FunctionState
-newFunctionState = record {
-  isInstance = false;
-  parameterCount = 0;
-  localCount = 0;
-  depth = 0;
-  rescuePosition = 0;
-  scopes = [] ∷ [];
-  breakScopes = [];
-  instructions = [];
-  positions = [];
-  trace = [];
-  thisReads = [];
-}
+newFunctionState =
+    record { header = newHeader; depth = 0; scopes = [] ∷ []; breakScopes = []; code = record { instructions = []; positions = [] }; log = noLog }
 
 -- one field anew
-abbrev pub withParameters : Bool → ℕ → FunctionState → FunctionState
-withParameters b n f = record {
-  isInstance = b;
-  parameterCount = n;
-  localCount = f .localCount;
-  depth = f .depth;
-  rescuePosition = f .rescuePosition;
-  scopes = f .scopes;
-  breakScopes = f .breakScopes;
-  instructions = f .instructions;
-  positions = f .positions;
-  trace = f .trace;
-  thisReads = f .thisReads;
-}
-
-abbrev pub withLocalCount : ℕ → FunctionState → FunctionState
-withLocalCount n f = record {
-  isInstance = f .isInstance;
-  parameterCount = f .parameterCount;
-  localCount = n;
-  depth = f .depth;
-  rescuePosition = f .rescuePosition;
-  scopes = f .scopes;
-  breakScopes = f .breakScopes;
-  instructions = f .instructions;
-  positions = f .positions;
-  trace = f .trace;
-  thisReads = f .thisReads;
-}
+abbrev pub withHeader : Header → FunctionState → FunctionState
+withHeader h f = record { header = h; depth = f .depth; scopes = f .scopes; breakScopes = f .breakScopes; code = f .code; log = f .log }
 
 abbrev pub withDepth : ℕ → FunctionState → FunctionState
-withDepth n f = record {
-  isInstance = f .isInstance;
-  parameterCount = f .parameterCount;
-  localCount = f .localCount;
-  depth = n;
-  rescuePosition = f .rescuePosition;
-  scopes = f .scopes;
-  breakScopes = f .breakScopes;
-  instructions = f .instructions;
-  positions = f .positions;
-  trace = f .trace;
-  thisReads = f .thisReads;
-}
-
-abbrev pub withRescue : ℕ → FunctionState → FunctionState
-withRescue n f = record {
-  isInstance = f .isInstance;
-  parameterCount = f .parameterCount;
-  localCount = f .localCount;
-  depth = f .depth;
-  rescuePosition = n;
-  scopes = f .scopes;
-  breakScopes = f .breakScopes;
-  instructions = f .instructions;
-  positions = f .positions;
-  trace = f .trace;
-  thisReads = f .thisReads;
-}
+withDepth n f = record { header = f .header; depth = n; scopes = f .scopes; breakScopes = f .breakScopes; code = f .code; log = f .log }
 
 abbrev pub withScopes : List (List Entry) → FunctionState → FunctionState
-withScopes s f = record {
-  isInstance = f .isInstance;
-  parameterCount = f .parameterCount;
-  localCount = f .localCount;
-  depth = f .depth;
-  rescuePosition = f .rescuePosition;
-  scopes = s;
-  breakScopes = f .breakScopes;
-  instructions = f .instructions;
-  positions = f .positions;
-  trace = f .trace;
-  thisReads = f .thisReads;
-}
+withScopes s f = record { header = f .header; depth = f .depth; scopes = s; breakScopes = f .breakScopes; code = f .code; log = f .log }
 
 abbrev pub withBreakScopes : List (List ℕ) → FunctionState → FunctionState
-withBreakScopes s f = record {
-  isInstance = f .isInstance;
-  parameterCount = f .parameterCount;
-  localCount = f .localCount;
-  depth = f .depth;
-  rescuePosition = f .rescuePosition;
-  scopes = f .scopes;
-  breakScopes = s;
-  instructions = f .instructions;
-  positions = f .positions;
-  trace = f .trace;
-  thisReads = f .thisReads;
-}
+withBreakScopes s f = record { header = f .header; depth = f .depth; scopes = f .scopes; breakScopes = s; code = f .code; log = f .log }
 
 abbrev pub withCode : List Instruction → List ℕ → FunctionState → FunctionState
-withCode is ps f = record {
-  isInstance = f .isInstance;
-  parameterCount = f .parameterCount;
-  localCount = f .localCount;
-  depth = f .depth;
-  rescuePosition = f .rescuePosition;
-  scopes = f .scopes;
-  breakScopes = f .breakScopes;
-  instructions = is;
-  positions = ps;
-  trace = f .trace;
-  thisReads = f .thisReads;
-}
+withCode is ps f =
+    let code : Code = record { instructions = is; positions = ps } in
+    record { header = f .header; depth = f .depth; scopes = f .scopes; breakScopes = f .breakScopes; code = code; log = f .log }
+
+abbrev pub withLog : Log → FunctionState → FunctionState
+withLog l f = record { header = f .header; depth = f .depth; scopes = f .scopes; breakScopes = f .breakScopes; code = f .code; log = l }
+
+abbrev pub withParameters : Bool → ℕ → FunctionState → FunctionState
+withParameters b n f =
+    let h = f .header in
+    withHeader (record { isInstance = b; parameterCount = n; localCount = h .localCount; rescuePosition = h .rescuePosition }) f
+
+abbrev pub withLocalCount : ℕ → FunctionState → FunctionState
+withLocalCount n f =
+    let h = f .header in
+    withHeader (record { isInstance = h .isInstance; parameterCount = h .parameterCount; localCount = n; rescuePosition = h .rescuePosition }) f
+
+abbrev pub withRescue : ℕ → FunctionState → FunctionState
+withRescue n f =
+    let h = f .header in
+    withHeader (record { isInstance = h .isInstance; parameterCount = h .parameterCount; localCount = h .localCount; rescuePosition = n }) f
 
 abbrev pub withTrace : List Event → FunctionState → FunctionState
-withTrace t f = record {
-  isInstance = f .isInstance;
-  parameterCount = f .parameterCount;
-  localCount = f .localCount;
-  depth = f .depth;
-  rescuePosition = f .rescuePosition;
-  scopes = f .scopes;
-  breakScopes = f .breakScopes;
-  instructions = f .instructions;
-  positions = f .positions;
-  trace = t;
-  thisReads = f .thisReads;
-}
+withTrace t f = withLog (record { trace = t; thisReads = f .log .thisReads }) f
 
 abbrev pub withThisReads : List ℕ → FunctionState → FunctionState
-withThisReads l f = record {
-  isInstance = f .isInstance;
-  parameterCount = f .parameterCount;
-  localCount = f .localCount;
-  depth = f .depth;
-  rescuePosition = f .rescuePosition;
-  scopes = f .scopes;
-  breakScopes = f .breakScopes;
-  instructions = f .instructions;
-  positions = f .positions;
-  trace = f .trace;
-  thisReads = l;
-}
+withThisReads l f = withLog (record { trace = f .log .trace; thisReads = l }) f
 
 -- the last of a list, and a list without its last
 abbrev pub last : {A : Type 0} → List A → A → A
@@ -196,15 +107,15 @@ init l = take (length l - 1) l
 
 -- `get_last_position`: `Position::none()` is 0
 abbrev pub getLastPosition : FunctionState → ℕ
-getLastPosition f = last (f .positions) 0
+getLastPosition f = last (f .code .positions) 0
 
 -- `get_next_instruction_index`
 abbrev pub getNextInstructionIndex : FunctionState → ℕ
-getNextInstructionIndex f = length (f .instructions)
+getNextInstructionIndex f = length (f .code .instructions)
 
 -- `emit`, `emit_opcode`, `emit_opcode_without_position`
 abbrev pub emit : Instruction → ℕ → FunctionState → FunctionState
-emit i p f = withCode (f .instructions ++ (i ∷ [])) (f .positions ++ (p ∷ [])) f
+emit i p f = withCode (f .code .instructions ++ (i ∷ [])) (f .code .positions ++ (p ∷ [])) f
 
 abbrev pub emitOpcode : ℕ → ℕ → FunctionState → FunctionState
 emitOpcode o p f = emit (toInstruction o 0) p f
@@ -218,11 +129,11 @@ emitNull f = emit (toInstruction PushConstant NULL) (getLastPosition f) f
 
 -- the last instruction's opcode; 0, which none has, where there is no instruction
 abbrev pub lastOpcode : FunctionState → ℕ
-lastOpcode f = last (f .instructions) nothing .opcode
+lastOpcode f = last (f .code .instructions) nothing .opcode
 
 -- the last instruction and its position taken off
 abbrev pub popLast : FunctionState → FunctionState
-popLast f = withCode (init (f .instructions)) (init (f .positions)) f
+popLast f = withCode (init (f .code .instructions)) (init (f .code .positions)) f
 
 -- `remove_pop_or_push_null`: an empty list has no last opcode, and gets null too
 unfoldable pub removePopOrPushNull : FunctionState → FunctionState
@@ -242,14 +153,14 @@ abbrev pub emitBreakIn : List (List ℕ) → ℕ → FunctionState → FunctionS
 emitBreakIn [] p f = f
 emitBreakIn (s ∷ ss) p f =
     let index = getNextInstructionIndex f in
-    withTrace (Broke index ∷ f .trace) (withBreakScopes (pushBreaks (index ∷ []) (f .breakScopes)) (emitOpcode Jump p f))
+    withTrace (Broke index ∷ f .log .trace) (withBreakScopes (pushBreaks (index ∷ []) (f .breakScopes)) (emitOpcode Jump p f))
 
 unfoldable pub emitBreak : ℕ → FunctionState → FunctionState
 emitBreak p f = emitBreakIn (f .breakScopes) p f
 
 -- `replace_instruction`
 abbrev pub replaceInstruction : ℕ → Instruction → FunctionState → FunctionState
-replaceInstruction j i f = withCode (set (f .instructions) j i) (f .positions) f
+replaceInstruction j i f = withCode (set (f .code .instructions) j i) (f .code .positions) f
 
 -- a scope's `get`
 abbrev pub findName : ℕ → List Entry → Option ℕ
@@ -282,7 +193,7 @@ exitScope f = withScopes (tail (f .scopes)) f
 
 -- `enter_break_scope`: a loop is entered
 abbrev pub enterBreakScope : FunctionState → FunctionState
-enterBreakScope f = withTrace (Entered ∷ f .trace) (withBreakScopes ([] ∷ f .breakScopes) f)
+enterBreakScope f = withTrace (Entered ∷ f .log .trace) (withBreakScopes ([] ∷ f .breakScopes) f)
 
 -- `replace_instruction` of each break by a Jump to t
 abbrev pub patchAll : List ℕ → ℕ → List Instruction → List Instruction
@@ -294,12 +205,12 @@ abbrev pub innermost : {A : Type 0} → List (List A) → List A
 innermost [] = []
 innermost (s ∷ ss) = s
 
--- `exit_break_scope`: the loop whose exit is at `exit` is left
+-- `exit_break_scope`: the loop whose exit is at `exit` is left. Without a break scope the Rust panics; a loop has entered its own
 unfoldable pub exitBreakScope : ℕ → FunctionState → FunctionState
 exitBreakScope exit f =
     let target = getNextInstructionIndex f in
-    withTrace (Left exit target ∷ f .trace)
-    (withBreakScopes (tail (f .breakScopes)) (withCode (patchAll (innermost (f .breakScopes)) target (f .instructions)) (f .positions) f))
+    withTrace (Left exit target ∷ f .log .trace)
+    (withBreakScopes (tail (f .breakScopes)) (withCode (patchAll (innermost (f .breakScopes)) target (f .code .instructions)) (f .code .positions) f))
 
 -- `insert` into the innermost scope
 abbrev pub insertName : Entry → List (List Entry) → List (List Entry)
@@ -314,14 +225,18 @@ pub record Defined : Type 0 where
 abbrev pub defineLocalBy : Option ℕ → ℕ → FunctionState → Defined
 defineLocalBy (some i) n f = record { found = none; state = f }
 defineLocalBy none n f = record {
-  found = some (f .localCount);
-  state = withScopes (insertName (record { name = n; index = f .localCount }) (f .scopes)) (withLocalCount (f .localCount + 1) f);
+  found = some (f .header .localCount);
+  state = withScopes (insertName (record { name = n; index = f .header .localCount }) (f .scopes)) (withLocalCount (f .header .localCount + 1) f);
 }
 
--- `define_local`: a name that the innermost scope has is not defined again; a function has its outermost scope always
+abbrev pub defineLocalIn : List (List Entry) → ℕ → FunctionState → Defined
+defineLocalIn [] n f = record { found = none; state = f }
+defineLocalIn (s ∷ ss) n f = defineLocalBy (findName n s) n f
+
+-- `define_local`: a name that the innermost scope has is not defined again, and none without a scope
 unfoldable pub defineLocal : ℕ → FunctionState → Defined
-defineLocal n f = defineLocalBy (findName n (innermost (f .scopes))) n f
+defineLocal n f = defineLocalIn (f .scopes) n f
 
 -- `define_anonymous_local`
 abbrev pub defineAnonymousLocal : FunctionState → FunctionState
-defineAnonymousLocal f = withLocalCount (f .localCount + 1) f
+defineAnonymousLocal f = withLocalCount (f .header .localCount + 1) f

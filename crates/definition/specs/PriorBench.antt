@@ -33,13 +33,9 @@ abbrev standing : Context
 standing = record {
   pool = record { constants = defaultConstants ++ (constantOf functionKind 0 ∷ constantOf modelKind 0 ∷ []); globals = 4 ∷ []; localCount = 2 };
   prior = stood;
-  models = [];
-  functions = [];
-  localValues = [];
-  entryPoint = 0;
+  program = record { models = []; methods = record { model = 0; name = 5; function = 0 } ∷ []; functions = []; entryPoint = 0 };
+  locals = record { values = []; names = [] };
   assemblies = [];
-  localNames = [];
-  methods = record { model = 0; name = 5; function = 0 } ∷ [];
 }
 
 -- an area's entries after a delivery; a refusal's row and place

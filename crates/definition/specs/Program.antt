@@ -28,7 +28,7 @@ codeEntries (x ∷ xs) [] = []
 codeEntries (x ∷ xs) (p ∷ ps) = (word x ∷ p ∷ []) ∷ codeEntries xs ps
 
 abbrev pub functionCode : ℕ → Function → Entries
-functionCode i f = codeEntries (f .state .instructions) (f .state .positions)
+functionCode i f = codeEntries (f .state .code .instructions) (f .state .code .positions)
 
 -- 2: a constant and its global mark
 abbrev pub constantEntry : List ℕ → ℕ → Constant → Entries
@@ -37,12 +37,12 @@ constantEntry globals i c = (c .kind ∷ c .value ∷ bit (hasText i globals) �
 -- 3: a function whose code starts at an entry of area 1
 abbrev pub functionEntry : ℕ → Function → List ℕ
 functionEntry start f =
-    f .state .parameterCount ∷ f .state .localCount ∷ f .state .rescuePosition ∷ bit (f .state .isInstance) ∷ start ∷ length (f .state .instructions)
-    ∷ f .file ∷ f .name ∷ []
+    let h = f .state .header in
+    h .parameterCount ∷ h .localCount ∷ h .rescuePosition ∷ bit (h .isInstance) ∷ start ∷ length (f .state .code .instructions) ∷ f .file ∷ f .name ∷ []
 
 abbrev pub functionEntries : ℕ → List Function → Entries
 functionEntries start [] = []
-functionEntries start (f ∷ fs) = functionEntry start f ∷ functionEntries (start + length (f .state .instructions)) fs
+functionEntries start (f ∷ fs) = functionEntry start f ∷ functionEntries (start + length (f .state .code .instructions)) fs
 
 -- 4 and 5: a model, and its properties
 abbrev pub modelEntry : ℕ → Model → Entries
@@ -85,25 +85,25 @@ bookEntry i a = (a .filename ∷ []) ∷ []
 
 -- the entries of an area: those that stood before a bundle, then those added
 abbrev pub codeTable : Context → Entries
-codeTable c = c .prior .code ++ entriesFrom functionCode 0 (c .functions)
+codeTable c = c .prior .code ++ entriesFrom functionCode 0 (c .program .functions)
 
 abbrev pub constantTable : Context → Entries
 constantTable c = entriesFrom (constantEntry (c .pool .globals)) 0 (c .pool .constants)
 
 abbrev pub functionTable : Context → Entries
-functionTable c = c .prior .functions ++ functionEntries (length (c .prior .code)) (c .functions)
+functionTable c = c .prior .functions ++ functionEntries (length (c .prior .code)) (c .program .functions)
 
 abbrev pub modelTable : Context → Entries
-modelTable c = c .prior .models ++ entriesFrom modelEntry 0 (c .models)
+modelTable c = c .prior .models ++ entriesFrom modelEntry 0 (c .program .models)
 
 abbrev pub propertyTable : Context → Entries
-propertyTable c = c .prior .properties ++ entriesFrom modelProperties (length (c .prior .models)) (c .models)
+propertyTable c = c .prior .properties ++ entriesFrom modelProperties (length (c .prior .models)) (c .program .models)
 
 abbrev pub methodTable : Context → Entries
-methodTable c = entriesFrom methodEntry 0 (c .methods)
+methodTable c = entriesFrom methodEntry 0 (c .program .methods)
 
 abbrev pub localTable : Context → Entries
-localTable c = c .prior .locals ++ entriesFrom (localEntry (c .localValues)) (length (c .prior .locals)) (c .localNames)
+localTable c = c .prior .locals ++ entriesFrom (localEntry (c .locals .values)) (length (c .prior .locals)) (c .locals .names)
 
 abbrev pub publicTable : Context → Entries
 publicTable c = c .prior .publics ++ entriesFrom assemblyPublics 0 (c .assemblies)

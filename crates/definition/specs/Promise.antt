@@ -6,7 +6,8 @@ use lib.ListN.{length}
 use Rattle.words.specs.declared.reply.Reply as struct
 use Rattle.words.specs.Reply.{areaTotals}
 use Rattle.definition.specs.Answer.{Answer, Delivery, Refusal, Reply, answer, replyOf, areasOf}
-use Rattle.definition.specs.Within.{Areas, Program, Log, logsOf, KeepsWithin}
+use Rattle.definition.specs.FunctionState.{Log}
+use Rattle.definition.specs.Within.{Areas, Program, logsOf, KeepsWithin}
 
 -- the areas by number; no area has number 0
 abbrev pub areas : (c k f m p t l u n b e o : List ℕ) → Areas
@@ -27,7 +28,7 @@ saying r = record {
 
 -- the loops and the reads of `this` that the definition logs of a delivery
 abbrev pub logsIn : Answer → List Log
-logsIn (Delivery c) = logsOf (c .functions)
+logsIn (Delivery c) = logsOf (c .program .functions)
 logsIn (Refusal n p es) = []
 
 -- what the call answers to the words of a tree, with areas of some lengths

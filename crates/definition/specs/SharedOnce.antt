@@ -1,5 +1,6 @@
 -- 02, 2026-05: 'Adding a float whose 64 bits stand in the pool gives the first number that has them'; 01, 'Emission': 'Equal integers and equal texts share'.
 -- So no two shared constants of a pool are the same
+-- No contract cites this file, and it need not be believed: the claim is proved (proofs/SharedOnce.antt)
 use Prim.Native.Nat.{ℕ, _<_}
 use mathlib.Core.Path.{_≡_}
 use mathlib.Core.Bool.{true, false}

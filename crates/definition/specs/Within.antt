@@ -13,12 +13,12 @@ use Rattle.words.specs.Areas.{contextLocalsArea, publicNamesArea, booksArea, lo
 use Rattle.words.specs.Object.{modelKind, functionKind}
 use Rattle.words.specs.Opcode.{Instruction, toInstruction, unword, Jump, JumpIf, LocalSet, LocalGet, LocalInit, ForNext, Iterate, ContextSet, ContextGet}
 use Rattle.words.specs.Opcode.{PushConstant, GlobalSet, GlobalGet}
-use Rattle.definition.specs.FunctionState.{FunctionState, Event, Entered, Broke, Left}
+use Rattle.definition.specs.FunctionState.{Event, Entered, Broke, Left, Log, noLog}
 use Rattle.definition.specs.Book.{Function}
 
 -- a claim of each of a list; a number among numbers
 pub data All {A : Type 0} (P : A → Type 0) : List A → Type 0 where
-  none : All P []
+  nil : All P []
   _&_ : {x : A} {xs : List A} → P x → All P xs → All P (x ∷ xs)
 
 infixr 30 _&_
@@ -114,8 +114,8 @@ boundByFunction ContextSlot p j n = true
 boundByFunction Other p j n = true
 
 -- function j has entry i of area 1
-abbrev pub has : Program → ℕ → ℕ → Bool
-has p j i = leb (startOf p j) i && ltb i (startOf p j + lengthOf p j)
+abbrev pub hasInstruction : Program → ℕ → ℕ → Bool
+hasInstruction p j i = leb (startOf p j) i && ltb i (startOf p j + lengthOf p j)
 
 -- a test of every number below n
 abbrev pub allBelow : ℕ → (ℕ → Bool) → Bool
@@ -126,14 +126,12 @@ allBelow (suc n) f = f n && allBelow n f
 abbrev pub where′ : Bool → Bool → Bool
 where′ a b = cond a b true
 
-abbrev pub operandBound : Program → ℕ → Instruction → Bool
-operandBound p i x =
-    boundByTotals (classOf (x .opcode)) p (x .operand)
-    && allBelow (present p functionsArea) (λ j. where′ (has p j i) (boundByFunction (classOf (x .opcode)) p j (x .operand)))
-
 -- area 1: an instruction, by the totals and by each function that has it
 abbrev pub codeBound : Program → ℕ → Bool
-codeBound p i = operandBound p i (instructionAt (p .areas) i)
+codeBound p i =
+    let x = instructionAt (p .areas) i in
+    boundByTotals (classOf (x .opcode)) p (x .operand)
+    && allBelow (present p functionsArea) (λ j. where′ (hasInstruction p j i) (boundByFunction (classOf (x .opcode)) p j (x .operand)))
 
 -- area 2: a constant's model or function; its mark
 abbrev pub constantBound : Program → ℕ → Bool
@@ -255,29 +253,19 @@ pub data InLoop (b : ℕ) : List Loop → Type 0 where
   first : {e : Loop} {es : List Loop} → Among b (e .breaks) → InLoop b (e ∷ es)
   later : {e : Loop} {es : List Loop} → InLoop b es → InLoop b (e ∷ es)
 
--- what the definition logs of a function
-pub record Log : Type 0 where
-  pub trace : List Event
-  pub this : List ℕ
-
-abbrev pub noLog : Log
-noLog = record { trace = []; this = [] }
-
-abbrev pub logOf : FunctionState → Log
-logOf f = record { trace = f .trace; this = f .thisReads }
-
+-- the functions' logs
 abbrev pub logsOf : List Function → List Log
 logsOf [] = []
-logsOf (f ∷ fs) = logOf (f .state) ∷ logsOf fs
+logsOf (f ∷ fs) = f .state .log ∷ logsOf fs
 
 -- "exactly one position for each instruction", of the definition's functions: area 1 holds both in one entry
 abbrev pub OnePositionEach : List Function → Type 0
-OnePositionEach fs = All (λ (f : Function). length (f .state .positions) ≡ length (f .state .instructions)) fs
+OnePositionEach fs = All (λ (f : Function). length (f .state .code .positions) ≡ length (f .state .code .instructions)) fs
 
 -- function j against its log
 pub record FunctionLogged (p : Program) (g : Log) (j : ℕ) : Type 0 where
   -- a read of a local where the function has none is the read of a 31
-  pub reads : (i : ℕ) → i < lengthOf p j → instructionOf p j i .opcode ≡ LocalGet → localsOf p j ≡ 0 → Among i (g .this)
+  pub reads : (i : ℕ) → i < lengthOf p j → instructionOf p j i .opcode ≡ LocalGet → localsOf p j ≡ 0 → Among i (g .thisReads)
   -- every loop that was entered was left
   pub closed : readTrace (g .trace) .open′ ≡ []
   -- a ForNext is that of a logged loop, whose exit is next to it

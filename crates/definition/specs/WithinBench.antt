@@ -13,9 +13,9 @@ use Rattle.words.specs.Object.{nullKind, booleanKind, textKind, modelKind, func
 use Rattle.words.specs.Record.{inPlace}
 use Rattle.words.specs.Opcode.{toInstruction, word, unword, PushConstant, ReturnOp, LocalSet, LocalGet, LocalInit, ContextGet, ContextSet, GlobalGet, GlobalSet}
 use Rattle.words.specs.Opcode.{Jump, JumpIf, ForNext, Iterate}
-use Rattle.definition.specs.FunctionState.{Event, Entered, Broke, Left}
+use Rattle.definition.specs.FunctionState.{Event, Entered, Broke, Left, Log}
 use Rattle.definition.specs.Answer.{answer}
-use Rattle.definition.specs.Within.{Program, Loop, Log, allBelow, areaBound, entryPointBound, loopsOf, breaksOf}
+use Rattle.definition.specs.Within.{Program, Loop, allBelow, areaBound, entryPointBound, loopsOf, breaksOf}
 use Rattle.definition.specs.ProgramCheck.{areaFine, programFault}
 use Rattle.definition.specs.Promise.{logsIn}
 use Rattle.definition.specs.Bench.{run}
@@ -43,7 +43,7 @@ kept = record {
 
 -- its logs: function 1 reads `this` at 0; function 2 enters a loop, breaks at 2 and leaves it, its exit at 1 and just after it 5
 abbrev pub noted : List Event → List ℕ → Log
-noted trace this = record { trace = trace; this = this }
+noted trace this = record { trace = trace; thisReads = this }
 
 abbrev pub keptLogs : List Log
 keptLogs = noted [] [] ∷ noted [] (0 ∷ []) ∷ noted (Left 1 5 ∷ Broke 2 ∷ Entered ∷ []) [] ∷ []

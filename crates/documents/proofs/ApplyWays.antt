@@ -35,9 +35,9 @@ use Rattle.documents.proofs.Copying.{inserts-grow, methods-then, method
 
 -- the loop over the first methods
 pub record CopiesFrom (source target i count : ℕ) (s : struct.Book) (t : List ℕ) (s′ : struct.Book) (t′ : List ℕ) : Type 0 where
-  pub meets : (c k f m p l u n b e : List ℕ) (κ : Limits) (ps : List ℕ) (w : Book) → (s .full ≡ 0 → count ≤ length (w .context .methods))
+  pub meets : (c k f m p l u n b e : List ℕ) (κ : Limits) (ps : List ℕ) (w : Book) → (s .full ≡ 0 → count ≤ length (w .context .program .methods))
       → Keeping κ ps (shelf s c k f m p t l u n b e) w
-      → Keeping κ ps (shelf s′ c k f m p t′ l u n b e) (addMethods (some target) (methodsFrom source i (count - i) (w .context .methods)) w)
+      → Keeping κ ps (shelf s′ c k f m p t′ l u n b e) (addMethods (some target) (methodsFrom source i (count - i) (w .context .program .methods)) w)
 
 -- a method's words, also behind the methods
 method-word : {t : List ℕ} {n : ℕ} (xs : List Method) → Filled 3 t (entriesFrom methodEntry 0 xs) n → (i k : ℕ) → k < 3
@@ -62,14 +62,17 @@ method-word {t} {n} xs f i k q = go (decLt i (length xs))
 -- `copy_method`
 module _ {source target i : ℕ} {s : struct.Book} {t : List ℕ} where
   pub copy-full : (s .full ≡ 0 → ⊥) → CopiesMethod source target i s t s t
-  copy-full ne = record { deeds = λ c k f m p l u n b e. full-deeds (λ w. calm-methods (some target) (methodsFrom source i 1 (w .context .methods)) w) ne }
+  copy-full ne = record {
+    deeds = λ c k f m p l u n b e. full-deeds
+        (λ w. calm-methods (some target) (methodsFrom source i 1 (w .context .program .methods)) w) ne;
+  }
 
   pub copy-other : s .full ≡ 0 → {model : ℕ} → model ≡ entryField 3 i 0 t → (model ≡ source → ⊥) → CopiesMethod source target i s t s t
   copy-other z {model} first ne = record {
     deeds = λ c k f m p l u n b e. record {
       meets = λ κ ps w H.
-          let x = getD (w .context .methods) i noMethod in
-          let is : model ≡ x .model = first ∙ method-word (w .context .methods) (H .rest z .methods) i 0 (omega arith) in
+          let x = getD (w .context .program .methods) i noMethod in
+          let is : model ≡ x .model = first ∙ method-word (w .context .program .methods) (H .rest z .methods) i 0 (omega arith) in
           rw (ne-eqb (x .model) source (λ q. ne (is ∙ q))) (methods-none target w H);
     };
   }
@@ -80,11 +83,11 @@ module _ {source target i : ℕ} {s : struct.Book} {t : List ℕ} where
   copy-one z {model} {name} {function} first own second third I = record {
     deeds = λ c k f m p l u n b e. record {
       meets = λ κ ps w H.
-          let x = getD (w .context .methods) i noMethod in
+          let x = getD (w .context .program .methods) i noMethod in
           let filled = H .rest z .methods in
-          let is : x .model ≡ source = sym (first ∙ method-word (w .context .methods) filled i 0 (omega arith)) ∙ own in
-          let name-is : name ≡ x .name = second ∙ method-word (w .context .methods) filled i 1 (omega arith) in
-          let function-is : function ≡ x .function = third ∙ method-word (w .context .methods) filled i 2 (omega arith) in
+          let is : x .model ≡ source = sym (first ∙ method-word (w .context .program .methods) filled i 0 (omega arith)) ∙ own in
+          let name-is : name ≡ x .name = second ∙ method-word (w .context .program .methods) filled i 1 (omega arith) in
+          let function-is : function ≡ x .function = third ∙ method-word (w .context .program .methods) filled i 2 (omega arith) in
           rw (eq-eqb (x .model) source is, ← name-is, ← function-is) (I .deeds c k f m p l u n b e .meets κ ps w H);
     };
   }
@@ -100,7 +103,7 @@ module _ (source target count : ℕ) where
       → CopiesFrom source target (i + 1) count s₁ t₁ s′ t′ → CopiesFrom source target i count s t s′ t′
   copies-more i {s} {s₁} {s′} {t} {t₁} {t′} inside A B = record {
     meets = λ c k f m p l u n b e κ ps w few H.
-        let ms = w .context .methods in
+        let ms = w .context .program .methods in
         let es = methodsFrom source i 1 ms in
         let w₁ = addMethods (some target) es w in
         let H₁ = A .deeds c k f m p l u n b e .meets κ ps w H in
@@ -114,15 +117,16 @@ module _ (source target count : ℕ) where
       less : {x y z : ℕ} → x ≤ y → y ≤ z → x ≤ z
       less p q = omega arith
 
-      whole : (c k f m p l u n b e : List ℕ) (κ : Limits) (ps : List ℕ) (w : Book) → (s .full ≡ 0 → count ≤ length (w .context .methods))
+      whole : (c k f m p l u n b e : List ℕ) (κ : Limits) (ps : List ℕ) (w : Book) → (s .full ≡ 0 → count ≤ length (w .context .program .methods))
           → Keeping κ ps (shelf s c k f m p t l u n b e) w → (x : Bool) → eqb (s .full) 0 ≡ x
-          → Keeping κ ps (shelf s′ c k f m p t′ l u n b e) (addMethods (some target) (methodsFrom source i 1 (w .context .methods)
-          ++ methodsFrom source (i + 1) (count - (i + 1)) (insertMethods target (methodsFrom source i 1 (w .context .methods)) (w .context .methods))) w)
-          → Keeping κ ps (shelf s′ c k f m p t′ l u n b e) (addMethods (some target) (methodsFrom source i (count - i) (w .context .methods)) w)
+          → Keeping κ ps (shelf s′ c k f m p t′ l u n b e) (addMethods (some target) (methodsFrom source i 1 (w .context .program .methods)
+          ++ methodsFrom source (i + 1) (count - (i + 1))
+          (insertMethods target (methodsFrom source i 1 (w .context .program .methods)) (w .context .program .methods))) w)
+          → Keeping κ ps (shelf s′ c k f m p t′ l u n b e) (addMethods (some target) (methodsFrom source i (count - i) (w .context .program .methods)) w)
       whole c k f m p l u n b e κ ps w few H true q H′ =
           let enough = few (eqb-true (s .full) 0 q) in
           let left : count - i ≡ suc (count - (i + 1)) = omega arith in
-          let all = methods-step source target i (count - (i + 1)) (w .context .methods) (omega arith) in
+          let all = methods-step source target i (count - (i + 1)) (w .context .program .methods) (omega arith) in
           rw (left, ← all) H′
       whole c k f m p l u n b e κ ps w few H false q H′ =
           keeping-marked (more same) (more same) (eqb-false (s .full) 0 q) H H′
@@ -137,20 +141,20 @@ module _ (source target count : ℕ) where
   }
     where
       many : (c k f m p l u n b e : List ℕ) (κ : Limits) (ps : List ℕ) (w : Book) → Keeping κ ps (shelf s c k f m p t l u n b e) w → s .full ≡ 0
-          → s .methods ≡ 0 + length (w .context .methods)
-      many c k f m p l u n b e κ ps w H z = rows-count methodWords [] (w .context .methods) noMethod (omega arith) (H .rest z .methods)
+          → s .methods ≡ 0 + length (w .context .program .methods)
+      many c k f m p l u n b e κ ps w H z = rows-count methodWords [] (w .context .program .methods) noMethod (omega arith) (H .rest z .methods)
 
       few : (c k f m p l u n b e : List ℕ) (κ : Limits) (ps : List ℕ) (w : Book) → Keeping κ ps (shelf s c k f m p t l u n b e) w → s .full ≡ 0
-          → count ≤ length (w .context .methods)
+          → count ≤ length (w .context .program .methods)
       few c k f m p l u n b e κ ps w H z = omega (arith, many c k f m p l u n b e κ ps w H z)
 
       whole : (c k f m p l u n b e : List ℕ) (κ : Limits) (ps : List ℕ) (w : Book) → Keeping κ ps (shelf s c k f m p t l u n b e) w
           → (x : Bool) → eqb (s .full) 0 ≡ x
-          → Keeping κ ps (shelf s′ c k f m p t′ l u n b e) (addMethods (some target) (methodsFrom source 0 (count - 0) (w .context .methods)) w)
-          → Keeping κ ps (shelf s′ c k f m p t′ l u n b e) (addMethods (some target) (methodsIn source (w .context .methods)) w)
+          → Keeping κ ps (shelf s′ c k f m p t′ l u n b e) (addMethods (some target) (methodsFrom source 0 (count - 0) (w .context .program .methods)) w)
+          → Keeping κ ps (shelf s′ c k f m p t′ l u n b e) (addMethods (some target) (methodsIn source (w .context .program .methods)) w)
       whole c k f m p l u n b e κ ps w H true q H′ =
-          let left : count - 0 ≡ length (w .context .methods) = omega (arith, many c k f m p l u n b e κ ps w H (eqb-true (s .full) 0 q)) in
-          rw (← methods-all source (w .context .methods)) (rw left at H′)
+          let left : count - 0 ≡ length (w .context .program .methods) = omega (arith, many c k f m p l u n b e κ ps w H (eqb-true (s .full) 0 q)) in
+          rw (← methods-all source (w .context .program .methods)) (rw left at H′)
       whole c k f m p l u n b e κ ps w H false q H′ =
           keeping-marked (more same) (more same) (eqb-false (s .full) 0 q) H H′
 
@@ -239,6 +243,6 @@ module _ {tree : List ℕ} {at end : ℕ} {s : struct.Book} {l k t e : List ℕ}
         → CopiesMethods source target s₂ t s′ t′ → Applies tree at end s l k t e s′ t′ e₂
     apply-copies {source} {target} at-s at-t {s′} {t′} M = live
         (λ c f m p u n b κ ps w x y es z a d is H.
-        let same-es : es ≡ methodsIn source (w .context .methods) = is ∙ ap (λ (o : Option ℕ). methodsOf o (w .context)) (found-at x a at-s) in
+        let same-es : es ≡ methodsIn source (w .context .program .methods) = is ∙ ap (λ (o : Option ℕ). methodsOf o (w .context)) (found-at x a at-s) in
         rw (found-at y d at-t, same-es) (M .deeds c k f m p l u n b e₂ .meets κ ps w H))
         (λ c f m p u n b κ ps w y es ne H. keeping-marked (more same) (calm-methods y es w .uses) ne H (M .deeds c k f m p l u n b e₂ .meets κ ps w H))

@@ -68,9 +68,9 @@ module _ {κ : Limits} {ps : List ℕ} {m : Shelf} where
   pub methods-then : (t : ℕ) (es fs : List Entry) (w : Book) → Keeping κ ps m (addMethods (some t) fs (addMethods (some t) es w))
       → Keeping κ ps m (addMethods (some t) (es ++ fs) w)
   methods-then t es fs w H =
-      let first = insertMethods t es (w .context .methods) in
+      let first = insertMethods t es (w .context .program .methods) in
       let all = insertMethods t fs first in
-      rw (inserts-append t es fs (w .context .methods))
+      rw (inserts-append t es fs (w .context .program .methods))
       (keeping-renoted (using′ methodsArea (length all) ∷ w .uses)
       (over-again κ methodsArea (length first) (length all) (w .uses) (inserts-grow t fs first)) H)
 
@@ -82,8 +82,8 @@ module _ {κ : Limits} {ps : List ℕ} {m : Shelf} where
       go true q =
           let z = eqb-true (m .book .full) 0 q in
           let S = H .rest z in
-          keeping-fits H z methodsArea (length (w .context .methods)) _ refl (H .fitted) z
-          (omega (arith, H .fitted .methods, S .methods .count, S .methods .room, single-length (λ _ x. methodWords x) 0 (w .context .methods)))
+          keeping-fits H z methodsArea (length (w .context .program .methods)) _ refl (H .fitted) z
+          (omega (arith, H .fitted .methods, S .methods .count, S .methods .room, single-length (λ _ x. methodWords x) 0 (w .context .program .methods)))
           (stock-methods S (S .methods))
       go false q = keeping-longer (calm-methods (some t) [] w .uses) (eqb-false (m .book .full) 0 q) H
 

@@ -82,11 +82,12 @@ module _ {s s′ : struct.Book} {before r : FunctionState} {k k′ : List ℕ} {
 
 -- `define_local`
 
-pub names-count : {ps : List ℕ} {m : Shelf} {x : Book} → Stock ps m x → m .book .locals ≡ length (x .context .prior .locals) + length (x .context .localNames)
+pub names-count : {ps : List ℕ} {m : Shelf} {x : Book} → Stock ps m x → m .book .locals ≡ length (x .context .prior .locals) + length
+    (x .context .locals .names)
 names-count {x = x} S =
     let stood = x .context .prior .locals in
     S .locals .count ∙ length-append stood _ ∙ ap (λ (n : ℕ). length stood + n)
-    (single-length (λ i e. localWords (findName i (x .context .localValues)) (e .index) (e .name)) (length stood) (x .context .localNames))
+    (single-length (λ i e. localWords (findName i (x .context .locals .values)) (e .index) (e .name)) (length stood) (x .context .locals .names))
 
 module _ {s : struct.Book} {c k f m p t l u n b e : List ℕ} {x : Book} where
   -- area 7 anew leaves all else
@@ -108,13 +109,13 @@ module _ {s : struct.Book} {c k f m p t l u n b e : List ℕ} {x : Book} where
         properties = S .properties;
         methods = S .methods;
         locals = rw (
-          locals-entries (length stood) (x .context .localValues) (x .context .localNames) entry (S .valued),
-          ← append-assoc stood (entriesFrom (localEntry (x .context .localValues)) (length stood) (x .context .localNames))
+          locals-entries (length stood) (x .context .locals .values) (x .context .locals .names) entry (S .valued),
+          ← append-assoc stood (entriesFrom (localEntry (x .context .locals .values)) (length stood) (x .context .locals .names))
               ((x .assembly .index ∷ name ∷ 0 ∷ 0 ∷ []) ∷ []),
           ← S .file,
         ) filled;
-        counted = rw (length-append (x .context .localNames) (entry ∷ [])) (omega (arith, S .counted));
-        valued = valued-longer (length stood) (x .context .localNames) entry (S .valued);
+        counted = rw (length-append (x .context .locals .names) (entry ∷ [])) (omega (arith, S .counted));
+        valued = valued-longer (length stood) (x .context .locals .names) entry (S .valued);
         first-local = S .first-local;
         named = rw (← many) held;
         publics = S .publics;
@@ -204,7 +205,7 @@ module _ {s : struct.Book} {l : List ℕ} (name : ℕ) where
       defines κ ps c k f m p t u n b e x H = define-context-law (s .file) name d z (H .rest z .locals) (H .rest z .named)
 
 -- the local that is new is one of the book's context
-pub defined-added : (name : ℕ) (x : Book) → x .context .pool .localCount ≡ length (x .context .prior .locals) + length (x .context .localNames)
+pub defined-added : (name : ℕ) (x : Book) → x .context .pool .localCount ≡ length (x .context .prior .locals) + length (x .context .locals .names)
     → AddedLocal (defineContextLocal name x .place) (defineContextLocal name x .book .context)
 unfolding defineContextLocal
 defined-added name x many = go (findName name (x .compiler .locals))
@@ -212,7 +213,7 @@ defined-added name x many = go (findName name (x .compiler .locals))
     go : (o : Option ℕ) → AddedLocal (defineContextLocalBy o name x .place) (defineContextLocalBy o name x .book .context)
     go (some i) = tt
     go none =
-        let longer = length-append (x .context .localNames) (record { name = name; index = x .assembly .index } ∷ []) in
+        let longer = length-append (x .context .locals .names) (record { name = name; index = x .assembly .index } ∷ []) in
         (omega arith, omega (arith, longer))
 
 value-length : (full count i constant : ℕ) (l : List ℕ) → length (setValueC full count i constant l) ≡ length l
@@ -245,7 +246,7 @@ value-keeping {s = s} {l = l} {x = x} z i constant {l′} d h H =
         models = S .models;
         properties = S .properties;
         methods = S .methods;
-        locals = rw (table-set (x .context .prior .locals) (x .context .localValues) (x .context .localNames) constant i (h .0) (h .1)) at filled;
+        locals = rw (table-set (x .context .prior .locals) (x .context .locals .values) (x .context .locals .names) constant i (h .0) (h .1)) at filled;
         counted = S .counted;
         valued = insert-all (record { name = i; index = constant }) (h .1) (S .valued);
         first-local = S .first-local;

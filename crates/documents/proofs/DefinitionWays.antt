@@ -11,7 +11,7 @@ use Rattle.tree.proofs.View.{ViewD, v-LocalDefinition, v-IncludeDefinition, v-M
 use Rattle.tree.proofs.View.{v-PlainFunction, v-PublicFunction, v-ImplementDefinition}
 use Rattle.definition.specs.Uses.{Limits}
 use Rattle.definition.specs.Book.{Book, compileDefinition, compileModelDefinition, compileFunctionDefinition}
-use Rattle.definition.specs.Within.{All, none, _&_}
+use Rattle.definition.specs.Within.{All, nil, _&_}
 use Rattle.definition.proofs.Limits.{LimitedFunction, functionsIn}
 use Rattle.documents.specs.declared.book.Book as struct
 use Rattle.documents.specs.Shelf.{Shelf, shelf, Keeping, Shelved}
@@ -100,7 +100,7 @@ module _ {tree : List ℕ} {at end kind : ℕ} {books : List ℕ} (kind-is : kin
       where
         go : (d : Definition) → ViewD 14 d → DefinitionAt d tree at → at + sizeD d ≡ end → All LimitedFunction (functionsIn d) → (κ : Limits) (x : Book)
             → Keeping κ [] (shelf s c k f m p t l u n b e) x → Keeping κ [] (shelf s₁ c₁ k₁ f₁ m p t l₁ u n₁ b₁ e₁) (compileDefinition d x)
-        go _ (v-PlainFunction {f = g}) h q (limited & none) κ x H = D .places 14 g h q (bounded limited) m p t u .meets κ [] x H
+        go _ (v-PlainFunction {f = g}) h q (limited & nil) κ x H = D .places 14 g h q (bounded limited) m p t u .meets κ [] x H
 
     pub definition-public-function : {name : ℕ} {s′ : struct.Book} {u′ : List ℕ} → kind ≡ 15 → name ≡ valueAt tree at → Publishes place name s₁ u s′ u′
         → MeetsDefinition tree at end books (shelf s c k f m p t l u n b e) (shelf s′ c₁ k₁ f₁ m p t l₁ u′ n₁ b₁ e₁)
@@ -111,7 +111,7 @@ module _ {tree : List ℕ} {at end kind : ℕ} {books : List ℕ} (kind-is : kin
       where
         go : (d : Definition) → ViewD 15 d → DefinitionAt d tree at → at + sizeD d ≡ end → All LimitedFunction (functionsIn d) → (κ : Limits) (x : Book)
             → Keeping κ [] (shelf s c k f m p t l u n b e) x → Keeping κ [] (shelf s′ c₁ k₁ f₁ m p t l₁ u′ n₁ b₁ e₁) (compileDefinition d x)
-        go _ (v-PublicFunction {f = g}) h q (limited & none) κ x H =
+        go _ (v-PublicFunction {f = g}) h q (limited & nil) κ x H =
             let same : name ≡ g .name .value = name-is ∙ sym (ap (λ (y : Token). y .value) (h .headed .token)) in
             alone-publish (places-alone (D .places 15 g h q (bounded limited) m p t u)) (subst (λ (y : ℕ). Publishes place y s₁ u s′ u′) same P) .meets κ x H
 

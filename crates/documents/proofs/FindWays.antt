@@ -18,7 +18,7 @@ use Rattle.definition.specs.FunctionState.{Entry, findName}
 use Rattle.definition.specs.Book as book
 use Rattle.definition.specs.Book.{Book, modelOf, constantAt, getLocalValue, pushBookError, findModelIndexByLocalName}
 use Rattle.definition.specs.Program.{Entries, entriesFrom, localWords, localEntry, constantEntry, bit}
-use Rattle.definition.specs.Within.{All, none as nil, _&_}
+use Rattle.definition.specs.Within.{All, nil, _&_}
 use Rattle.definition.proofs.Cells.{single-length, single-at}
 use Rattle.building.specs.declared.scopes.Found.{Found}
 use Rattle.building.specs.declared.scopes.Found.the-variants.{At, Nothing}
@@ -125,10 +125,12 @@ pub model-law : {ps : List ℕ} {m : Shelf} {w : Book} (name : ℕ) → Stock ps
 model-law {ps} {m} {w} name S i found =
     let past : length (w .context .prior .locals) ≤ i = omega (arith, S .first-local, first-past _ _ _ i found) in
     rw (
-      local-word (w .context .prior .locals) (w .context .localValues) (w .context .localNames) (S .locals) (S .valued) i 2 past (omega arith) apart2 refl,
-      local-word (w .context .prior .locals) (w .context .localValues) (w .context .localNames) (S .locals) (S .valued) i 3 past (omega arith) apart3 refl,
+      local-word (w .context .prior .locals) (w .context .locals .values) (w .context .locals .names) (S .locals) (S .valued) i 2 past
+          (omega arith) apart2 refl,
+      local-word (w .context .prior .locals) (w .context .locals .values) (w .context .locals .names) (S .locals) (S .valued) i 3 past
+          (omega arith) apart3 refl,
     )
-    (go (findName i (w .context .localValues)))
+    (go (findName i (w .context .locals .values)))
   where
     apart2 : (o : Option ℕ) (file name : ℕ) → getD (localWords o file name) 2 0 ≡ getD (localWords o 0 0) 2 0
     apart2 none file name = refl

@@ -59,10 +59,10 @@ calm-plain o m name =
 
 -- what is left after the base
 calm-rest : (f : FunctionDefinition) (o : Option ℕ) (m : Made)
-    → Calm (m .book) (cond (m .state .isInstance) (record { place = 0; book = pushBookError 8 (f .name) (m .book) })
+    → Calm (m .book) (cond (m .state .header .isInstance) (record { place = 0; book = pushBookError 8 (f .name) (m .book) })
     (addPlainFunction o (m .state) (f .name .value) (m .book)) .book)
 calm-rest f o m =
-    cond-case (λ (p : Placed). Calm (m .book) (p .book)) (m .state .isInstance) (λ t. calm-error 8 (f .name) (m .book))
+    cond-case (λ (p : Placed). Calm (m .book) (p .book)) (m .state .header .isInstance) (λ t. calm-error 8 (f .name) (m .book))
     (λ t. calm-plain o m (f .name .value))
 
 pub calm-function : (f : FunctionDefinition) → Calms (λ b. compileFunctionDefinition f b .book)
@@ -239,7 +239,7 @@ module _ {tree : List ℕ} {at end name : ℕ} {s s₁ : struct.Book} {c k g l n
     built : Built κ ps (shelf s₁ c k g m p t l₁ u n b e) (local .book) f (machine r c₁ k₁ n₁ b₁ e₁)
     built = M .makes kind f h q g m p t u κ ps (local .book) there
 
-    flag : r .full ≡ 0 → r .«is_instance» ≡ baseOf f (local .book) .function .isInstance
+    flag : r .full ≡ 0 → r .«is_instance» ≡ baseOf f (local .book) .function .header .isInstance
     flag z = built .function .rest z .is-instance
 
     same-found : r .full ≡ 0 → found ≡ foundOf (local .place)
@@ -261,13 +261,13 @@ module _ {tree : List ℕ} {at end name : ℕ} {s s₁ : struct.Book} {c k g l n
         → Keeping κ ps (shelf s′ c′ k₁ g m p t l₁ u n₁ b₁ e′) (compileFunctionDefinition f x .book)
     unfolding compileFunctionDefinition compileBase
     instance-keeping z is {s′} {c′} {e′} F =
-        let set : baseOf f (local .book) .function .isInstance ≡ true = sym (flag z) ∙ is in
+        let set : baseOf f (local .book) .function .header .isInstance ≡ true = sym (flag z) ∙ is in
         rw set (subst (λ (y : Token). Keeping κ ps (shelf s′ c′ k₁ g m p t l₁ u n₁ b₁ e′) (pushBookError 8 y (compileBase f (local .book) .book)))
         (sym (h .headed .token)) (F .drops f c k n b e k₁ n₁ b₁ g m p t l₁ u κ ps (local .book) built))
 
     instance-placed : r .full ≡ 0 → r .«is_instance» ≡ true → _≡_ {A = ℕ} 0 (compileFunctionDefinition f x .place)
     unfolding compileFunctionDefinition compileBase
-    instance-placed z is = let set : baseOf f (local .book) .function .isInstance ≡ true = sym (flag z) ∙ is in rw set
+    instance-placed z is = let set : baseOf f (local .book) .function .header .isInstance ≡ true = sym (flag z) ∙ is in rw set
 
     module _ (z : r .full ≡ 0) (is : r .«is_instance» ≡ false) (bounded : Bounded f) {s′ : struct.Book} {k′ g′ l′ : List ℕ} {place : ℕ}
         (F : AddsPlain name found s₁ r k₁ g l₁ s′ k′ g′ l′ place) where
@@ -282,11 +282,11 @@ module _ {tree : List ℕ} {at end name : ℕ} {s s₁ : struct.Book} {c k g l n
 
       plainly-keeping : Keeping κ ps (shelf s′ c₁ k′ g′ m p t l′ u n₁ b₁ e₁) (compileFunctionDefinition f x .book)
       unfolding compileFunctionDefinition compileBase
-      plainly-keeping = let unset : baseOf f (local .book) .function .isInstance ≡ false = sym (flag z) ∙ is in rw unset (plain-both .0)
+      plainly-keeping = let unset : baseOf f (local .book) .function .header .isInstance ≡ false = sym (flag z) ∙ is in rw unset (plain-both .0)
 
       plainly-placed : s′ .full ≡ 0 → place ≡ compileFunctionDefinition f x .place
       unfolding compileFunctionDefinition compileBase
-      plainly-placed y = let unset : baseOf f (local .book) .function .isInstance ≡ false = sym (flag z) ∙ is in rw unset (plain-both .1 y)
+      plainly-placed y = let unset : baseOf f (local .book) .function .header .isInstance ≡ false = sym (flag z) ∙ is in rw unset (plain-both .1 y)
 
   pub function-full : {s′ : struct.Book} {place : ℕ} → (r .full ≡ 0 → ⊥) → s′ ≡ resumedBook s₁ r
       → DefinesFunction tree at end s c k g l n b e s′ c₁ k₁ g l₁ n₁ b₁ e₁ place

@@ -49,7 +49,7 @@ parameters-mark i p s = go (eqb (s .full) 0)
 
 -- a parameter's kind says whether the function is an instance's
 abbrev flagged : Token → Work → Work
-flagged t w = doing (λ f. method.withParameters (cond (eqb (t .kind) 41) true (f .isInstance)) (f .parameterCount) f) w
+flagged t w = doing (λ f. method.withParameters (cond (eqb (t .kind) 41) true (f .header .isInstance)) (f .header .parameterCount) f) w
 
 module _ {tree : List ℕ} {at : ℕ} {s : FunctionState} {n e : List ℕ} where
   pub parameter-full : (s .full ≡ 0 → ⊥) → MeetsParameter tree at s n e s n e
@@ -69,7 +69,8 @@ module _ {tree : List ℕ} {at : ℕ} {s : FunctionState} {n e : List ℕ} where
       held₁ : Held κ E (machine s₁ c k n b e) (flagged t w)
       held₁ =
           subst (λ (x : FunctionState). Held κ E (machine x c k n b e) (flagged t w)) (sym s₁-is)
-          (parameters-law H instance (cond (eqb (t .kind) 41) true (w .function .isInstance)) (s .«parameter_count») (w .function .parameterCount)
+          (parameters-law H instance (cond (eqb (t .kind) 41) true (w .function .header .isInstance)) (s .«parameter_count»)
+          (w .function .header .parameterCount)
           (λ z. instance-is ∙ rw (same-kind, H .rest z .is-instance)) (λ z. H .rest z .parameters))
 
       live₁ : s₁ .full ≡ 0
@@ -79,7 +80,7 @@ module _ {tree : List ℕ} {at : ℕ} {s : FunctionState} {n e : List ℕ} where
       defined = define-law held₁ (subst (λ (x : ℕ). Defines x (naming s₁ n) d n′) same-name D) open′
 
       found : d .found ≡ foundOf (wrapped (defineLocal (t .value) (flagged t w .function) .found))
-      found = define-found held₁ (subst (λ (x : ℕ). Defines x (naming s₁ n) d n′) same-name D) live₁
+      found = define-found held₁ (subst (λ (x : ℕ). Defines x (naming s₁ n) d n′) same-name D) live₁ open′
 
     pub parameter-new : {index : ℕ} → d .found ≡ At index → MeetsParameter tree at s n e (d .state) n′ e
     unfolding compileParameter compileBare
@@ -205,9 +206,10 @@ module _ {tree : List ℕ} {at end start count : ℕ} {locals : List ℕ} where
             let w₀ = withFunction newFunctionState w in
             let w₁ = compileParameters ts w₀ in
             let H₁ = Q .meets ts (h .parameters) (sym ends) c k b κ E w₀ refl H in
-            let w₂ = doing (λ f. method.withParameters (f .isInstance) (length ts) f) w₁ in
+            let w₂ = doing (λ f. method.withParameters (f .header .isInstance) (length ts) f) w₁ in
             let H₂ : Held κ E (machine s₂ c k n₁ b e₁) w₂ = subst (λ (x : FunctionState). Held κ E (machine x c k n₁ b e₁) w₂) (sym s₂-is)
-            (parameters-law H₁ (s₁ .«is_instance») (w₁ .function .isInstance) parameters (length ts) (λ z. H₁ .rest z .is-instance) (λ z. omega arith)) in
+            (parameters-law H₁ (s₁ .«is_instance») (w₁ .function .header .isInstance) parameters (length ts) (λ z. H₁ .rest z .is-instance)
+            (λ z. omega arith)) in
             let S = steady-parameters ts w₀ in
             let I : Inside start count locals w₂ = record { is-open = stay-open ts w₀ refl; named = same-locals (S .locals) L } in
             let H₃ = M .meets (f .body) (rw (← ends) at (h .body)) (omega arith) .meets κ E w₂ I H₂ in

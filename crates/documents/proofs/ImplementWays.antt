@@ -39,7 +39,11 @@ use Rattle.documents.proofs.MethodOrder.{Distinct, nobody, distinct-ins
 one-more : (f : FunctionDefinition) (x : Book) → functionCount (implementing f x .context) ≡ functionCount (x .context) + 1
 unfolding compileBase
 one-more f x =
-    omega (arith, length-append (x .context .functions) (record { state = compileBase f x .state; name = f .name .value; file = x .assembly .index } ∷ []))
+    omega (
+      arith,
+      length-append (x .context .program .functions)
+          (record { state = compileBase f x .state; name = f .name .value; file = x .assembly .index } ∷ []),
+    )
 
 pub all-more : (fs : List FunctionDefinition) (x : Book)
     → functionCount (implementingAll fs x .context) ≡ functionCount (x .context) + length fs
@@ -107,7 +111,7 @@ collect-all m (r ∷ rs) {es} d l =
     ∙ ap (λ (k : List Method). insertMethods m rs k) (inserts-entry m r d l ∙ inserts-append m es (r ∷ []) l)
 
 methods-same : (m : ℕ) (rs : List Entry) (y : Book) → addMethods (some m) rs y ≡ addMethods (some m) (collected rs []) y
-methods-same m rs y = rw (collect-all m rs nobody (y .context .methods))
+methods-same m rs y = rw (collect-all m rs nobody (y .context .program .methods))
 
 -- `implement_function`
 pub one-meets : {tree : List ℕ} {at end name : ℕ} {l : List ℕ} {s s′ : struct.Book} {r : FunctionState} {c k g n b e c′ k′ g′ n′ b′ e′ : List ℕ}

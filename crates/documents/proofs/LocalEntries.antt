@@ -13,7 +13,7 @@ use borrow.Author.Tests.{eqb-true, eq-eqb, ne-eqb}
 use Rattle.definition.specs.FunctionState.{Entry, findName}
 use Rattle.definition.specs.Book.{insertEntry}
 use Rattle.definition.specs.Program.{Entries, entriesFrom, localWords, localEntry}
-use Rattle.definition.specs.Within.{All, none as nil, _&_}
+use Rattle.definition.specs.Within.{All, nil, _&_}
 use Rattle.building.proofs.Filling.{set-append-add}
 use Rattle.building.proofs.PoolLaws.{entries-more}
 

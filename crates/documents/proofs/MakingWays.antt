@@ -13,7 +13,7 @@ use Rattle.words.specs.Areas.{functionsArea, entriesIn}
 use Rattle.words.specs.Record.{mostRecords}
 use Rattle.definition.specs.FunctionState.{newFunctionState}
 use Rattle.definition.specs.Uses.{Limits, total}
-use Rattle.definition.specs.Within.{All, none as nil, _&_}
+use Rattle.definition.specs.Within.{All, nil, _&_}
 use Rattle.definition.specs.Compiler.{Work, withFunction, compileFunctionDefinitionBase}
 use Rattle.definition.specs.Book.{Function, Book, working, codeOf, codeCount, functionCount, compileBase, addFunction}
 use Rattle.definition.specs.Program.{Entries, entriesFrom, codeEntries, functionCode, functionEntry, functionEntries, functionTable}
@@ -29,7 +29,7 @@ use Rattle.building.specs.declared.taking.Taken.{Taken}
 use Rattle.building.specs.State.{begun}
 use Rattle.building.specs.Scopes.{naming, endFunctionC}
 use Rattle.building.specs.Taking.{Took, taken}
-use Rattle.building.specs.Context.{functionWords}
+use Rattle.building.specs.Context.{functionStateWords}
 use Rattle.building.specs.Held.{machine, Filled, Held}
 use Rattle.building.proofs.Filling.{capped, over-fits, over-here}
 use Rattle.building.proofs.Notes.{held-longer, over-longer, back}
@@ -60,7 +60,7 @@ base-breaks f w = function-moves (f .parameters) (f .body) w .breaks
 
 -- the locals' number stands in 64 bits
 pub few-locals : (f : FunctionDefinition) → Bounded f → (w : Work)
-    → compileFunctionDefinitionBase (f .parameters) (f .body) w .function .localCount < 2 ^ 64
+    → compileFunctionDefinitionBase (f .parameters) (f .body) w .function .header .localCount < 2 ^ 64
 few-locals f l w =
     let n = length (w .context .constants) in
     let k = function-kept mostRecords (λ (area : ℕ). n) (f .parameters) (f .body) (omega arith) (omega (arith, l .records)) w
@@ -97,15 +97,15 @@ entries-of : (start : ℕ) (fs : List Function) (f : Function)
     → functionEntries start (fs ++ (f ∷ [])) ≡ functionEntries start fs ++ (functionEntry (start + codeOf fs) f ∷ [])
 entries-of start [] f = let here : start + 0 ≡ start = omega arith in rw here
 entries-of start (g ∷ fs) f =
-    let n = length (g .state .instructions) in
+    let n = length (g .state .code .instructions) in
     let next : start + (n + codeOf fs) ≡ start + n + codeOf fs = omega arith in
     rw next (ap (λ (es : Entries). functionEntry start g ∷ es) (entries-of (start + n) fs f))
 
 pub functions-count : {ps : List ℕ} {m : Shelf} {x : Book} → Stock ps m x → m .book .functions ≡ functionCount (x .context)
 functions-count {x = x} S =
     let start = length (x .context .prior .code) in
-    S .functions .count ∙ length-append (x .context .prior .functions) (functionEntries start (x .context .functions))
-    ∙ ap (λ (n : ℕ). length (x .context .prior .functions) + n) (functions-length start (x .context .functions))
+    S .functions .count ∙ length-append (x .context .prior .functions) (functionEntries start (x .context .program .functions))
+    ∙ ap (λ (n : ℕ). length (x .context .prior .functions) + n) (functions-length start (x .context .program .functions))
 
 module _ {κ : Limits} {ps : List ℕ} {s : struct.Book} {c₀ k₀ n₀ b₀ e₀ c k n b e g m p t l u : List ℕ} {r : FunctionState} {x : Book} {f : FunctionDefinition}
     (B : Built κ ps (shelf s c₀ k₀ g m p t l u n₀ b₀ e₀) x f (machine r c k n b e)) where
@@ -113,7 +113,8 @@ module _ {κ : Limits} {ps : List ℕ} {s : struct.Book} {c₀ k₀ n₀ b₀ e�
   pub built-back : r .full ≡ 0 → s .full ≡ 0
   built-back = back (base-longer f x) (held-working (B .book)) (B .function)
 
-  pub built-between : r .full ≡ 0 → Between (codeSoFar x ++ codeEntries (baseOf f x .function .instructions) (baseOf f x .function .positions)) (r .code)
+  pub built-between : r .full ≡ 0 → Between (codeSoFar x ++ codeEntries (baseOf f x .function .code .instructions) (baseOf f x .function .code .positions))
+      (r .code)
       (r .constants) (r .errors) c k n b e (done (ended (baseOf f x)))
   built-between z = between-law (B .function) z refl (ap total (base-breaks f (working x)))
 
@@ -141,14 +142,14 @@ module _ {κ : Limits} {ps : List ℕ} {s : struct.Book} {c₀ k₀ n₀ b₀ e�
 
   module _ (l′ : Bounded f) (name : ℕ) where
     -- the entry is the definition's
-    added-words : r .full ≡ 0 → functionWords r (s .file) name ≡ functionEntry (codeCount (x .context)) (made name)
+    added-words : r .full ≡ 0 → functionStateWords r (s .file) name ≡ functionEntry (codeCount (x .context)) (made name)
     added-words z =
         let C = B .function .rest z in
         let start : length (codeSoFar x) ≡ codeCount (x .context) = sym (C .before) ∙ steady-base f (working x) .before in
         function-words C (few-locals f l′ (working x)) (s .file) name ∙ rw (start, B .book .rest (built-back z) .file)
 
     added-stock : r .full ≡ 0 → {g′ : List ℕ}
-        → Filled 8 g′ (functionTable (x .context) ++ (functionWords r (s .file) name ∷ [])) (s .functions + 1)
+        → Filled 8 g′ (functionTable (x .context) ++ (functionStateWords r (s .file) name ∷ [])) (s .functions + 1)
         → Stock ps (shelf (withFunctionCount (taken 0 (s .functions + 1)) (resumedBook s r)) c k g′ m p t l u n b e)
         (addFunction (compileBase f x .state) name (compileBase f x .book))
     unfolding compileBase
@@ -156,12 +157,12 @@ module _ {κ : Limits} {ps : List ℕ} {s : struct.Book} {c₀ k₀ n₀ b₀ e�
         let S = B .book .rest (built-back z) in
         let C = B .function .rest z in
         let A = built-between z in
-        let fs = x .context .functions in
+        let fs = x .context .program .functions in
         let p₀ = x .context .prior in
         record {
           code = rw (
             entries-more functionCode 0 fs (made name),
-            ← append-assoc (p₀ .code) (entriesFrom functionCode 0 fs) (codeEntries (made name .state .instructions) (made name .state .positions)),
+            ← append-assoc (p₀ .code) (entriesFrom functionCode 0 fs) (codeEntries (made name .state .code .instructions) (made name .state .code .positions)),
           ) (A .filled-code);
           sized = all-append (S .sized) (C .sized & nil);
           constants = A .filled-constants;
@@ -192,7 +193,7 @@ module _ {κ : Limits} {ps : List ℕ} {s : struct.Book} {c₀ k₀ n₀ b₀ e�
         }
 
     added-grown : r .full ≡ 0 → {T : Taken} {g′ : List ℕ}
-        → Grown functionsArea (s .functions) (functionWords r (s .file) name) g (functionTable (x .context)) T g′
+        → Grown functionsArea (s .functions) (functionStateWords r (s .file) name) g (functionTable (x .context)) T g′
         → Keeping κ ps (shelf (withFunctionCount T (resumedBook s r)) c k g′ m p t l u n b e)
         (addFunction (compileBase f x .state) name (compileBase f x .book))
     unfolding compileBase
@@ -211,7 +212,7 @@ module _ {κ : Limits} {ps : List ℕ} {s : struct.Book} {c₀ k₀ n₀ b₀ e�
           rest = λ y. absurd (omega (arith, y));
         }
 
-    added-keeping : {T : Taken} {g′ : List ℕ} → Took functionsArea (r .full) (s .functions) (functionWords r (s .file) name) g T g′
+    added-keeping : {T : Taken} {g′ : List ℕ} → Took functionsArea (r .full) (s .functions) (functionStateWords r (s .file) name) g T g′
         → Keeping κ ps (shelf (withFunctionCount T (resumedBook s r)) c k g′ m p t l u n b e)
         (addFunction (compileBase f x .state) name (compileBase f x .book))
     unfolding compileBase
@@ -233,7 +234,7 @@ module _ {κ : Limits} {ps : List ℕ} {s : struct.Book} {c₀ k₀ n₀ b₀ e�
 
 module _ {s : struct.Book} {r : FunctionState} {g : List ℕ} (name : ℕ) where
   pub add-meets : {s₁ : struct.Book} {T : Taken} {g′ : List ℕ} → s₁ ≡ resumedBook s r
-      → Took functionsArea (s₁ .full) (s₁ .functions) (functionWords r (s₁ .file) name) g T g′ → AddsFunction name s r g (withFunctionCount T s₁) g′
+      → Took functionsArea (s₁ .full) (s₁ .functions) (functionStateWords r (s₁ .file) name) g T g′ → AddsFunction name s r g (withFunctionCount T s₁) g′
   add-meets {T = T} {g′ = g′} back′ took = rw back′ (record {
     adds = λ f l′ c₀ k₀ n₀ b₀ e₀ c k n b e m p t l u κ ps x B. added-keeping B l′ name (rw back′ at took);
   })

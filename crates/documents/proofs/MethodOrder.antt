@@ -9,7 +9,7 @@ use lib.Dec.{eqb}
 use borrow.Author.Tests.{eqb-true, eqb-false, eq-eqb, ne-eqb}
 use Rattle.definition.specs.FunctionState.{Entry}
 use Rattle.definition.specs.Book.{Method, insertEntry, sameMethod, insertMethod, insertMethods}
-use Rattle.definition.specs.Within.{All, none as nil, _&_}
+use Rattle.definition.specs.Within.{All, nil, _&_}
 use Rattle.documents.proofs.MethodWays.{methodOf}
 use Rattle.documents.proofs.Copying.{inserts-append}
 

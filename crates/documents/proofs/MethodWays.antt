@@ -71,16 +71,16 @@ module _ (model name function : ℕ) where
     insert-there z {g} {i} searched at {t′} P = record {
       deeds = λ c k f m p l u n b e. record {
         meets = λ κ ps w H. go c k f m p l u n b e κ ps w H (H .rest z)
-            (rw (found-at (findPairC 3 0 (s .methods) model name t) searched at) at (found-in {xs = w .context .methods} (H .rest z .methods)));
+            (rw (found-at (findPairC 3 0 (s .methods) model name t) searched at) at (found-in {xs = w .context .program .methods} (H .rest z .methods)));
       };
     }
       where
         go : (c k f m p l u n b e : List ℕ) (κ : Limits) (ps : List ℕ) (w : Book) → Keeping κ ps (shelf s c k f m p t l u n b e) w
             → Stock ps (shelf s c k f m p t l u n b e) w
-            → Inserting noMethod (λ x. sameMethod x (methodOf model name function)) (methodOf model name function) (w .context .methods) 0 (some i)
+            → Inserting noMethod (λ x. sameMethod x (methodOf model name function)) (methodOf model name function) (w .context .program .methods) 0 (some i)
             → Keeping κ ps (shelf s c k f m p t′ l u n b e) (addMethods (some model) (record { name = name; index = function } ∷ []) w)
         go c k f m p l u n b e κ ps w H S (there j q h r set-is first) =
-            let xs = w .context .methods in
+            let xs = w .context .program .methods in
             let words : t′ ≡ set t (i * 3 + 2) function =
             patch-there i 2 function (omega arith) (omega (arith, rows-count methodWords [] xs noMethod (omega arith) (S .methods))) (omega arith)
             (S .methods) P in
@@ -106,16 +106,16 @@ module _ (model name function : ℕ) where
     insert-new z {g} searched lost {r} {t′} T = record {
       deeds = λ c k f m p l u n b e. record {
         meets = λ κ ps w H. go c k f m p l u n b e κ ps w H (H .rest z)
-            (rw (found-none (findPairC 3 0 (s .methods) model name t) searched lost) at (found-in {xs = w .context .methods} (H .rest z .methods)));
+            (rw (found-none (findPairC 3 0 (s .methods) model name t) searched lost) at (found-in {xs = w .context .program .methods} (H .rest z .methods)));
       };
     }
       where
         go : (c k f m p l u n b e : List ℕ) (κ : Limits) (ps : List ℕ) (w : Book) → Keeping κ ps (shelf s c k f m p t l u n b e) w
             → Stock ps (shelf s c k f m p t l u n b e) w
-            → Inserting noMethod (λ x. sameMethod x (methodOf model name function)) (methodOf model name function) (w .context .methods) 0 none
+            → Inserting noMethod (λ x. sameMethod x (methodOf model name function)) (methodOf model name function) (w .context .program .methods) 0 none
             → Keeping κ ps (shelf (withMethodCount r s) c k f m p t′ l u n b e) (addMethods (some model) (record { name = name; index = function } ∷ []) w)
         go c k f m p l u n b e κ ps w H S (new more-is) =
-            let xs = w .context .methods in
+            let xs = w .context .program .methods in
             let is : insertMethod (methodOf model name function) xs ≡ xs ++ (methodOf model name function ∷ []) =
             insert-by (methodOf model name function) xs ∙ more-is in
             let entries : entriesFrom methodEntry 0 (insertMethod (methodOf model name function) xs)

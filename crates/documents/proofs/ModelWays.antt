@@ -53,13 +53,13 @@ alone-publish {c = c} {k = k} {f = f} {m = m} {p = p} {t = t} {l = l} {n = n} {b
 -- the properties that were taken for a model are its own
 own-properties : (c : Context) (x : Model)
     → propertyTable c ++ propertyEntries (modelCount c) (x .properties)
-    ≡ propertyTable (withModels (c .models ++ (x ∷ [])) c) ++ propertyEntries (modelCount (withModels (c .models ++ (x ∷ [])) c)) []
+    ≡ propertyTable (withModels (c .program .models ++ (x ∷ [])) c) ++ propertyEntries (modelCount (withModels (c .program .models ++ (x ∷ [])) c)) []
 own-properties c x =
     let first = length (c .prior .models) in
-    let before = entriesFrom modelProperties first (c .models) in
+    let before = entriesFrom modelProperties first (c .program .models) in
     append-assoc (c .prior .properties) before (propertyEntries (modelCount c) (x .properties))
-    ∙ sym (append-nil (propertyTable (withModels (c .models ++ (x ∷ [])) c))
-    ∙ ap (λ (es : Entries). c .prior .properties ++ es) (entries-more modelProperties first (c .models) x))
+    ∙ sym (append-nil (propertyTable (withModels (c .program .models ++ (x ∷ [])) c))
+    ∙ ap (λ (es : Entries). c .prior .properties ++ es) (entries-more modelProperties first (c .program .models) x))
 
 -- a model more
 model-taken : {s : struct.Book} {c k f m p t l u n b e m′ : List ℕ} {κ : Limits} {ps : List ℕ} {w : Book} (name : ℕ) {r : Taken} → s .full ≡ 0
@@ -67,7 +67,7 @@ model-taken : {s : struct.Book} {c k f m p t l u n b e m′ : List ℕ} {κ : Li
     → Keeping κ [] (shelf (withModelCount r s) c k f m′ p t l u n b e) (addModel ps name w)
 model-taken {s} {m = m} {ps = ps} {w = w} name {r} z T H =
     let S = H .rest z in
-    let ms = w .context .models in
+    let ms = w .context .program .models in
     let x : Model = record { properties = ps; name = name; file = w .assembly .index } in
     let file : s .file ≡ w .assembly .index = S .file in
     let stood = w .context .prior .models in

@@ -54,9 +54,9 @@ property-length i (n ∷ ns) = ap suc (property-length i ns)
 before-length : (c : Context) → length (propertyTable c) ≡ propertyCount c
 before-length c =
     let first = length (c .prior .models) in
-    length-append (c .prior .properties) (entriesFrom modelProperties first (c .models))
+    length-append (c .prior .properties) (entriesFrom modelProperties first (c .program .models))
     ∙ ap (λ (n : ℕ). length (c .prior .properties) + n)
-    (entries-length modelProperties (λ m. length (m .properties)) first (λ j m u. property-length j (m .properties)) (all-any (c .models)))
+    (entries-length modelProperties (λ m. length (m .properties)) first (λ j m u. property-length j (m .properties)) (all-any (c .program .models)))
 
 -- a search, by the texts that are there
 isThere : Option ℕ → Bool
@@ -106,7 +106,7 @@ pub models-count : {ps : List ℕ} {m : Shelf} {w : Book} → Stock ps m w → m
 models-count {w = w} S =
     let stood = w .context .prior .models in
     S .models .count ∙ length-append stood _
-    ∙ ap (λ (n : ℕ). length stood + n) (single-length (λ _ x. x .file ∷ x .name ∷ []) 0 (w .context .models))
+    ∙ ap (λ (n : ℕ). length stood + n) (single-length (λ _ x. x .file ∷ x .name ∷ []) 0 (w .context .program .models))
 
 -- whether the search finds the name
 there-by : {first : ℕ} {s : struct.Book} {p e : List ℕ} (name : ℕ) → s .full ≡ 0 → (c k f m t l u n b : List ℕ) (κ : Limits) (ps : List ℕ) (w : Book)

@@ -16,7 +16,7 @@ use Rattle.definition.specs.FunctionState.{Entry, findName, orElse}
 use Rattle.definition.specs.Book.{Assembly, Book, findAssembly, publicOf, includedFrom, includedName}
 use Rattle.definition.specs.Program.{Entries, entriesFrom, publicEntries, assemblyPublics, publicTable}
 use Rattle.definition.specs.Prior.{bookIndex, hasKey, findPublic}
-use Rattle.definition.specs.Within.{All, none as nil, _&_}
+use Rattle.definition.specs.Within.{All, nil, _&_}
 use Rattle.building.specs.Found.{firstFrom}
 use Rattle.building.proofs.Filling.{filled-field}
 use Rattle.documents.specs.Shelf.{Shelf, Stock, Shelved}

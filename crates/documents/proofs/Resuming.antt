@@ -27,13 +27,14 @@ use Rattle.documents.specs.Deeds.{resumedBook}
 abbrev pub codeSoFar : Book → Entries
 codeSoFar x = codeTable (x .context)
 
-code-so-far : (c : Context) → All (λ (f : Function). length (f .state .positions) ≡ length (f .state .instructions)) (c .functions)
+code-so-far : (c : Context) → All (λ (f : Function). length (f .state .code .positions) ≡ length (f .state .code .instructions)) (c .program .functions)
     → codeCount c ≡ length (codeTable c)
 code-so-far c sized =
     omega (
       arith,
-      length-append (c .prior .code) (entriesFrom functionCode 0 (c .functions)),
-      entries-length functionCode (λ f. length (f .state .instructions)) 0 (λ j f s. code-length (f .state .instructions) (f .state .positions) s) sized,
+      length-append (c .prior .code) (entriesFrom functionCode 0 (c .program .functions)),
+      entries-length functionCode (λ f. length (f .state .code .instructions)) 0
+          (λ j f s. code-length (f .state .code .instructions) (f .state .code .positions) s) sized,
     )
 
 -- an area without entries

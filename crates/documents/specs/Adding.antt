@@ -1,4 +1,5 @@
 -- What the routines that add functions to a book promise: a function compiled to its end, its entry, and the definitions that have functions
+-- Private contracts alone cite this file: whoever reads the promises need not believe it
 use Prim.Native.Nat.{ℕ, _+_, _≤_}
 use mathlib.Core.Path.{_≡_}
 use mathlib.Core.Option.{Option}

@@ -1,5 +1,6 @@
 -- What the routines of `documents.rt` promise up to the local definition: each has some of the areas, and whatever the others hold, counts and areas
 -- then stand for the deed's book
+-- Private contracts alone cite this file: whoever reads the promises need not believe it
 use Prim.Native.Nat.{ℕ, _+_, _≤_, _<_}
 use mathlib.Core.Path.{_≡_}
 use mathlib.Core.Option.{Option, none, some}
@@ -55,7 +56,7 @@ OneOf (some i) first n = (first ≤ i) × (i < first + n)
 
 -- a context local that may be there is one of those added
 abbrev pub AddedLocal : Option ℕ → Context → Type 0
-AddedLocal o c = OneOf o (length (c .prior .locals)) (length (c .localNames))
+AddedLocal o c = OneOf o (length (c .prior .locals)) (length (c .locals .names))
 
 -- the local and the constant are the definition's, where nothing is full, and the local is one of the book's context
 pub record Valuable (s : struct.Book) (found : Found) (constant : ℕ) (o : Option ℕ) (v : ℕ) (x : Book) : Type 0 where

@@ -1,4 +1,5 @@
 -- What the routines that compile a function promise: its parameters, its base, and the state that a book's next function starts from
+-- Private contracts alone cite this file: whoever reads the promises need not believe it
 use Prim.Native.Nat.{ℕ, _+_, _≤_}
 use mathlib.Core.Path.{_≡_}
 use mathlib.Core.Bool.{Bool, true, cond}

@@ -1,4 +1,5 @@
 -- What the routines of `models.rt` promise: whatever the areas that they do not have hold, counts and areas then stand for the deed's book
+-- Private contracts alone cite this file: whoever reads the promises need not believe it
 use Prim.Native.Nat.{ℕ, zero, suc, _+_}
 use mathlib.Core.Path.{_≡_}
 use mathlib.Core.Bool.{cond}
@@ -69,12 +70,12 @@ methodsFrom model i (suc n) l =
 -- `copy_method`: area 6, one method of the source under the target, if it is one
 pub record CopiesMethod (source target i : ℕ) (s : Book) (t : List ℕ) (s′ : Book) (t′ : List ℕ) : Type 0 where
   pub deeds : (c k f m p l u n b e : List ℕ) → Deeds (shelf s c k f m p t l u n b e) (shelf s′ c k f m p t′ l u n b e)
-      (λ w. addMethods (some target) (methodsFrom source i 1 (w .context .methods)) w)
+      (λ w. addMethods (some target) (methodsFrom source i 1 (w .context .program .methods)) w)
 
 -- `copy_methods`: all methods of the source
 pub record CopiesMethods (source target : ℕ) (s : Book) (t : List ℕ) (s′ : Book) (t′ : List ℕ) : Type 0 where
   pub deeds : (c k f m p l u n b e : List ℕ) → Deeds (shelf s c k f m p t l u n b e) (shelf s′ c k f m p t′ l u n b e)
-      (λ w. addMethods (some target) (methodsIn source (w .context .methods)) w)
+      (λ w. addMethods (some target) (methodsIn source (w .context .program .methods)) w)
 
 -- `apply_definition`: areas 6 and 11, over areas 7 and 2
 pub record Applies (tree : List ℕ) (at end : ℕ) (s : Book) (l k t e : List ℕ) (s′ : Book) (t′ e′ : List ℕ) : Type 0 where

@@ -4,7 +4,7 @@ use mathlib.Core.Path.{_≡_}
 use mathlib.Core.List.{List, [], _++_}
 use lib.ListN.{length, getD}
 use Rattle.words.specs.Areas.{codeArea, constantsArea, functionsArea, modelsArea, propertiesArea, methodsArea, contextLocalsArea, publicNamesArea}
-use Rattle.words.specs.Areas.{scopeNamesArea, breaksArea, errorsArea, entryWord}
+use Rattle.words.specs.Areas.{scopeNamesArea, breaksArea, errorsArea, entryWord, widthOf}
 use Rattle.definition.specs.FunctionState.{Entry}
 use Rattle.definition.specs.Prior.{Prior}
 use Rattle.definition.specs.Uses.{Limits, firstOver}
@@ -55,23 +55,25 @@ pub record PriorBooks (p : Prior) : Type 0 where
 
 -- where nothing is full; `ps`: the properties of a model that is not there yet
 pub record Stock (ps : List ℕ) (m : Shelf) (b : Book) : Type 0 where
-  pub code : Filled 2 (m .code) (codeTable (b .context)) (m .book .code)
+  pub code : Filled (widthOf codeArea) (m .code) (codeTable (b .context)) (m .book .code)
   -- one position for each instruction
-  pub sized : All (λ (f : Function). length (f .state .positions) ≡ length (f .state .instructions)) (b .context .functions)
-  pub constants : Filled 3 (m .constants) (constantTable (b .context)) (m .book .constants)
+  pub sized : All (λ (f : Function). length (f .state .code .positions) ≡ length (f .state .code .instructions)) (b .context .program .functions)
+  pub constants : Filled (widthOf constantsArea) (m .constants) (constantTable (b .context)) (m .book .constants)
   pub marks : All (λ (n : ℕ). n < length (b .context .pool .constants)) (b .context .pool .globals)
-  pub functions : Filled 8 (m .functions) (functionTable (b .context)) (m .book .functions)
-  pub models : Filled 2 (m .models) (modelTable (b .context)) (m .book .models)
-  pub properties : Filled 2 (m .properties) (propertyTable (b .context) ++ propertyEntries (modelCount (b .context)) ps) (m .book .properties)
-  pub methods : Filled 3 (m .methods) (methodTable (b .context)) (m .book .methods)
-  pub locals : Filled 4 (m .locals) (localTable (b .context)) (m .book .locals)
-  pub counted : b .context .pool .localCount ≡ length (b .context .prior .locals) + length (b .context .localNames)
+  pub functions : Filled (widthOf functionsArea) (m .functions) (functionTable (b .context)) (m .book .functions)
+  pub models : Filled (widthOf modelsArea) (m .models) (modelTable (b .context)) (m .book .models)
+  pub properties : Filled (widthOf propertiesArea) (m .properties) (propertyTable (b .context) ++ propertyEntries (modelCount (b .context)) ps)
+      (m .book .properties)
+  pub methods : Filled (widthOf methodsArea) (m .methods) (methodTable (b .context)) (m .book .methods)
+  pub locals : Filled (widthOf contextLocalsArea) (m .locals) (localTable (b .context)) (m .book .locals)
+  pub counted : b .context .pool .localCount ≡ length (b .context .prior .locals) + length (b .context .locals .names)
   -- a value is that of a context local
-  pub valued : All (λ (e : Entry). e .name < length (b .context .prior .locals) + length (b .context .localNames)) (b .context .localValues)
+  pub valued : All (λ (e : Entry). e .name < length (b .context .prior .locals) + length (b .context .locals .names)) (b .context .locals .values)
   -- the book's own are none of those that stood before
   pub first-local : length (b .context .prior .locals) ≤ m .book .«first_local»
   pub named : LocalsHeld (m .book .«first_local») (m .book .locals) (m .locals) (b .compiler)
-  pub publics : Filled 3 (m .publics) (publicTable (b .context) ++ publicEntries (b .assembly .index) (b .assembly .publics)) (m .book .publics)
+  pub publics : Filled (widthOf publicNamesArea) (m .publics) (publicTable (b .context) ++ publicEntries (b .assembly .index) (b .assembly .publics))
+      (m .book .publics)
   pub first-public : m .book .«first_public» ≡ publicCount (b .context)
   pub prior : PriorBooks (b .context .prior)
   pub file : m .book .file ≡ b .assembly .index
@@ -79,10 +81,10 @@ pub record Stock (ps : List ℕ) (m : Shelf) (b : Book) : Type 0 where
   pub last-index : b .assembly .index ≡ bookCount (b .context)
   pub indexed : (i : ℕ) → i < length (b .context .assemblies)
       → getD (b .context .assemblies) i (record { filename = 0; index = 0; publics = [] }) .index ≡ length (b .context .prior .books) + i
-  pub entry : m .book .«entry_point» ≡ b .context .entryPoint
-  pub names : Filled 2 (m .names) [] 0
-  pub breaks : Filled 1 (m .breaks) [] 0
-  pub errors : Filled 4 (m .errors) (entriesFrom errorEntry 0 (b .compiler .errors)) (m .book .errors)
+  pub entry : m .book .«entry_point» ≡ b .context .program .entryPoint
+  pub names : Filled (widthOf scopeNamesArea) (m .names) [] 0
+  pub breaks : Filled (widthOf breaksArea) (m .breaks) [] 0
+  pub errors : Filled (widthOf errorsArea) (m .errors) (entriesFrom errorEntry 0 (b .compiler .errors)) (m .book .errors)
 
 -- the areas' lengths are the limits
 pub record Fitted (κ : Limits) (m : Shelf) : Type 0 where

@@ -59,7 +59,7 @@ use Rattle.definition.specs.Prior.{Entries}
 use Rattle.definition.specs.Program.{errorEntry, entriesFrom, flat, filled, filledAll, tablesOf, errorTables}
 use Rattle.definition.specs.Answer.{Answer, Delivery, Refusal, ringErrors, answerEnding, answerBy, answerWorked, answerNeeded, answerBundle, answerDocuments}
 use Rattle.definition.specs.Answer.{answerTwice, answerShape, limitsOf, answerFrom, answer, areasOf, twice, documentPlaces}
-use Rattle.definition.specs.Within.{All, none, _&_}
+use Rattle.definition.specs.Within.{All, nil, _&_}
 use Rattle.definition.proofs.Lists.{all-append, cond-case}
 use Rattle.definition.proofs.Program.{added-case}
 use Rattle.error_lines.specs.Known.{standsIn, isKind, knownToken, isText, known}
@@ -84,7 +84,7 @@ record Pushes (s : Step) : Type 0 where
   on : (w : Work) → AllKnown (w .compiler .errors) → AllKnown (s w .compiler .errors)
 
 pushes-error : (n : ℕ) (t : Token) → KnownToken t → 1 ≤ n → n ≤ 10 → Pushes (pushError n t)
-pushes-error n t T a b = record { on = λ w h. all-append h (T n a b & none) }
+pushes-error n t T a b = record { on = λ w h. all-append h (T n a b & nil) }
 
 known-constant : (c : Constant) (w : Work) → AllKnown (w .compiler .errors) → AllKnown (addConstant c w .work .compiler .errors)
 known-constant c w h = added-case (λ (a : Added). AllKnown (a .work .compiler .errors)) c w h (λ i l. h)
@@ -329,7 +329,7 @@ module _ (w : List ℕ) (here : (i : ℕ) → 0 < spanAt w i → KnownToken (tok
 
   book-error : (n : ℕ) (t : Token) → KnownToken t → 1 ≤ n → n ≤ 10 → (b : Book.Book) → AllKnown (b .compiler .errors)
       → AllKnown (pushBookError n t b .compiler .errors)
-  book-error n t T a c b h = all-append h (T n a c & none)
+  book-error n t T a c b h = all-append h (T n a c & nil)
 
   local : (n : ℕ) (b : Book.Book) → AllKnown (b .compiler .errors) → AllKnown (defineContextLocal n b .book .compiler .errors)
   unfolding defineContextLocal
@@ -420,7 +420,7 @@ module _ (w : List ℕ) (here : (i : ℕ) → 0 < spanAt w i → KnownToken (tok
   function-definition : (f : FunctionDefinition) (k i : ℕ) → FunctionAt k f w i → (b : Book.Book) → AllKnown (b .compiler .errors)
       → AllKnown (compileFunctionDefinition f b .book .compiler .errors)
   unfolding compileFunctionDefinition
-  function-definition f k i x b h = cond-case (λ (p : Placed). AllKnown (p .book .compiler .errors)) (m .state .isInstance)
+  function-definition f k i x b h = cond-case (λ (p : Placed). AllKnown (p .book .compiler .errors)) (m .state .header .isInstance)
       (λ q. book-error 8 (f .name) (headed (x .headed) (omega arith)) (omega arith) (omega arith) (m .book) known′)
       (λ q. plain-function (defineContextLocal (f .name .value) b .place) (m .state) (f .name .value) (m .book) known′)
     where
@@ -499,11 +499,11 @@ module _ (w : List ℕ) (here : (i : ℕ) → 0 < spanAt w i → KnownToken (tok
 
   document : (d : Document) → Stands d → (c : Context) (uses : List Use) → AllKnown (compileDocument d c uses .compiler .errors)
   unfolding compileDocument
-  document d x c uses = definitions (d .definitions) (x .0 + 1) (x .1 .definitions) (opened d c uses) none
+  document d x c uses = definitions (d .definitions) (x .0 + 1) (x .1 .definitions) (opened d c uses) nil
 
   all-stand : (ds : List Document) (i : ℕ) → RunAt DocumentAt sizeDoc ds w i → All Stands ds
   unfolding RunAt
-  all-stand [] i x = none
+  all-stand [] i x = nil
   all-stand (d ∷ ds) i x = (i, x .0) & all-stand ds (i + sizeDoc d) (x .1)
 
 -- each record that passed the shape check is known
@@ -638,7 +638,7 @@ module _ (w : List ℕ) (here : (i : ℕ) → 0 < spanAt w i → KnownToken (tok
       subst TextNumber (sym (x .1 .file)) (texts (x .0) (omega (arith, q)) (h .kind-is))
 
   found : (P : Document → Type 0) (n : ℕ) (ds : List Document) → All P ds → (d : Document) → findDocument n ds ≡ some d → P d × (d .filename ≡ n)
-  found P n [] none d e = absurd (let z : _≡_ {A = ℕ} 0 1 = cc e in omega (arith, z))
+  found P n [] nil d e = absurd (let z : _≡_ {A = ℕ} 0 1 = cc e in omega (arith, z))
   found P n (x ∷ ds) (p & ps) d e = go (eqb (x .filename) n) refl (found P n ds ps d) e
     where
       go : (t : Bool) → eqb (x .filename) n ≡ t → (findDocument n ds ≡ some d → P d × (d .filename ≡ n)) → cond t (some x) (findDocument n ds) ≡ some d
@@ -648,7 +648,7 @@ module _ (w : List ℕ) (here : (i : ℕ) → 0 < spanAt w i → KnownToken (tok
 
   -- row 6 has passed: each number is a document's
   present : (ds : List Document) → All (Stands w here) ds → (ns : List ℕ) → missing ds ns ≡ none → All TextNumber ns
-  present ds S [] e = none
+  present ds S [] e = nil
   present ds S (n ∷ ns) e = go (findDocument n ds) refl (present ds S ns) e
     where
       go : (o : Option Document) → findDocument n ds ≡ o → (missing ds ns ≡ none → All TextNumber ns) → missingBy o n (missing ds ns) ≡ none
@@ -670,7 +670,7 @@ module _ (w : List ℕ) (here : (i : ℕ) → 0 < spanAt w i → KnownToken (tok
           by false e = r e
 
   without-texts : (n : ℕ) (ns : List ℕ) → All TextNumber ns → All TextNumber (without n ns)
-  without-texts n [] none = none
+  without-texts n [] nil = nil
   without-texts n (x ∷ ns) (p & ps) = cond-case (All TextNumber) (eqb x n) (λ t. ps) (λ t. p & without-texts n ns ps)
 
   -- how the work ends
@@ -707,7 +707,7 @@ module _ (w : List ℕ) (here : (i : ℕ) → 0 < spanAt w i → KnownToken (tok
 
   ring-known : (l : List ℕ) → All TextNumber l → AllKnown (ringErrors l)
   unfolding known
-  ring-known [] none = none
+  ring-known [] nil = nil
   ring-known (n ∷ l) (p & ps) = p & ring-known l ps
 
 -- the answer
@@ -732,7 +732,7 @@ answer-known w lengths = shape (shapeOf w) refl
     c = newContext
 
     shape : (s : Shape) → shapeOf w ≡ s → AnswerKnown (answerShape s w (limitsOf lengths) c)
-    shape (Refused r p) q = none
+    shape (Refused r p) q = nil
     shape Fine q = two (twice [] w (documentPlaces w))
       where
         here : (i : ℕ) → 0 < spanAt w i → KnownToken (tokenAt w i)
@@ -742,25 +742,25 @@ answer-known w lengths = shape (shapeOf w) refl
         texts = document-text w q
 
         by : (o : Option ℕ) (e : Ending) → EndKnown w here texts e → AnswerKnown (answerBy o e)
-        by (some a) e k = none
+        by (some a) e k = nil
         by none (Delivered x) k = tt
         by none (Faulty n es) k = k
         by none (Ring l) k = ring-known w here texts l k
 
         all : (ds : List Document) → All (Stands w here) ds → AnswerKnown (answerDocuments ds (limitsOf lengths) c)
-        all [] S = none
+        all [] S = nil
         all (root ∷ others) S = go (missing (root ∷ others) (needed (loadedOf c) root others)) refl
           where
             go : (o : Option ℕ) → missing (root ∷ others) (needed (loadedOf c) root others) ≡ o
                 → AnswerKnown (answerNeeded o (needed (loadedOf c) root others) (root ∷ others) (limitsOf lengths) c)
-            go (some n) e = none
+            go (some n) e = nil
             go none e =
                 let r = compileNeeded (needed (loadedOf c) root others) (root ∷ others) c in
                 by (firstOver (limitsOf lengths) (r .uses)) (r .ending)
                 (worked w here texts (needed (loadedOf c) root others) (root ∷ others) S e c)
 
         two : (o : Option ℕ) → AnswerKnown (answerTwice o w (limitsOf lengths) c)
-        two (some i) = none
+        two (some i) = nil
         two none = all (documentsOf w) (all-stand w here (documentsOf w) 0 (fine-spells w q .documents))
 
 -- the words of area 11
@@ -798,7 +798,7 @@ no-errors (suc (suc (suc (suc m)))) = errors-cons 0 0 0 0 (replicate m 0)
 
 listed-known : (es : List Error) → AllKnown es → (m i j : ℕ) → firstUnknown j (errorsIn (flat (entriesFrom errorEntry i es) ++ replicate m 0)) ≡ none
 unfolding firstUnknown
-listed-known [] none m i j = ap (firstUnknown j) (no-errors m)
+listed-known [] nil m i j = ap (firstUnknown j) (no-errors m)
 listed-known (e ∷ es) (p & ps) m i j =
     ap (firstUnknown j) (errors-cons (e .number) (e .token .position) (e .token .kind) (e .token .value)
     (flat (entriesFrom errorEntry (i + 1) es) ++ replicate m 0))
@@ -822,9 +822,9 @@ NoneUnknown area = firstUnknown 0 (errorsIn area) ≡ none
 answer-left : (lengths : List ℕ) (a : Answer) → AnswerKnown a → NoneUnknown (getD (areasOf lengths a) errorsArea [])
 unfolding areasOf tablesOf errorTables
 answer-left lengths (Delivery c) k =
-    area-known NoneUnknown lengths (tablesOf c) errorsArea (listed-known [] none 0 0 0) (λ n. listed-known [] none (n - 0) 0 0)
+    area-known NoneUnknown lengths (tablesOf c) errorsArea (listed-known [] nil 0 0 0) (λ n. listed-known [] nil (n - 0) 0 0)
 answer-left lengths (Refusal n p es) k =
-    area-known NoneUnknown lengths (errorTables es) errorsArea (listed-known [] none 0 0 0)
+    area-known NoneUnknown lengths (errorTables es) errorsArea (listed-known [] nil 0 0 0)
     (λ n. listed-known es k (n - length (flat (entriesFrom errorEntry 0 es))) 0 0)
 
 -- over any words and areas of any lengths: the list that the call leaves in area 11 has no error that `errors_in_words` does not know

@@ -1,4 +1,5 @@
 -- Where a text stands in the lent bytes, as the code has it: `textAt` by start and end
+-- Private contracts alone cite this file: whoever reads the promises need not believe it
 use Prim.Native.Nat.{ℕ, _+_, _-_, _*_}
 use mathlib.Core.Bool.{cond}
 use lib.Dec.{leb}

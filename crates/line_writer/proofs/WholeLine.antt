@@ -12,8 +12,19 @@ use Rattle.line_writer.specs.declared.writer.Fields.{Fields}
 use Rattle.line_writer.specs.Placed.{Placed, refused, numberPut, numberAt, bytePut, byteAt}
 use Rattle.column_lines.specs.Form.{newline}
 use Rattle.line_writer.specs.Written.{startAt, fieldWidth, sectionWidth, lastWidth, fieldAt, lineAt, lineSize}
-use Rattle.line_writer.specs.Written.{sixBehind, lineBehind, LineFits}
+use Rattle.line_writer.specs.Written.{sixBehind, lineBehind}
 use Rattle.line_writer.proofs.Placing.{room-yes}
+
+-- no number of a line is wider than its field
+pub record EachFits (l : Fields) : Type 0 where
+  pub section : numeralFits sectionWidth false (l .section) ≡ true
+  pub first : numeralFits fieldWidth false (l .first) ≡ true
+  pub second : numeralFits fieldWidth false (l .second) ≡ true
+  pub third : numeralFits fieldWidth false (l .third) ≡ true
+  pub fourth : numeralFits fieldWidth false (l .fourth) ≡ true
+  pub fifth : numeralFits fieldWidth false (l .fifth) ≡ true
+  pub sixth : numeralFits fieldWidth false (l .sixth) ≡ true
+  pub last : numeralFits lastWidth (l .signed) (l .last) ≡ true
 
 -- all up to k is `done`, the rest of the buffer is as it was, and nothing was refused
 record Along (done before : List ℕ) (k : ℕ) (m : Placed) : Type 0 where
@@ -60,7 +71,7 @@ byte-more {done} {before} {k} {m} b a h =
     })
 
 -- a line, with room for it
-module _ (l : Fields) (at : ℕ) (bs : List ℕ) (h : at + lineSize ≤ length bs) (f : LineFits l) where
+module _ (l : Fields) (at : ℕ) (bs : List ℕ) (h : at + lineSize ≤ length bs) (f : EachFits l) where
   begins : Along (take at bs) bs at (startAt at bs)
   begins = record { offset = refl; fits = refl; bytes = record { long = length-take-le at bs (omega (arith, h)); rest = sym (take-append-drop at bs) } }
 

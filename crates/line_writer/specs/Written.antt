@@ -2,10 +2,9 @@
 use Prim.Native.Nat.{ℕ}
 use mathlib.Core.Bool.{true, false}
 use mathlib.Core.List.{List, [], _∷_, _++_}
-use mathlib.Core.Path.{_≡_}
 use denote.Ref.{RefT, at-last}
 use Rattle.column_lines.specs.Form.{newline}
-use Rattle.column_lines.specs.Numeral.{numeral, numeralFits}
+use Rattle.column_lines.specs.Numeral.{numeral}
 use Rattle.line_writer.specs.declared.writer.Writer.{Writer}
 use Rattle.line_writer.specs.declared.writer.Fields.{Fields}
 use Rattle.line_writer.specs.Placed.{Placed, numberAt, byteAt}
@@ -57,14 +56,3 @@ sixBehind before l =
 abbrev pub lineBehind : List ℕ → Fields → List ℕ
 lineBehind before l =
     (sixBehind (before ++ numeral sectionWidth false (l .section)) l ++ numeral lastWidth (l .signed) (l .last)) ++ (newline ∷ [])
-
--- no number of a line is wider than its field
-pub record LineFits (l : Fields) : Type 0 where
-  pub section : numeralFits sectionWidth false (l .section) ≡ true
-  pub first : numeralFits fieldWidth false (l .first) ≡ true
-  pub second : numeralFits fieldWidth false (l .second) ≡ true
-  pub third : numeralFits fieldWidth false (l .third) ≡ true
-  pub fourth : numeralFits fieldWidth false (l .fourth) ≡ true
-  pub fifth : numeralFits fieldWidth false (l .fifth) ≡ true
-  pub sixth : numeralFits fieldWidth false (l .sixth) ≡ true
-  pub last : numeralFits lastWidth (l .signed) (l .last) ≡ true

@@ -18,11 +18,11 @@ use Rattle.column_files.specs.Convert.{Converts, answerBy, refuse, success, ref
 use Rattle.column_files.specs.declared.Converted.{Converted}
 use Rattle.column_files.proofs.Converting.{cleared-all, cleared-rest, answer-short, answer-done}
 use Rattle.line_writer.specs.Placed.{Placed, refused, numberPut, numberAt, bytePut, byteAt}
-use Rattle.line_writer.specs.Written.{startAt, sectionWidth, fieldWidth, lastWidth, fieldAt, lineAt, lineSize, lineBehind, LineFits}
+use Rattle.line_writer.specs.Written.{startAt, sectionWidth, fieldWidth, lastWidth, fieldAt, lineAt, lineSize, lineBehind}
 use Rattle.line_writer.specs.declared.writer.Fields.{Fields}
 use Rattle.line_writer.proofs.Placing.{number-length}
 use Rattle.line_writer.proofs.InARow.{line-length}
-use Rattle.line_writer.proofs.WholeLine.{line-whole}
+use Rattle.line_writer.proofs.WholeLine.{EachFits, line-whole}
 use Rattle.listings.specs.Lines.{lineBytes, lineFits, textOf, allFit, linesAt}
 use Rattle.listings.specs.Listing.{printed, Finishes}
 use Rattle.listings.proofs.Walking.{lines-refused}
@@ -66,7 +66,7 @@ eight a b c d e f g h t =
       and-right g h t₆,
     )
 
-line-fits : (l : Fields) → lineFits l ≡ true → LineFits l
+line-fits : (l : Fields) → lineFits l ≡ true → EachFits l
 unfolding lineFits
 line-fits l h =
     let t = eight (numeralFits sectionWidth false (l .section)) (numeralFits fieldWidth false (l .first)) (numeralFits fieldWidth false (l .second))
@@ -83,7 +83,7 @@ line-fits l h =
       last = t .7;
     }
 
-fits-line : (l : Fields) → LineFits l → lineFits l ≡ true
+fits-line : (l : Fields) → EachFits l → lineFits l ≡ true
 unfolding lineFits
 fits-line l f = simp (f .section, f .first, f .second, f .third, f .fourth, f .fifth, f .sixth, f .last)
 
@@ -117,7 +117,7 @@ byte-told b m h = by (m .fits) (leb (m .offset + 1) (length (m .bytes))) refl re
 
 -- a line that fits: its numbers fit, and it has room
 record Roomy (l : Fields) (at : ℕ) (bs : List ℕ) : Type 0 where
-  fits : LineFits l
+  fits : EachFits l
   room : at + lineSize ≤ length bs
 
 module _ (l : Fields) (at : ℕ) (bs : List ℕ) where

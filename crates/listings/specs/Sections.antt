@@ -10,7 +10,6 @@ use Rattle.words.specs.Object.{integerKind}
 use Rattle.words.specs.Opcode.{Instruction, unword}
 use Rattle.words.specs.Program.{functionAt, codeOf, instructionWord, instructionPosition}
 use Rattle.words.specs.Record.{lineOf, columnOf}
-use Rattle.words.specs.declared.program.FunctionRecord.{FunctionRecord}
 use Rattle.words.specs.declared.reply.Reply.{Reply}
 use Rattle.words.specs.declared.reply.Totals.{Totals}
 use Rattle.column_lines.specs.Form.{signedKind}
@@ -55,11 +54,10 @@ totalsLine t =
     line 1 (t .functions) (t .constants) (t .models) (t .«context_locals») (t .«entry_point») (t .books) (t .«global_dependencies») false
 
 -- '2 function: index, parameters, locals, rescue, instance, file, name'
-abbrev pub functionFields : ℕ → FunctionRecord → Fields
-functionFields i f = line 2 i (f .parameters) (f .locals) (f .rescue) (f .instance) (f .file) (f .name) false
-
 abbrev pub functionLine : List ℕ → ℕ → Fields
-functionLine w i = functionFields i (functionAt w i)
+functionLine w i =
+    let f = functionAt w i in
+    line 2 i (f .parameters) (f .locals) (f .rescue) (f .instance) (f .file) (f .name) false
 
 -- '3 instruction: function, index, line, column, opcode, 0, operand', of the part of the code area that is the function's
 abbrev pub instructionFields : (function i position : ℕ) → Instruction → Fields

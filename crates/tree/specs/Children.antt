@@ -1,5 +1,6 @@
 -- What the code's pass over the children of one record gives. Row 3 at the parent, where a child is lacking, comes before any fault among the children;
 -- the code finds it after them
+-- Private contracts alone cite this file: whoever reads the promises need not believe it
 use Prim.Native.Nat.{ℕ}
 use mathlib.Core.Bool.{cond}
 use mathlib.Core.List.{List}

@@ -1,4 +1,5 @@
 -- The numbers in which the code holds the rows of the tables in `Rules`. That they say the same is proved, proofs/Tables.antt
+-- Private contracts alone cite this file: whoever reads the promises need not believe it
 use Prim.Native.Nat.{ℕ, _+_, _*_, _/_, _%_, _^_}
 use mathlib.Core.Bool.{Bool, cond, _&&_}
 use mathlib.Core.List.{List, [], _∷_}
