@@ -60,3 +60,15 @@ pub fn files() -> BTreeMap<String, Vec<u8>> {
     }
     BTreeMap::from([("stdin".to_string(), input.into_bytes()), ("stdout".to_string(), output.into_bytes())])
 }
+
+#[cfg(test)]
+mod tests {
+    #[test]
+    fn the_stored_cases_are_current() {
+        let folder = std::path::Path::new(env!("CARGO_MANIFEST_DIR")).join("../crates/error_cases");
+        for (name, content) in super::files() {
+            let stored = std::fs::read(folder.join(&name)).expect("a stored file");
+            assert!(stored == content, "{name}: `oracle error-cases` writes it anew");
+        }
+    }
+}

@@ -13,6 +13,7 @@ pub mod compare;
 pub mod convert;
 pub mod damage;
 pub mod documents;
+pub mod error_calls;
 pub mod error_cases;
 pub mod error_words;
 pub mod examples;

@@ -52,8 +52,11 @@ oracle once --shape NAME --records N [--original]
     one call of a shape, for a profile (see `counts`)
 oracle sample
     writes the files of sample/ anew
-oracle errors
-    writes the stored cases of ../crates/error_cases anew
+oracle errors [--seed S] [--count N] [--bundles]
+    the library's errors in words and the reading over N lists, or over what the library's compile call
+    leaves in area 11 of N bundles
+oracle error-cases
+    writes the stored cases of the program `error_cases` anew
 oracle examples
     writes the column files, listings and tables of texts of ../examples anew, from the sources there
 oracle flatten ROOT.clover [OTHER.clover ..]
@@ -294,7 +297,31 @@ fn run_sample(_: &Arguments) -> ExitCode {
     write_files(&Path::new(env!("CARGO_MANIFEST_DIR")).join("sample"), &sample::files())
 }
 
+#[cfg(feature = "link")]
+fn run_errors(arguments: &Arguments) -> ExitCode {
+    use oracle::error_calls::{compare, compare_bundles};
+    let mut side = oracle::ours::Library;
+    let (seed, count) = (arguments.number("--seed", 1), arguments.number("--count", 1000));
+    let start = Instant::now();
+    let seen = match arguments.has("--bundles") {
+        true => compare_bundles(&mut side, seed, count),
+        false => compare(&mut side, seed, count),
+    };
+    seen.print();
+    println!("seconds {:.1}", start.elapsed().as_secs_f64());
+    let Some(first) = &seen.first else {
+        return ExitCode::SUCCESS;
+    };
+    println!("first difference: {first}");
+    ExitCode::FAILURE
+}
+
+#[cfg(not(feature = "link"))]
 fn run_errors(_: &Arguments) -> ExitCode {
+    unreachable!("`needs_library` holds it back");
+}
+
+fn run_error_cases(_: &Arguments) -> ExitCode {
     write_files(&Path::new(env!("CARGO_MANIFEST_DIR")).join("../crates/error_cases"), &error_cases::files())
 }
 
@@ -322,7 +349,7 @@ const WRONGLY_CALLED: u8 = 2;
 /// A command, its flags, whether it takes files, and what it does.
 type Command = (&'static str, &'static [Flag], bool, fn(&Arguments) -> ExitCode);
 
-const COMMANDS: [Command; 16] = [
+const COMMANDS: [Command; 17] = [
     (
         "compare",
         &[
@@ -349,7 +376,8 @@ const COMMANDS: [Command; 16] = [
     ("shapes", &[], false, run_shapes),
     ("once", &[Word("--shape"), Number("--records"), Switch("--original")], false, run_once),
     ("sample", &[], false, run_sample),
-    ("errors", &[], false, run_errors),
+    ("errors", &[Number("--seed"), Number("--count"), Switch("--bundles")], false, run_errors),
+    ("error-cases", &[], false, run_error_cases),
     ("examples", &[], false, run_examples),
     ("flatten", &[], true, run_flatten),
 ];
@@ -357,7 +385,7 @@ const COMMANDS: [Command; 16] = [
 fn needs_library(command: &str, arguments: &Arguments) -> bool {
     match command {
         "compare" | "hostile" => arguments.has("--ours"),
-        "convert" | "bench" | "speed" | "tables" | "table-bench" => true,
+        "convert" | "bench" | "speed" | "tables" | "table-bench" | "errors" => true,
         "once" => !arguments.has("--original"),
         _ => false,
     }

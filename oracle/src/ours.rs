@@ -4,6 +4,7 @@
 use crate::areas::Lent;
 use crate::compare::Side;
 use crate::convert::Converters;
+use crate::error_calls::ErrorCalls;
 use crate::table_calls::TableCalls;
 use crate::views::Answered;
 use clover_back_end::{calls, Converted};
@@ -36,6 +37,12 @@ impl Converters for Library {
 
     fn to_columns(&mut self, words: &[u64], out: &mut [u8]) -> [u64; 3] {
         plain(calls::records_to_columns(words, out))
+    }
+}
+
+impl ErrorCalls for Library {
+    fn in_words(&mut self, errors: &[u64], file: u64, table: &[u64], bytes: &[u8], out: &mut [u8]) -> [u64; 3] {
+        plain(calls::errors_in_words(errors, file, table, bytes, out))
     }
 }
 

@@ -32,6 +32,17 @@ extern "C" {
 
 #[rustfmt::skip]
 extern "C" {
+    fn clover_errors_in_words(
+        errors: *const u64, error_words: usize,
+        file: u64,
+        table: *const u64, table_words: usize,
+        bytes: *const u8, byte_count: usize,
+        out: *mut u8, room: usize,
+    ) -> Converted;
+}
+
+#[rustfmt::skip]
+extern "C" {
     fn clover_compile(
         tree: *const u64, tree_words: usize,
         code: *mut u64, code_words: usize,
@@ -102,6 +113,25 @@ pub fn records_to_table(tree: &[u64], out: &mut [u8]) -> Tabled {
     hold_to_layout();
     // Both slices outlive the call, and the output is another than the tree.
     unsafe { clover_records_to_table(tree.as_ptr(), tree.len(), out.as_mut_ptr(), out.len()) }
+}
+
+/// The errors of area 11 as lines, with the file number of their book; of text n `table[2n - 2]` is the start and
+/// `table[2n - 1]` the length in `bytes`, whatever these words are. Or row 3 with the index of an error that is not known, or
+/// row 9 with place 13 where the output is too short. [`Converted::line_bytes`] reads the reply.
+pub fn errors_in_words(errors: &[u64], file: u64, table: &[u64], bytes: &[u8], out: &mut [u8]) -> Converted {
+    hold_to_layout();
+    // The slices outlive the call, which writes to the output alone, and the output is another than the rest.
+    #[rustfmt::skip]
+    let reply = unsafe {
+        clover_errors_in_words(
+            errors.as_ptr(), errors.len(),
+            file,
+            table.as_ptr(), table.len(),
+            bytes.as_ptr(), bytes.len(),
+            out.as_mut_ptr(), out.len(),
+        )
+    };
+    reply
 }
 
 /// Compiles a bundle into areas in the order of their numbers. A tail shorter than an entry is zeroed.

@@ -47,6 +47,8 @@ mod column_file;
 #[cfg(feature = "link")]
 mod compiling;
 mod constant;
+#[cfg(feature = "link")]
+mod error_lines;
 mod fault;
 mod instruction;
 mod kind;
@@ -65,6 +67,8 @@ pub use column_file::{LineFault, LINE_BYTES};
 #[cfg(feature = "link")]
 pub use compiling::{check, columns_to_records, compile, records_to_columns, records_to_table, table_to_records};
 pub use constant::Constant;
+#[cfg(feature = "link")]
+pub use error_lines::errors_in_words;
 pub use fault::ShapeFault;
 pub use instruction::{Instruction, OpCode, Operand, Operation};
 pub use kind::{Infix, Kind, Prefix};
@@ -73,4 +77,4 @@ pub use program::{ContextLocal, Function, Method, Model, Program, PublicName, To
 pub use refusal::{Error, ErrorKind, Refusal, Token};
 pub use reply::{Answer, Checked, Converted, Reply, Tabled, Version};
 pub use table::TABLE_LINE_BYTES;
-pub use texts::{Text, Texts, TextsError};
+pub use texts::{Text, TextTable, Texts, TextsError};

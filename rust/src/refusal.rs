@@ -10,6 +10,9 @@ use crate::records::{MAX_LEVEL, MAX_RECORDS, RECORD_WORDS};
 use crate::texts::{Text, Texts};
 use std::fmt;
 
+/// The place that row 9 gives for the buffer of lines: it comes after the twelve areas.
+const LINE_BUFFER: u64 = 13;
+
 /// Why a call delivers nothing. Each case is a row of docs/FORMAT.md, 'Refusals', with what its place
 /// means.
 #[derive(Clone, Debug, PartialEq, Eq)]
@@ -65,6 +68,13 @@ pub enum Refusal {
     },
     /// Row 9, place 0: a converter's output has no room.
     OutputShort,
+    /// Row 3 of errors in words: a number, position or token that no error has.
+    UnknownError {
+        /// The first such error of the list, from 0.
+        index: u64,
+    },
+    /// Row 9, place 13: the buffer for lines of errors has no room.
+    LineBufferShort,
     /// Row 10: the records are no constant table's.
     NotATable {
         /// The first record up to which no table agrees.
@@ -97,13 +107,13 @@ impl Refusal {
         match self {
             Refusal::BadLine { .. } => 1,
             Refusal::BadLength => 2,
-            Refusal::BadShape { .. } => 3,
+            Refusal::BadShape { .. } | Refusal::UnknownError { .. } => 3,
             Refusal::TooDeep { .. } => 4,
             Refusal::BookTwice { .. } => 5,
             Refusal::BookMissing { .. } => 6,
             Refusal::BookFaulty { .. } => 7,
             Refusal::Ring { .. } => 8,
-            Refusal::AreaFull { .. } | Refusal::OutputShort => 9,
+            Refusal::AreaFull { .. } | Refusal::OutputShort | Refusal::LineBufferShort => 9,
             Refusal::NotATable { .. } => 10,
         }
     }
@@ -120,6 +130,8 @@ impl Refusal {
             Refusal::BookMissing { file } | Refusal::BookFaulty { file, .. } => file.number(),
             Refusal::Ring { files } => files.len() as u64,
             Refusal::AreaFull { area } => area.number(),
+            Refusal::UnknownError { index } => *index,
+            Refusal::LineBufferShort => LINE_BUFFER,
         }
     }
 
@@ -128,13 +140,13 @@ impl Refusal {
         match self {
             Refusal::BadLine { .. } => "bad line",
             Refusal::BadLength => "bad length",
-            Refusal::BadShape { .. } => "bad shape",
+            Refusal::BadShape { .. } | Refusal::UnknownError { .. } => "bad shape",
             Refusal::TooDeep { .. } => "too deep",
             Refusal::BookTwice { .. } => "book twice",
             Refusal::BookMissing { .. } => "book missing",
             Refusal::BookFaulty { .. } => "book faulty",
             Refusal::Ring { .. } => "ring",
-            Refusal::AreaFull { .. } | Refusal::OutputShort => "area full",
+            Refusal::AreaFull { .. } | Refusal::OutputShort | Refusal::LineBufferShort => "area full",
             Refusal::NotATable { .. } => "not a table",
         }
     }
@@ -182,6 +194,10 @@ impl Refusal {
             }
             Refusal::AreaFull { area } => format!("{word}: area {}, {area}, has no room", area.number()),
             Refusal::OutputShort => format!("{word}: the output is too short"),
+            Refusal::UnknownError { index } => {
+                format!("{word}: error {index} of the list has a number, a position or a token that is not known")
+            }
+            Refusal::LineBufferShort => format!("{word}: the buffer for the lines of errors is too short"),
             Refusal::NotATable { record } => format!("{word}: up to record {record} no table agrees"),
         }
     }
@@ -321,6 +337,17 @@ mod tests {
         }
         let ring = Refusal::of(8, 2, &errors).expect("row 8");
         assert_eq!(ring.to_string(), "ring: no book is ready, and 2 are left: text 5, text 6");
+    }
+
+    #[test]
+    fn refusals_of_errors_in_words_are_spelt() {
+        let unknown = Refusal::UnknownError { index: 4 };
+        assert_eq!((unknown.row(), unknown.place(), unknown.record()), (3, 4, None));
+        let spelt = "bad shape: error 4 of the list has a number, a position or a token that is not known";
+        assert_eq!(unknown.to_string(), spelt);
+        let short = Refusal::LineBufferShort;
+        assert_eq!((short.row(), short.place(), short.record()), (9, 13, None));
+        assert_eq!(short.to_string(), "area full: the buffer for the lines of errors is too short");
     }
 
     #[test]

@@ -40,7 +40,7 @@ pub struct Converted {
     pub number: u64,
     /// The refusal's place, or 0.
     pub place: usize,
-    /// Records converted; 0 after a refusal.
+    /// Records converted, or bytes of lines written; 0 after a refusal.
     pub total: usize,
 }
 
@@ -48,6 +48,15 @@ impl Converted {
     /// How many records stand in the output.
     pub fn records(self) -> Result<usize, Refusal> {
         Refusal::of(self.number, self.place as u64, &[]).map_or(Ok(self.total), Err)
+    }
+
+    /// Of errors in words: how many bytes of lines stand in the output. The place of row 3 is an error's there.
+    pub fn line_bytes(self) -> Result<usize, Refusal> {
+        match (self.number, self.place as u64) {
+            (0, _) => Ok(self.total),
+            (3, index) => Err(Refusal::UnknownError { index }),
+            _ => Err(Refusal::LineBufferShort),
+        }
     }
 }
 

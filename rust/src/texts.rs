@@ -108,6 +108,19 @@ impl Texts {
         self.known.is_empty()
     }
 
+    /// As the library reads them, for errors in words.
+    pub fn table(&self) -> TextTable {
+        let most = self.known.last_key_value().map_or(0, |(number, _)| number.0 as usize);
+        let mut table = TextTable { places: [LACKING; 2].repeat(most), bytes: Vec::new() };
+        for (number, text) in self.iter() {
+            let first = 2 * number.0 as usize - 2;
+            table.places[first] = table.bytes.len() as u64;
+            table.places[first + 1] = text.len() as u64;
+            table.bytes.extend(text.as_bytes());
+        }
+        table
+    }
+
     /// As a file: the number in 8 bytes, a blank and the text, a line each. In a text a newline is
     /// written `\n` and a backslash `\\`.
     pub fn to_lines(&self) -> String {
@@ -139,6 +152,29 @@ impl Texts {
         }
         let known = self.known.contains_key(&number) || self.numbers.contains_key(text);
         (number != Text::MAIN && known).then(|| "repeats a number or a text".to_string())
+    }
+}
+
+/// Start and length of a text that a table lacks: it ends past any bytes.
+const LACKING: u64 = u64::MAX;
+
+/// The texts of a [`Texts`] as the library reads them: for each number from 1 on a start and a length, and the bytes
+/// that these are of (docs/FORMAT.md, 'Errors in words'). A number without a text has a place past the bytes.
+#[derive(Clone, Debug, Default, PartialEq, Eq)]
+pub struct TextTable {
+    places: Vec<u64>,
+    bytes: Vec<u8>,
+}
+
+impl TextTable {
+    /// Start and length of text n are words 2n - 2 and 2n - 1.
+    pub fn places(&self) -> &[u64] {
+        &self.places
+    }
+
+    /// The bytes of all texts.
+    pub fn bytes(&self) -> &[u8] {
+        &self.bytes
     }
 }
 
@@ -201,6 +237,15 @@ mod tests {
         assert_eq!((texts.find("seven"), texts.get(Text(2))), (Some(Text(7)), None));
         assert_eq!(texts.spelt(Text(2)), "text 2");
         assert_eq!(texts.intern("eight"), Text(8));
+    }
+
+    #[test]
+    fn tables_for_the_library_have_places_and_bytes() {
+        let texts = Texts::from_lines("       3 \u{e4}b\n       5 \n").expect("a table");
+        let table = texts.table();
+        let none = u64::MAX;
+        assert_eq!(table.places(), [0, 4, none, none, 4, 3, none, none, 7, 0]);
+        assert_eq!(table.bytes(), b"main\xC3\xA4b");
     }
 
     #[test]

@@ -108,3 +108,29 @@ fn rows_have_their_words() {
     let deep = clover_back_end::check(&[]).expect_err("row 3");
     assert!(holds(&found, deep.row(), deep.word()));
 }
+
+/// The example of 'Errors in words' is what the library writes.
+#[cfg(feature = "link")]
+#[test]
+fn the_example_of_errors_in_words_is_written() {
+    use clover_back_end::{errors_in_words, Texts};
+    let mut texts = Texts::new();
+    let file = texts.intern("snow.clover");
+    texts.intern("5\" \\\n");
+    let table = texts.table();
+    assert_eq!((table.places(), table.bytes()), (&[0, 4, 4, 11, 15, 5][..], &b"mainsnow.clover5\" \\\n"[..]));
+    let at = |line: u64, column: u64| (line << 32) + column;
+    let errors = [
+        [1, at(12, 5), 40, 1],
+        [5, at(3, 15), 35, 3],
+        [5, at(4, 15), 33, u64::MAX],
+        [2, at(7, 3), 39, 0],
+        [11, 0, 0, 9],
+    ];
+    let lines = errors_in_words(&errors.concat(), file, &texts).expect("known errors");
+    let shown: String = lines.lines().map(|line| format!("    {line}\n")).collect();
+    assert!(page().contains(&format!("are\n\n{shown}\n")), "{shown}");
+    let kinds: Vec<u64> = Kind::ALL.iter().filter(|kind| kind.holds_text()).map(|kind| kind.number()).collect();
+    assert_eq!(kinds, [1, 11, 12, 13, 14, 15, 16, 30, 35, 40, 41]);
+    assert!(page().contains("of kinds 1, 11 to 16, 30, 35, 40 and 41 a text"));
+}

@@ -7,6 +7,7 @@ use column_files::records_to_columns;
 use constant_tables::Tabled;
 use constant_tables::records_to_table;
 use constant_tables::table_to_records;
+use error_lines::errors_in_words;
 use tree::Shape;
 use tree::check;
 use words::reply::Reply;
@@ -16,6 +17,7 @@ ghost use lib.ListN.{length};
 ghost use Rattle.tree.specs.Check.{shapeOf};
 ghost use Rattle.column_files.specs.Convert.{columnsToRecords, recordsToColumns, Converts};
 ghost use Rattle.constant_tables.specs.Convert.{tableToRecords, recordsToTable, Tables};
+ghost use Rattle.error_lines.specs.Words.{inWords};
 ghost use Rattle.clover_back_end.specs.Refusals.{refusalOf};
 ghost use Rattle.clover_back_end.specs.Versions.{thisVersion};
 
@@ -94,6 +96,20 @@ pub extern "C" fn clover_records_to_table(tree: &[u64], out: &mut [u8]) -> Table
     ensures { λ r. ⌜ Tables (recordsToTable (now (tree .entry)) (length (now (out .entry)))) (now (out .exit)) r ⌝ }
 {
     records_to_table(tree, out)
+}
+
+// The errors of area 11 in words: a line each, with the caller's file number and the texts of a lent table.
+#[no_mangle]
+pub extern "C" fn clover_errors_in_words(
+    errors: &[u64],
+    file: u64,
+    table: &[u64],
+    bytes: &[u8],
+    out: &mut [u8],
+) -> Converted
+    ensures { λ r. ⌜ Converts (inWords (now (errors .entry)) file (now (table .entry)) (now (bytes .entry)) (length (now (out .entry)))) (now (out .exit)) r ⌝ }
+{
+    errors_in_words(errors, file, table, bytes, out)
 }
 
 // The compile call.

@@ -724,13 +724,10 @@ document-text w f i l e =
     = subst (λ (k : ℕ). inRange k (positionAt w i) (valueAt w i) ≡ true) e (S .ranges i (inside w i (S .whole) l)) in
     and-right (mayBeAt false (positionAt w i)) _ r
 
-answer-known : (w lengths : List ℕ) → AnswerKnown (answer w lengths)
-unfolding answer answerFrom answerBundle
-answer-known w lengths = shape (shapeOf w) refl
+answer-known : (c : Context) (w lengths : List ℕ) → AnswerKnown (answerFrom c w lengths)
+unfolding answerFrom answerBundle
+answer-known c w lengths = shape (shapeOf w) refl
   where
-    c : Context
-    c = newContext
-
     shape : (s : Shape) → shapeOf w ≡ s → AnswerKnown (answerShape s w (limitsOf lengths) c)
     shape (Refused r p) q = nil
     shape Fine q = two (twice [] w (documentPlaces w))
@@ -827,6 +824,12 @@ answer-left lengths (Refusal n p es) k =
     area-known NoneUnknown lengths (errorTables es) errorsArea (listed-known [] nil 0 0 0)
     (λ n. listed-known es k (n - length (flat (entriesFrom errorEntry 0 es))) 0 0)
 
--- over any words and areas of any lengths: the list that the call leaves in area 11 has no error that `errors_in_words` does not know
+-- onto any standing program, over any words and areas of any lengths: the list that the call leaves in area 11 has no error that `errors_in_words`
+-- does not know
+pub standing-compiled-known : (c : Context) (w lengths : List ℕ) → firstUnknown 0 (errorsIn (getD (areasOf lengths (answerFrom c w lengths)) errorsArea [])) ≡ none
+standing-compiled-known c w lengths = answer-left lengths (answerFrom c w lengths) (answer-known c w lengths)
+
+-- and onto none
 pub compiled-known : (w lengths : List ℕ) → firstUnknown 0 (errorsIn (getD (areasOf lengths (answer w lengths)) errorsArea [])) ≡ none
-compiled-known w lengths = answer-left lengths (answer w lengths) (answer-known w lengths)
+unfolding answer
+compiled-known w lengths = standing-compiled-known newContext w lengths

@@ -9,7 +9,7 @@ use crate::sources::Sources;
 use crate::style::counted;
 use clover_back_end::nodes::documents;
 use clover_back_end::records::RECORD_WORDS;
-use clover_back_end::{Areas, Program, Refusal, Text, Texts};
+use clover_back_end::{Area, Areas, Program, Refusal, Text, Texts};
 
 /// Options of every command that compiles.
 pub const CHOICES: &[Choice] =
@@ -73,6 +73,14 @@ impl Bundle {
     /// Whether it is a program that was given by its listing.
     pub fn is_listed(&self) -> bool {
         matches!(self.held, Held::Listed(_))
+    }
+
+    /// The errors that the compile call listed, as it left them in their area.
+    pub fn errors(&self) -> &[u64] {
+        match &self.held {
+            Held::Compiled(areas) => areas.words(Area::Errors),
+            Held::Listed(_) => &[],
+        }
     }
 
     pub fn program(&self) -> Program<'_> {

@@ -5,7 +5,7 @@ use crate::input::{Content, Input};
 use crate::sources::Sources;
 use crate::style::{counted, Style};
 use clover_back_end::nodes::{documents, Node};
-use clover_back_end::{Error, ErrorKind, Kind, Position, Refusal, Text, Texts};
+use clover_back_end::{errors_in_words, Error, ErrorKind, Kind, Position, Refusal, Text, Texts};
 
 /// Of rows 1 to 4 while a file is read.
 pub fn input(refusal: &Refusal, input: &Input) -> String {
@@ -37,7 +37,7 @@ pub fn bundle(refusal: &Refusal, bundle: &Bundle) -> String {
     let more = match refusal {
         Refusal::BookFaulty { file, errors } => faults(*file, errors, bundle),
         Refusal::BookMissing { file } => includes(*file, bundle),
-        Refusal::Ring { files } => files.iter().map(|&file| waiting(file, bundle)).collect(),
+        Refusal::Ring { files } => ring(files, bundle),
         Refusal::AreaFull { .. } => "The bundle needs more memory than was lent: see --memory.\n".to_string(),
         _ => refusal.record().and_then(|record| record_line(record, bundle)).unwrap_or_default(),
     };
@@ -73,18 +73,21 @@ fn blank(letter: char) -> char {
     }
 }
 
-fn faults(file: Text, errors: &[Error], bundle: &Bundle) -> String {
-    let each = errors.iter().map(|error| fault(file, error, bundle)).collect::<String>();
-    format!("{each}\n{} in {}\n", counted(errors.len(), "error"), bundle.texts.spelt(file))
+/// The listed errors as the library's lines; `file` is the book that has them.
+fn lines(file: Text, bundle: &Bundle) -> Vec<String> {
+    let lines =
+        errors_in_words(bundle.errors(), file, &bundle.texts).expect("the compile call lists known errors alone");
+    lines.lines().map(|line| Style::of_output().title(line)).collect()
 }
 
-fn fault(file: Text, error: &Error, bundle: &Bundle) -> String {
-    let style = Style::of_output();
-    let Position { line, column } = error.position;
-    let place = style.title(format!("{}:{line}:{column}", bundle.texts.spelt(file)));
-    let (token, kind) = (error.token.spelt(&bundle.texts), error.kind);
-    let source = source_line(&bundle.sources, file, error.position).unwrap_or_default();
-    format!("\n{place}: error {}: {kind}: {token}\n{source}{}", kind.number(), advice(kind))
+/// Each error's line, with the source line under it.
+fn faults(file: Text, errors: &[Error], bundle: &Bundle) -> String {
+    let fault = |(line, error): (String, &Error)| {
+        let source = source_line(&bundle.sources, file, error.position).unwrap_or_default();
+        format!("\n{line}\n{source}{}", advice(error.kind))
+    };
+    let each: String = lines(file, bundle).into_iter().zip(errors).map(fault).collect();
+    format!("{each}\n{} in {}\n", counted(errors.len(), "error"), bundle.texts.spelt(file))
 }
 
 /// What an author may do.
@@ -117,6 +120,12 @@ fn includes(file: Text, bundle: &Bundle) -> String {
         format!("\n{}:{place} included here\n{source}", bundle.texts.spelt(book))
     });
     each.collect()
+}
+
+/// The books' lines, each with the books that it waits for under it. Each line has its own file.
+fn ring(files: &[Text], bundle: &Bundle) -> String {
+    let lines = lines(Text::from_number(0), bundle).into_iter().zip(files);
+    lines.map(|(line, &file)| format!("{line}\n{}", waiting(file, bundle))).collect()
 }
 
 /// A book of a ring with the books that it waits for.
