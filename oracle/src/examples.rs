@@ -1,12 +1,14 @@
 //! The rule books of `examples/`: sources read by the original's parser, flattened, and written as
-//! column files with their listings and the table of their texts.
+//! column files with their listings and the table of their texts. A constant table beside a source, NAME.table, stands
+//! at the head of its document.
 
 use crate::areas::{answer, UNLIMITED};
 use crate::columns::lines;
 use crate::listing::listing;
 use crate::model::compile;
 use crate::real::{run, Outcome};
-use crate::records::records;
+use crate::records::{records, RECORD_WORDS};
+use crate::tables::{table_to_records, LINE_BYTES};
 use clover::frontend::parser::parse;
 use clover_back_end::records::Records;
 use clover_back_end::{ast, Texts};
@@ -14,15 +16,19 @@ use std::collections::BTreeMap;
 use std::path::{Path, PathBuf};
 
 /// Sources of each bundle without their ending, the root first; the bundle has the root's name.
-const BUNDLES: [&[&str]; 7] = [
+const BUNDLES: [&[&str]; 8] = [
     &["snow"],
     &["drift", "snow"],
     &["combination"],
     &["utilisation", "combination"],
+    &["limit_state", "factors"],
     &["faulty"],
     &["revised/snow"],
     &["revised/combination"],
 ];
+
+/// The bundle and the book whose table is a column file of its own too, `BOOK.col`.
+const TABLE: (&str, &str) = ("limit_state", "factors");
 
 pub fn folder() -> PathBuf {
     Path::new(env!("CARGO_MANIFEST_DIR")).join("../examples")
@@ -30,15 +36,39 @@ pub fn folder() -> PathBuf {
 
 /// The bundle of sources, the root first. A book's file is its source's file name.
 fn bundle(sources: &[&Path]) -> Result<(Vec<u64>, Texts), String> {
-    let (mut texts, mut records) = (Texts::new(), Records::new());
+    let (mut texts, mut words) = (Texts::new(), Vec::new());
     for path in sources {
         let told = |what: &dyn std::fmt::Display| format!("{}: {what}", path.display());
         let source = std::fs::read_to_string(path).map_err(|error| told(&error))?;
         let file = path.file_name().and_then(|name| name.to_str()).ok_or_else(|| told(&"is no file name"))?;
         let document = parse(&source, file).map_err(|errors| told(&errors))?;
+        let mut records = Records::new();
         ast::flatten(&document, &mut texts, &mut records);
+        let mut book = records.into_words();
+        let table = path.with_extension("table");
+        if table.is_file() {
+            let definitions = table_document(&table, book[FILE])?.split_off(RECORD_WORDS);
+            book[SPAN] += (definitions.len() / RECORD_WORDS) as u64;
+            book.splice(RECORD_WORDS..RECORD_WORDS, definitions);
+        }
+        words.extend(book);
     }
-    Ok((records.into_words(), texts))
+    Ok((words, texts))
+}
+
+/// Words of a document's record.
+const SPAN: usize = 1;
+const FILE: usize = 3;
+
+/// The words of a table's document.
+fn table_document(path: &Path, file: u64) -> Result<Vec<u64>, String> {
+    let table = std::fs::read(path).map_err(|error| format!("{}: {error}", path.display()))?;
+    let (reply, mut words) = table_to_records(&table, file, RECORD_WORDS * (1 + 3 * table.len() / LINE_BYTES));
+    if reply.number != 0 {
+        return Err(format!("{}: row {}, {}", path.display(), reply.number, reply.place));
+    }
+    words.truncate(RECORD_WORDS * reply.total as usize);
+    Ok(words)
 }
 
 /// `ROOT.col` and `ROOT.texts` of sources, beside the first.
@@ -63,6 +93,11 @@ pub fn files() -> BTreeMap<String, Vec<u8>> {
         files.insert(format!("{name}.col"), lines(&words));
         files.insert(format!("{name}.listing"), listing(&made));
         files.insert(format!("{name}.texts"), texts.to_lines().into_bytes());
+        if name == TABLE.0 {
+            let file = texts.find(&format!("{}.clover", TABLE.1)).expect("a book of the bundle").number();
+            let words = table_document(&folder().join(format!("{}.table", TABLE.1)), file);
+            files.insert(format!("{}.col", TABLE.1), lines(&words.unwrap_or_else(|message| panic!("{message}"))));
+        }
     }
     files
 }

@@ -46,8 +46,8 @@ oracle bench [--runs R]
 oracle speed [--shape NAME] [--runs R] [--longest SECONDS] [--small]
     the library's compile call beside the original's compile_document and to_program, as a table;
     --small for bundles of hundreds of records
-oracle shapes
-    the names of that table's shapes
+oracle shapes [--live]
+    the names of that table's shapes; with --live, of those with 30 and 300 live names
 oracle once --shape NAME --records N [--original]
     one call of a shape, for a profile (see `counts`)
 oracle sample
@@ -60,7 +60,8 @@ oracle error-cases
 oracle examples
     writes the column files, listings and tables of texts of ../examples anew, from the sources there
 oracle flatten ROOT.clover [OTHER.clover ..]
-    writes ROOT.col and ROOT.texts beside the first source: the bundle of these books
+    writes ROOT.col and ROOT.texts beside the first source: the bundle of these books; a constant
+    table NAME.table beside NAME.clover stands at the head of that book
 ";
 
 /// Areas of the `listing` command, in entries; more than any column file on a screen needs.
@@ -262,8 +263,9 @@ fn run_speed(arguments: &Arguments) -> ExitCode {
     ExitCode::SUCCESS
 }
 
-fn run_shapes(_: &Arguments) -> ExitCode {
-    speed::SHAPES.iter().for_each(|shape| println!("{}", shape.name));
+fn run_shapes(arguments: &Arguments) -> ExitCode {
+    let shapes = if arguments.has("--live") { &speed::LIVE_SHAPES[..] } else { &speed::SHAPES };
+    shapes.iter().for_each(|shape| println!("{}", shape.name));
     ExitCode::SUCCESS
 }
 
@@ -373,7 +375,7 @@ const COMMANDS: [Command; 17] = [
     ("table-bench", &[Number("--runs")], false, run_table_bench),
     ("bench", &[Number("--runs")], false, run_bench),
     ("speed", &[Word("--shape"), Number("--runs"), Number("--longest"), Switch("--small")], false, run_speed),
-    ("shapes", &[], false, run_shapes),
+    ("shapes", &[Switch("--live")], false, run_shapes),
     ("once", &[Word("--shape"), Number("--records"), Switch("--original")], false, run_once),
     ("sample", &[], false, run_sample),
     ("errors", &[Number("--seed"), Number("--count"), Switch("--bundles")], false, run_errors),

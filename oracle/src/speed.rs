@@ -169,6 +169,16 @@ fn mixed_function(number: usize) -> Node {
     made
 }
 
+/// The first name of the functions below.
+const LIVE: u64 = 100;
+
+/// Functions of so many names that are alive, with arrays of one name.
+fn live_names(count: usize, alive: u64, name: u64) -> Vec<Node> {
+    let names: Vec<u64> = (LIVE..LIVE + alive).collect();
+    let arrays = vec![array(vec![identifier(name); 100]); 10];
+    one_book(filled(count, |number| function(FIRST + number as u64, &names, arrays.clone())))
+}
+
 fn one_book(definitions: Vec<Node>) -> Vec<Node> {
     vec![document(FILE, definitions)]
 }
@@ -213,9 +223,19 @@ pub const SHAPES: [Shape; 11] = [
     Shape { name: "one large book", make: |n| one_book(filled(n, mixed_function)), squared: Some(SEARCH_FLOATS) },
 ];
 
+/// Searches through 30 and 300 live names, which begin at the newest (2026-03); beside the table.
+pub const LIVE_SHAPES: [Shape; 6] = [
+    Shape { name: "30 live names, the newest", make: |n| live_names(n, 30, LIVE + 29), squared: None },
+    Shape { name: "30 live names, the oldest", make: |n| live_names(n, 30, LIVE), squared: None },
+    Shape { name: "30 live names, none of them", make: |n| live_names(n, 30, LIVE + 30), squared: None },
+    Shape { name: "300 live names, the newest", make: |n| live_names(n, 300, LIVE + 299), squared: None },
+    Shape { name: "300 live names, the oldest", make: |n| live_names(n, 300, LIVE), squared: None },
+    Shape { name: "300 live names, none of them", make: |n| live_names(n, 300, LIVE + 300), squared: None },
+];
+
 impl Shape {
     pub fn named(name: &str) -> Option<&'static Shape> {
-        SHAPES.iter().find(|shape| shape.name == name)
+        SHAPES.iter().chain(&LIVE_SHAPES).find(|shape| shape.name == name)
     }
 
     pub fn words(&self, count: usize) -> Vec<u64> {
@@ -294,7 +314,7 @@ pub fn run(side: &mut dyn Side, only: Option<&Shape>, runs: usize, longest: f64,
     println!("| Shape | Records | Library, ns a record | Growth | Ratio | Ratio, areas 4 times as long | Ratio, the original with its solver |");
     println!("|---|---|---|---|---|---|---|");
     let mut ratios = Vec::new();
-    for shape in SHAPES.iter().filter(|shape| only.is_none_or(|only| only.name == shape.name)) {
+    for shape in only.map_or(&SHAPES[..], std::slice::from_ref) {
         let mut before: Option<(usize, f64)> = None;
         for &count in sizes {
             if let Some((size, seconds)) = before {
@@ -377,7 +397,7 @@ mod tests {
 
     #[test]
     fn every_shape_is_delivered_by_both() {
-        for shape in &SHAPES {
+        for shape in SHAPES.iter().chain(&LIVE_SHAPES) {
             let words = shape.words(3000);
             let made = measure(&mut Model, &words, 1);
             assert!((2500..5000).contains(&made.records), "{}: {}", shape.name, made.records);

@@ -81,7 +81,7 @@ fn calls_print_what_is_stored() {
 #[test]
 fn the_examples_are_shown_and_drawn_as_stored() {
     let mut wrong = Vec::new();
-    for name in ["snow", "drift", "combination", "utilisation"] {
+    for name in ["snow", "drift", "combination", "utilisation", "limit_state"] {
         for (command, end) in [("show", "show"), ("graph", "svg")] {
             let made = run(&[command, &format!("examples/{name}.col")]);
             assert_eq!((made.status, made.errors.as_str()), (0, ""));

@@ -136,7 +136,7 @@ below-tenth : (m : ℕ) → ltZ (negsuc 922337203685477579) (neg m) ≡ false �
 below-tenth zero e = absurd (let z : _≡_ {A = ℕ} 0 1 = cc in omega arith)
 below-tenth (suc a) e = omega (arith, ltb-false a 922337203685477579 e)
 
-same-test : (a b x y : ℕ) → (a ≤ b → x ≤ y) → (b < a → y < x) → leb a b ≡ leb x y
+pub same-test : (a b x y : ℕ) → (a ≤ b → x ≤ y) → (b < a → y < x) → leb a b ≡ leb x y
 same-test a b x y up down = go (leb a b) refl
   where
     go : (t : Bool) → leb a b ≡ t → t ≡ leb x y

@@ -18,17 +18,17 @@ use Rattle.column_lines.proofs.Integers.{neg, abs-fits, Held, sizeHeld,
 use Rattle.column_lines.proofs.Reading.{digit-next, digit-over, digits-end, negative-end, grown, first-digit}
 use Rattle.column_lines.proofs.Writing.{Writing, write-start, write-turn}
 
-pub roomy : (x : ℕ) {r : Bool} → r ≡ leb x leastSize → not r ≡ false → x ≤ leastSize
-roomy x {r} e n = leb-true x leastSize (sym e ∙ not-false r n)
+pub roomy : (x y : ℕ) {r : Bool} → r ≡ leb x y → not r ≡ false → x ≤ y
+roomy x y {r} e n = leb-true x y (sym e ∙ not-false r n)
 
-pub crowded : (x : ℕ) {r : Bool} → r ≡ leb x leastSize → not r ≡ true → leastSize < x
-crowded x {r} e n = leb-false x leastSize (sym e ∙ not-true r n)
+pub crowded : (x y : ℕ) {r : Bool} → r ≡ leb x y → not r ≡ true → y < x
+crowded x y {r} e n = leb-false x y (sym e ∙ not-true r n)
 
 module _ (bytes : List ℕ) (at i n : ℕ) (h : i < length bytes) (low : 48 ≤ getD bytes i 0) (high : getD bytes i 0 ≤ 57) (H : Held n) {x : Number}
     (inv : x ≡ digitsFrom true true (sizeHeld n) (drop i bytes)) where
   pub negated-over : {r : Bool} → r ≡ leb (sizeHeld n * 10 + (getD bytes i 0 - 48)) leastSize → not r ≡ true → Off ≡ x
   negated-over e o =
-      digit-over bytes i h true true (sizeHeld n) low high (crowded (sizeHeld n * 10 + (getD bytes i 0 - 48)) e o) ∙ sym inv
+      digit-over bytes i h true true (sizeHeld n) low high (crowded (sizeHeld n * 10 + (getD bytes i 0 - 48)) leastSize e o) ∙ sym inv
 
   pub negated-next : (z : ℤ) → z ≡ neg (sizeHeld n * 10 + (getD bytes i 0 - 48)) → sizeHeld n * 10 + (getD bytes i 0 - 48) ≤ leastSize → at ≤ i
       → (at < i → 0 < sizeHeld n) → (getD bytes at 0 ≡ 48 → ⊥)

@@ -152,9 +152,9 @@ pub sign-no : (s : Bool) (bytes : List ℕ) (i : ℕ) → false ≡ signAt s (dr
 unfolding signFrom
 sign-no s bytes i e = rw (← e)
 
-pub most-large : (s : Bool) → 9 ≤ mostOf s
-most-large true = omega arith
-most-large false = omega arith
+pub most-small : (s : Bool) → mostOf s < wordEnd
+most-small true = omega arith
+most-small false = omega arith
 
 -- a negative number has a digit that is not 0
 

@@ -81,11 +81,42 @@ fn with_digit(n: i64, digit: u64) -> i64
     n * 10 - digit as i64
 }
 
-// The largest number without a sign.
-fn most_of(signed: bool) -> u64
-    ensures { λ r. ⌜ r ≡ mostOf signed ⌝ }
+// The largest number without a sign, without its last digit.
+fn most_tenth(signed: bool) -> u64
+    ensures { λ r. ⌜ r ≡ mostOf signed / 10 ⌝ }
 {
-    if signed { MOST_INTEGER } else { MOST_WORD }
+    if signed {
+        MOST_INTEGER / 10
+    } else {
+        MOST_WORD / 10
+    }
+}
+
+// That digit.
+fn most_digit(signed: bool) -> u64
+    ensures { λ r. ⌜ r ≡ mostOf signed % 10 ⌝ }
+{
+    if signed {
+        MOST_INTEGER % 10
+    } else {
+        MOST_WORD % 10
+    }
+}
+
+// A number without a sign has room for one digit more up to a limit, which is given without its last digit and by that digit. Nothing is divided, since
+// this is asked at each digit.
+fn has_room_to(m: u64, digit: u64, tenth: u64, last: u64) -> bool
+    requires { ⌜ digit ≤ 9 ⌝ }
+    requires { ⌜ last ≤ 9 ⌝ }
+    ensures { λ r. ⌜ r ≡ leb (m * 10 + digit) (tenth * 10 + last) ⌝ }
+{
+    if m < tenth {
+        return true;
+    }
+    if m == tenth {
+        return digit <= last;
+    }
+    false
 }
 
 // The digits from a place to the end, as a number without a sign.
@@ -101,7 +132,8 @@ fn read_natural(bytes: &[u8], at: usize, signed: bool) -> Number
         }
         return Number::Off;
     }
-    let most = most_of(signed);
+    let tenth = most_tenth(signed);
+    let last = most_digit(signed);
     let mut m: u64 = 0;
     let mut i = at;
     while i < bytes.len() {
@@ -113,7 +145,7 @@ fn read_natural(bytes: &[u8], at: usize, signed: bool) -> Number
             return Number::Off;
         }
         let digit = (b - ZERO) as u64;
-        if m > (most - digit) / 10 {
+        if !has_room_to(m, digit, tenth, last) {
             return Number::Off;
         }
         m = m * 10 + digit;

@@ -66,7 +66,7 @@ returns-5 c =
 with-digit-requires : tie.Need-with-digit-requires Inv-loop μ-loop
 with-digit-requires c κs =
     let c6 = c .before .before .before .before .before .before in
-    (held-is (c6 .loop .n) (c6 .loop .inv .1), (omega arith, roomy _ (c .before .has-room .ensures) (c .if5 .left)))
+    (held-is (c6 .loop .n) (c6 .loop .inv .1), (omega arith, roomy _ _ (c .before .has-room .ensures) (c .if5 .left)))
 
 loop-again : tie.Need-loop-again Inv-loop μ-loop
 loop-again c =
@@ -76,7 +76,7 @@ loop-again c =
     let c12 = c8 .before .before .before .before in
     negated-next (c12 .args .bytes .now) (c12 .args .at) (c7 .loop .i) (c7 .loop .n) (c6 .loop-test .taken) (c .before .before .before .before .if3 .left)
     (c .before .before .before .if4 .left) (c7 .loop .inv .1) (c7 .loop .inv .0)
-    (c .with-digit .result) (c .with-digit .ensures) (roomy _ (c .before .before .has-room .ensures) (c .before .if5 .left)) (c7 .loop .inv .2)
+    (c .with-digit .result) (c .with-digit .ensures) (roomy _ _ (c .before .before .has-room .ensures) (c .before .if5 .left)) (c7 .loop .inv .2)
     (c7 .loop .inv .3) (c8 .if2 .left)
 
 returns-6 : tie.Need-returns-6 Inv-loop μ-loop
