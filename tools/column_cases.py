@@ -10,31 +10,35 @@ ex=D(8,2)+line(14,7,1,10,3)+line(40,1,1,11,4)+line(25,5,0,0,0)+line(42,4,0,0,0)+
 def const(kind,v): # document, function, 25, constant
     return D(4)+line(14,3,1,1,5)+line(25,2,0,0,0)+line(kind,1,MOST,MOST,v)
 cases=[]
-def add(f,room,exp): cases.append((f,room,exp))
+def add(name,f,room,exp): cases.append((name,f,room,exp))
 ok=lambda f,last: (0,0,len(f)//LINE,last,1)
 ref=lambda n,p: (n,p,0,0,1)
-add(ex,256,ok(ex,0)); add(ex,32,ok(ex,0)); add(ex,31,ref(9,0)); add(ex,0,ref(9,0))
+add('the example, room to spare',ex,256,ok(ex,0)); add('the example, just room',ex,32,ok(ex,0))
+add('the example, a word short',ex,31,ref(9,0)); add('the example, no room',ex,0,ref(9,0))
 for k,v,w in [(33,-2**63,2**63),(33,2**63-1,2**63-1),(33,-1,2**64-1),(33,0,0),(34,0x7FF8000000000001,0x7FF8000000000001),(34,0xFFF0000000000001,0xFFF0000000000001),(34,2**64-1,2**64-1)]:
-    f=const(k,v); add(f,64,ok(f,w))
+    f=const(k,v); add(f'kind {k}, value {v}',f,64,ok(f,w))
 for k,v in [(33,-2**63-1),(33,2**63),(33,'-0'),(33,'007'),(33,'+7'),(33,'- 7'),(33,'7 '),(33,''),(33,'-'),(34,2**64),(34,-1),(34,'99999999999999999999'),(33,'1a')]:
-    f=const(k,v); add(f,64,ref(1,4))
-add(ex[:-1],256,ref(1,8)); add(ex+'x',256,ref(1,9)); add('',256,ref(3,0)); add('\n',256,ref(1,1)); add(ex[:LINE*3]+'\n'+ex[LINE*3:],256,ref(1,4))
-f=D(1,1)+'' ; add(f,256,(0,0,1,1,1))
-add(D(2),256,ref(3,0)); add(D(2),0,ref(3,0))              # span past the end, also without room
-add(D(2)+line(99,1,0,0,0),256,ref(3,1)); add(D(2)+line(99,1,0,0,0),4,ref(3,1))
+    f=const(k,v); add(f"kind {k}, value '{v}'",f,64,ref(1,4))
+add('no newline at the end',ex[:-1],256,ref(1,8)); add('a byte behind the last line',ex+'x',256,ref(1,9)); add('an empty file',"",256,ref(3,0)); add('a newline alone','\n',256,ref(1,1))
+add('an empty line',ex[:LINE*3]+'\n'+ex[LINE*3:],256,ref(1,4))
+add('a document alone',D(1,1),256,(0,0,1,1,1))
+add('a span past the end',D(2),256,ref(3,0)); add('a span past the end, no room',D(2),0,ref(3,0))
+add('kind 99',D(2)+line(99,1,0,0,0),256,ref(3,1)); add('kind 99, no room',D(2)+line(99,1,0,0,0),4,ref(3,1))
 at=lambda l,c: D(3)+line(14,2,l,c,5)+line(21,1,0,0,0)
+place=lambda l,c: f'line {l}, column {c}'
 # each half at its limit; past it row 3 at the record, with room and without; ten digits are row 1
-for l,c in [(MOST,MOST),(0,MOST),(MOST,0),(65536,65536)]: add(at(l,c),64,ok(at(l,c),0))
-for l,c in [(MOST+1,0),(0,MOST+1),(999999999,999999999),(MOST,999999999)]: add(at(l,c),64,ref(3,1)); add(at(l,c),3,ref(3,1))
-add(at(1000000000,0),64,ref(1,2)); add(at(0,1000000000),64,ref(1,2))
-f=at(MOST+1,0); add(f[:-2]+'x\n',64,ref(1,3))             # row 1 before row 3
-f=D(3)+line(14,2,1,1,0)+line(21,1,0,MOST+1,0); add(f,64,ref(3,1)) # in record order
+for l,c in [(MOST,MOST),(0,MOST),(MOST,0),(65536,65536)]: add(place(l,c),at(l,c),64,ok(at(l,c),0))
+for l,c in [(MOST+1,0),(0,MOST+1),(999999999,999999999),(MOST,999999999)]:
+    add(place(l,c),at(l,c),64,ref(3,1)); add(place(l,c)+', no room',at(l,c),3,ref(3,1))
+for l,c in [(1000000000,0),(0,1000000000)]: add(place(l,c),at(l,c),64,ref(1,2))
+f=at(MOST+1,0); add('row 1 before row 3',f[:-2]+'x\n',64,ref(1,3))
+f=D(3)+line(14,2,1,1,0)+line(21,1,0,MOST+1,0); add('two faults, in record order',f,64,ref(3,1))
 # fields of six, as they were before
 old=lambda f: ''.join(l[:12]+l[15:21]+l[24:] for l in f.splitlines(True))
-add(old(ex),256,ref(1,1)); add(old(D(1,2))*26,256,ref(1,1)) # 26 lines of 46 bytes are 23 of 52
-f=D(2)+line(14,1,0,0,1048575); add(f,64,ok(f,1048575))
-f=D(2)+line(14,1,0,0,1048576); add(f,64,ref(3,1))
-f=D(2)+'0014'+line(14,1,0,0,5)[4:]; add(f,64,ref(1,2))
+add('positions in fields of six',old(ex),256,ref(1,1)); add('26 lines of 46 bytes, 23 of 52',old(D(1,2))*26,256,ref(1,1))
+f=D(2)+line(14,1,0,0,1048575); add('text 1048575',f,64,ok(f,1048575))
+f=D(2)+line(14,1,0,0,1048576); add('text 1048576',f,64,ref(3,1))
+f=D(2)+'0014'+line(14,1,0,0,5)[4:]; add("kind '0014'",f,64,ref(1,2))
 # levels: document, function, then 38s nested under 25: level 65 at its index
 def deep(n):
     k=n-3 # prefixes and a leaf at levels 4..
@@ -42,12 +46,12 @@ def deep(n):
     for i in range(k-1): recs.append((38,k-i,0,0,0))
     recs.append((31,1,0,0,0))
     return ''.join(line(*r) for r in recs)
-add(deep(64),512,ok(deep(64),0)); add(deep(65),512,ref(4,64)); add(deep(65),8,ref(4,64)); add(deep(64),8,ref(9,0))
+add('level 64',deep(64),512,ok(deep(64),0)); add('level 65',deep(65),512,ref(4,64)); add('level 65, no room',deep(65),8,ref(4,64)); add('level 64, no room',deep(64),8,ref(9,0))
 os.makedirs('crates/column_cases',exist_ok=True)
 with open('crates/column_cases/stdin','w',newline='') as o, open('crates/column_cases/stdout','w') as s:
-    for f,room,exp in cases:
-        o.write(str(len(f)).rjust(8)+str(room).rjust(8)+'\n'+f+'\n')
-        s.write(' '.join(map(str,exp))+'\n')
+    for name,f,room,exp in cases:
+        o.write(str(len(f)).rjust(8)+str(room).rjust(8)+' '+name+'\n'+f+'\n')
+        s.write(name+': '+' '.join(map(str,exp))+'\n')
 print(len(cases),'cases')
 open('crates/records/stdin','w',newline='').write(ex)
 def words(f):

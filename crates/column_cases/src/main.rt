@@ -1,6 +1,7 @@
-// Both converters on stored cases. A case is a line, the length of its file and the words of room for its records, each right-justified in 8, then the
-// file and a newline. For each a line is written: number, place and total, the last word of the records, and 1 where all is as it must be: after a
-// refusal zeros alone; after a success the file again from the records, also where it has just room, and zeros after both.
+// Both converters on stored cases. A case is a line, the length of its file and the words of room for its records, each right-justified in 8, and its
+// name; then the file and a newline. For each a line is written: its name, number, place and total, the last word of the records, and 1 where all is as
+// it must be: after a refusal zeros alone; after a success the file again from the records, also where it has just room, and zeros after both.
+use case_numbers::find;
 use column_files::columns_to_records;
 use column_files::records_to_columns;
 use column_lines::number::Number;
@@ -100,7 +101,7 @@ fn field(n: u64) {
 // A case, with as many words as there is room for.
 fn judge(file: &[u8], words: &mut [u64]) {
     let answer = columns_to_records(file, words);
-    io::print_decimal(STDOUT_FILENO, answer.number);
+    field(answer.number);
     field(answer.place as u64);
     field(answer.total as u64);
     let total = answer.total;
@@ -131,13 +132,19 @@ fn cases(text: &[u8]) {
     let mut at: usize = 0;
     while at + HEADER <= text.len() {
         let middle = at + 8;
-        let body = at + HEADER;
+        let name = at + HEADER;
         let size = number(&text[at..middle]);
         let room = number(&text[middle..middle + 8]);
+        let body = find(text, name, b'\n') + 1;
+        if body > text.len() {
+            return;
+        }
         if text.len() - body < size {
             return;
         }
         let end = body + size;
+        io::write_all(STDOUT_FILENO, &text[name..body - 1]);
+        io::write_all(STDOUT_FILENO, b":");
         case(&text[body..end], room);
         at = end + 1;
     }

@@ -1,5 +1,5 @@
-// Runs `emit`, `emit_return` and `define_local` with the state lent, and by value, on the same stored cases. Each case writes two lines, which must be the
-// same: the state's fields, then area 1, then area 9. Three functions follow each other in one state; the second has the first's parameter.
+// Runs `emit`, `emit_return` and `define_local` with the state lent, and by value, on the same stored cases. Each case writes its label and two lines, which must
+// be the same: the state's fields, then area 1, then area 9. Three functions follow each other in one state; the second has the first's parameter.
 ghost use mathlib.Core.Path.{_≡_};
 ghost use Rattle.words.specs.Codes.{codeWord};
 ghost use Rattle.emitters.specs.Function.{function, functionC};
@@ -10,6 +10,10 @@ use words::opcode::Instruction;
 use words::opcode::OpCode;
 
 const OUTPUT: i32 = 1;
+
+const MOST_CODE: usize = 20;
+
+const MOST_NAMES: usize = 5;
 
 // `emitters::one_instruction` over the by-value forms: the same promise.
 fn one_instruction(
@@ -30,19 +34,26 @@ fn one_instruction(
 }
 
 fn show(n: u64) {
-    io::print_decimal(OUTPUT, n);
     io::write_all(OUTPUT, b" ");
+    io::print_decimal(OUTPUT, n);
 }
 
-fn show_truth(b: bool) {
+fn show_field(name: &[u8], n: u64) {
+    io::write_all(OUTPUT, b" ");
+    io::write_all(OUTPUT, name);
+    show(n);
+}
+
+fn show_truth(name: &[u8], b: bool) {
     if b {
-        show(1);
+        show_field(name, 1);
     } else {
-        show(0);
+        show_field(name, 0);
     }
 }
 
-fn show_words(words: &[u64]) {
+fn show_words(name: &[u8], words: &[u64]) {
+    io::write_all(OUTPUT, name);
     let mut i: usize = 0;
     while i < words.len() {
         show(words[i]);
@@ -50,28 +61,33 @@ fn show_words(words: &[u64]) {
     }
 }
 
-fn show_state(state: FunctionState) {
-    show(state.full);
-    show(state.code as u64);
-    show(state.constants as u64);
-    show(state.names as u64);
-    show(state.breaks as u64);
-    show(state.errors as u64);
-    show(state.base as u64);
-    show(state.scope_base as u64);
-    show(state.break_base as u64);
-    show_truth(state.in_loop);
-    show(state.depth as u64);
-    show(state.rescue_position as u64);
-    show_truth(state.is_instance);
-    show(state.parameter_count as u64);
-    show(state.local_count);
+fn show_counts(state: FunctionState) {
+    show_field(b"full", state.full);
+    show_field(b"code", state.code as u64);
+    show_field(b"constants", state.constants as u64);
+    show_field(b"names", state.names as u64);
+    show_field(b"breaks", state.breaks as u64);
+    show_field(b"errors", state.errors as u64);
 }
 
-fn show_line(state: FunctionState, code: &[u64], names: &[u64]) {
+fn show_state(state: FunctionState) {
+    show_counts(state);
+    show_field(b"base", state.base as u64);
+    show_field(b"scope base", state.scope_base as u64);
+    show_field(b"break base", state.break_base as u64);
+    show_truth(b"in a loop", state.in_loop);
+    show_field(b"depth", state.depth as u64);
+    show_field(b"rescue", state.rescue_position as u64);
+    show_truth(b"instance", state.is_instance);
+    show_field(b"parameters", state.parameter_count as u64);
+    show_field(b"locals", state.local_count);
+}
+
+fn show_line(form: &[u8], state: FunctionState, code: &[u64], names: &[u64]) {
+    io::write_all(OUTPUT, form);
     show_state(state);
-    show_words(code);
-    show_words(names);
+    show_words(b", area 1", code);
+    show_words(b", area 9", names);
     io::write_all(OUTPUT, b"\n");
 }
 
@@ -81,7 +97,7 @@ fn lent(code: &mut [u64], names: &mut [u64], full: u64, base: usize, opcode: OpC
     let first = emitters::one_instruction(code, names, begun, 7, instruction, 10);
     let second = emitters::one_instruction(code, names, first, 7, instruction, 11);
     let third = emitters::one_instruction(code, names, second, 8, instruction, 12);
-    show_line(third, code, names);
+    show_line(b"lent    ", third, code, names);
 }
 
 fn by_value(code: &mut [u64], names: &mut [u64], full: u64, base: usize, opcode: OpCode) {
@@ -90,139 +106,84 @@ fn by_value(code: &mut [u64], names: &mut [u64], full: u64, base: usize, opcode:
     let first = one_instruction(code, names, begun, 7, instruction, 10);
     let second = one_instruction(code, names, first, 7, instruction, 11);
     let third = one_instruction(code, names, second, 8, instruction, 12);
-    show_line(third, code, names);
+    show_line(b"by value", third, code, names);
 }
 
 // Both forms, over areas of the same lengths.
-fn both(
-    code: &mut [u64],
-    names: &mut [u64],
-    code_too: &mut [u64],
-    names_too: &mut [u64],
+fn case(
+    label: &[u8],
+    code_words: usize,
+    name_words: usize,
     full: u64,
     base: usize,
     opcode: OpCode,
 ) {
-    lent(code, names, full, base, opcode);
-    by_value(code_too, names_too, full, base, opcode);
-}
-
-// Areas of less than an entry.
-fn no_entry(opcode: OpCode) {
-    let mut code = [0u64; 1];
-    let mut names = [0u64; 1];
-    let mut code_too = [0u64; 1];
-    let mut names_too = [0u64; 1];
-    both(
-        &mut code,
-        &mut names,
-        &mut code_too,
-        &mut names_too,
-        0,
-        0,
+    let mut code = [0u64; MOST_CODE];
+    let mut names = [0u64; MOST_NAMES];
+    let mut code_too = [0u64; MOST_CODE];
+    let mut names_too = [0u64; MOST_NAMES];
+    if code_words > MOST_CODE {
+        return;
+    }
+    if name_words > MOST_NAMES {
+        return;
+    }
+    io::write_all(OUTPUT, label);
+    io::write_all(OUTPUT, b":\n");
+    lent(
+        &mut code[0..code_words],
+        &mut names[0..name_words],
+        full,
+        base,
         opcode,
     );
-}
-
-// A name, and no code.
-fn one_name(opcode: OpCode) {
-    let mut code = [0u64; 1];
-    let mut names = [0u64; 2];
-    let mut code_too = [0u64; 1];
-    let mut names_too = [0u64; 2];
-    both(
-        &mut code,
-        &mut names,
-        &mut code_too,
-        &mut names_too,
-        0,
-        0,
-        opcode,
-    );
-}
-
-// The return is one entry too many.
-fn no_return(opcode: OpCode) {
-    let mut code = [0u64; 4];
-    let mut names = [0u64; 2];
-    let mut code_too = [0u64; 4];
-    let mut names_too = [0u64; 2];
-    both(
-        &mut code,
-        &mut names,
-        &mut code_too,
-        &mut names_too,
-        0,
-        0,
-        opcode,
-    );
-}
-
-// The third function's name is one entry too many.
-fn two_functions(opcode: OpCode) {
-    let mut code = [0u64; 18];
-    let mut names = [0u64; 3];
-    let mut code_too = [0u64; 18];
-    let mut names_too = [0u64; 3];
-    both(
-        &mut code,
-        &mut names,
-        &mut code_too,
-        &mut names_too,
-        0,
-        0,
-        opcode,
-    );
-}
-
-// The third function's return is a word too long.
-fn a_word_short(opcode: OpCode) {
-    let mut code = [0u64; 17];
-    let mut names = [0u64; 4];
-    let mut code_too = [0u64; 17];
-    let mut names_too = [0u64; 4];
-    both(
-        &mut code,
-        &mut names,
-        &mut code_too,
-        &mut names_too,
-        0,
-        0,
-        opcode,
-    );
-}
-
-// Room for all: from the start, behind another function's code, and with the mark set.
-fn room(full: u64, base: usize, opcode: OpCode) {
-    let mut code = [0u64; 20];
-    let mut names = [0u64; 5];
-    let mut code_too = [0u64; 20];
-    let mut names_too = [0u64; 5];
-    both(
-        &mut code,
-        &mut names,
-        &mut code_too,
-        &mut names_too,
+    by_value(
+        &mut code_too[0..code_words],
+        &mut names_too[0..name_words],
         full,
         base,
         opcode,
     );
 }
 
-fn cases_of(opcode: OpCode) {
-    no_entry(opcode);
-    one_name(opcode);
-    no_return(opcode);
-    two_functions(opcode);
-    a_word_short(opcode);
-    room(0, 0, opcode);
-    room(0, 1, opcode);
-    room(3, 0, opcode);
+fn cases_of(name: &[u8], opcode: OpCode) {
+    io::write_all(OUTPUT, b"With ");
+    io::write_all(OUTPUT, name);
+    io::write_all(OUTPUT, b"\n");
+    case(b"areas of less than an entry", 1, 1, 0, 0, opcode);
+    case(b"a name, and no code", 1, 2, 0, 0, opcode);
+    case(b"the return is one entry too many", 4, 2, 0, 0, opcode);
+    case(
+        b"the third function's name is one entry too many",
+        18,
+        3,
+        0,
+        0,
+        opcode,
+    );
+    case(
+        b"the third function's return is a word too long",
+        17,
+        4,
+        0,
+        0,
+        opcode,
+    );
+    case(b"room for all", 20, 5, 0, 0, opcode);
+    case(
+        b"room for all, behind another function's code",
+        20,
+        5,
+        0,
+        1,
+        opcode,
+    );
+    case(b"marked as full", 20, 5, 3, 0, opcode);
 }
 
 // Emission's three ways to end a function: null is pushed, a Pop is taken back, a Return stays.
 fn main() {
-    cases_of(OpCode::LocalGet);
-    cases_of(OpCode::Pop);
-    cases_of(OpCode::Return);
+    cases_of(b"LocalGet", OpCode::LocalGet);
+    cases_of(b"Pop", OpCode::Pop);
+    cases_of(b"Return", OpCode::Return);
 }

@@ -2,8 +2,8 @@
 // number, the length of the line buffer; then the errors, the table and the bytes. The buffer is filled with stale bytes before, and has stale bytes beside it.
 // For each case is written: number, place and total; the bytes that were delivered; and whether the rest of the buffer is zero and the bytes beside it are
 // kept.
-ghost use Prim.Native.Nat.{_≤_, _-_};
-ghost use lib.ListN.{length};
+use case_numbers::find;
+use case_numbers::parse;
 use column_files::Converted;
 use error_lines::errors_in_words;
 use libc::STDIN_FILENO;
@@ -21,21 +21,6 @@ const MOST_WORDS: usize = 1024;
 const MOST_PART: u64 = 300;
 
 const MOST_ROOM: u64 = 2000;
-
-// The first place of a newline, from a place on; the end where there is none.
-fn find_newline(text: &[u8], from: usize) -> usize
-    requires { ⌜ from ≤ length (now text) ⌝ }
-    ensures { λ r. ⌜ (from ≤ r) × (r ≤ length (now (text .entry))) ⌝ }
-{
-    let mut i = from;
-    while i < text.len() {
-        if text[i] == b'\n' {
-            return i;
-        }
-        i += 1;
-    }
-    i
-}
 
 fn all_are(bytes: &[u8], byte: u8) -> bool {
     let mut i: usize = 0;
@@ -147,14 +132,14 @@ fn run(words: &[u64]) {
 
 fn case(line: &[u8]) {
     let mut words = [0; 1024];
-    case_numbers::parse(line, &mut words);
+    parse(line, &mut words);
     run(&words);
 }
 
 fn cases(text: &[u8]) {
     let mut at = 0;
     while at < text.len() {
-        let end = find_newline(text, at);
+        let end = find(text, at, b'\n');
         case(&text[at..end]);
         at = end + 1;
     }

@@ -1,25 +1,10 @@
 // The shape check of `tree` on stored cases. A line of standard input is a case, its name and its words, `name: word word ..`; for each a line is
 // written with the name, the row that refuses it (0: none) and the place.
-ghost use Prim.Native.Nat.{_≤_};
-ghost use lib.ListN.{length};
+use case_numbers::find;
+use case_numbers::parse;
 use libc::STDIN_FILENO;
 use libc::STDOUT_FILENO;
 use tree::Shape;
-
-// The first place of a byte, from a place on; the end where there is none.
-fn find(text: &[u8], from: usize, byte: u8) -> usize
-    requires { ⌜ from ≤ length (now text) ⌝ }
-    ensures { λ r. ⌜ (from ≤ r) × (r ≤ length (now (text .entry))) ⌝ }
-{
-    let mut i = from;
-    while i < text.len() {
-        if text[i] == byte {
-            return i;
-        }
-        i += 1;
-    }
-    i
-}
 
 fn answer(row: u64, place: u64) {
     io::write_all(STDOUT_FILENO, b": ");
@@ -33,7 +18,7 @@ fn case(line: &[u8]) {
     let colon = find(line, 0, b':');
     io::write_all(STDOUT_FILENO, &line[0..colon]);
     let mut words = [0; 512];
-    let count = case_numbers::parse(&line[colon..], &mut words);
+    let count = parse(&line[colon..], &mut words);
     let shape = tree::check(&words[0..count]);
     match shape {
         Shape::Fine => {

@@ -1,8 +1,8 @@
 // Both ways of `constant_tables` on stored cases. A line of standard input is a case: its name, the way (1 to records, 2 back), the file number, how many
 // elements the output has, then the table's bytes or the document's words, `name: way file room element element ..`. For each a line is written: the
 // name, the reply, and every element of the output, with those beside it.
-ghost use Prim.Native.Nat.{_≤_};
-ghost use lib.ListN.{length};
+use case_numbers::find;
+use case_numbers::parse;
 use constant_tables::records_to_table;
 use constant_tables::table_to_records;
 use libc::STDIN_FILENO;
@@ -14,21 +14,6 @@ const HEADER: usize = 3;
 const BESIDE: usize = 2;
 
 const MOST_ROOM: usize = 500;
-
-// The first place of a byte, from a place on; the end where there is none.
-fn find(text: &[u8], from: usize, byte: u8) -> usize
-    requires { ⌜ from ≤ length (now text) ⌝ }
-    ensures { λ r. ⌜ (from ≤ r) × (r ≤ length (now (text .entry))) ⌝ }
-{
-    let mut i = from;
-    while i < text.len() {
-        if text[i] == byte {
-            return i;
-        }
-        i += 1;
-    }
-    i
-}
 
 fn number(n: u64) {
     io::write_all(STDOUT_FILENO, b" ");
@@ -117,7 +102,7 @@ fn case(line: &[u8]) {
     io::write_all(STDOUT_FILENO, &line[0..colon]);
     io::write_all(STDOUT_FILENO, b":");
     let mut words = [0; 512];
-    let count = case_numbers::parse(&line[colon..], &mut words);
+    let count = parse(&line[colon..], &mut words);
     if count < HEADER {
         return;
     }

@@ -1,0 +1,3 @@
+mod NumbersBench
+pub mod Places
+pub mod Progress

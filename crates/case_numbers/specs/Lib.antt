@@ -1,0 +1,3 @@
+-- What `find` and `parse` answer
+pub mod Places
+pub mod Numbers
