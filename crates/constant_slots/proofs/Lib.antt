@@ -1,0 +1,6 @@
+pub mod Agree
+pub mod Filling
+pub mod Homes
+pub mod PlainWays
+pub mod Rounds
+pub mod SlotWays

@@ -1,0 +1,126 @@
+-- The ways through the routines of `slots.rt`: what a turn makes of `look` and of `firstEmpty`, and the arithmetic of a home. Assumes nothing.
+use Prim.Native.Nat.{ℕ, zero, suc, _+_, _-_, _*_, _/_, _%_, _^_, _≤_, _<_}
+use native.Mathlib.Nat.{mod-lt, mul-le-mul, mul-le-mul-left, mul-le-mul-right}
+use native.Mathlib.Omega.{arith}
+use mathlib.Core.Path.{_≡_, refl, sym, ap, subst, _∙_}
+use mathlib.Core.Logic.{_≢_}
+use mathlib.Core.Bool.{Bool, true, false, cond}
+use mathlib.Core.Option.{none, some}
+use mathlib.Core.List.{List}
+use lib.ListN.{length, getD, set}
+use lib.Dec.{eqb, ltb}
+use borrow.Author.Tests.{eq-eqb, ne-eqb, lt-ltb, le-ltb}
+use Rattle.words.specs.Object.{Constant, constantOf}
+use Rattle.constant_slots.specs.declared.plain.Found.the-variants.{At, Nothing}
+use Rattle.constant_slots.specs.declared.slots.Looked.{Looked}
+use Rattle.constant_slots.specs.Home.{home, stride}
+use Rattle.constant_slots.proofs.Filling.{set-past}
+use Rattle.constant_slots.specs.Slots.{after, firstEmpty, putSlot, putNumber, Search, searched, look, lookedOf}
+
+-- the arithmetic of a home
+pub product-fits : (v : ℕ) → v % 3141592661 * (v % 2718281831) < 2 ^ 64
+product-fits v =
+    let a : v % 3141592661 ≤ 3141592660 = omega arith in
+    let b : v % 2718281831 ≤ 2718281830 = omega arith in
+    omega (arith, mul-le-mul a b)
+
+pub stride-small : (n : ℕ) → stride n ≤ 13
+stride-small n = go (eqb (n % 13) 0) (eqb (n % 11) 0) (eqb (n % 7) 0)
+  where
+    go : (a b c : Bool) → cond a (cond b (cond c 1 7) 11) 13 ≤ 13
+    go true true true = omega arith
+    go true true false = omega arith
+    go true false c = omega arith
+    go false b c = omega arith
+
+pub spread-fits : (x s : ℕ) {n : ℕ} → x < n → n ≤ 1152921504606846976 → s ≤ 13 → x * s ≤ 14987979559889010688
+spread-fits x s h l k = omega (arith, mul-le-mul (let z : x ≤ 1152921504606846976 = omega arith in z) k)
+
+pub kind-fits : (k n : ℕ) → n ≤ 1152921504606846976 → k % 8 * (n / 8) ≤ 1008806316530991104
+kind-fits k n l =
+    let a : k % 8 ≤ 7 = omega arith in
+    let b : n / 8 ≤ 144115188075855872 = omega arith in
+    omega (arith, mul-le-mul a b)
+
+-- `look`, k slots from slot p on, m looked at before; the whole began with n slots from slot h on
+module _ (is : ℕ → Bool) (n : ℕ) (slots : List ℕ) (p m : ℕ) {start : Search} (e : look is (n - m) n slots p m ≡ start) where
+  look-more : m < n → n - m ≡ suc (n - (m + 1))
+  look-more h = omega arith
+
+  pub look-empty : m < n → getD slots p 0 ≡ 0 → record { found = Nothing; looked = m + 1 } ≡ lookedOf start
+  unfolding look
+  look-empty h z =
+      let here : look is (n - m) n slots p m ≡ searched none (m + 1) = rw (look-more h, z) in
+      ap lookedOf (sym here ∙ e)
+
+  pub look-here : m < n → getD slots p 0 ≢ 0 → is (getD slots p 0 - 1) ≡ true
+      → record { found = At (getD slots p 0 - 1); looked = m + 1 } ≡ lookedOf start
+  unfolding look
+  look-here h z t =
+      let here : look is (n - m) n slots p m ≡ searched (some (getD slots p 0 - 1)) (m + 1) = rw (look-more h, ne-eqb (getD slots p 0) 0 z, t) in
+      ap lookedOf (sym here ∙ e)
+
+  pub look-next : m < n → getD slots p 0 ≢ 0 → is (getD slots p 0 - 1) ≡ false → look is (n - (m + 1)) n slots (after n p) (m + 1) ≡ start
+  unfolding look
+  look-next h z t =
+      let past : look is (n - m) n slots p m ≡ look is (n - (m + 1)) n slots (after n p) (m + 1) = rw (look-more h, ne-eqb (getD slots p 0) 0 z, t) in
+      sym past ∙ e
+
+  pub look-end : n ≤ m → record { found = Nothing; looked = m } ≡ lookedOf start
+  unfolding look
+  look-end h =
+      let done : n - m ≡ 0 = omega arith in
+      let end : look is (n - m) n slots p m ≡ searched none m = rw done in
+      ap lookedOf (sym end ∙ e)
+
+pub look-start : (is : ℕ → Bool) (n : ℕ) (slots : List ℕ) (p : ℕ) → look is (n - 0) n slots p 0 ≡ look is n n slots p 0
+look-start is n slots p = let all : n - 0 ≡ n = omega arith in rw all
+
+-- `first_empty`, in the same way
+module _ (n : ℕ) (slots : List ℕ) (p m : ℕ) {start : ℕ} (e : firstEmpty (n - m) n slots p ≡ start) where
+  empty-more : m < n → n - m ≡ suc (n - (m + 1))
+  empty-more h = omega arith
+
+  pub empty-here : m < n → getD slots p 0 ≡ 0 → p ≡ start
+  unfolding firstEmpty
+  empty-here h z =
+      let here : firstEmpty (n - m) n slots p ≡ p = rw (empty-more h, z) in
+      sym here ∙ e
+
+  pub empty-next : m < n → getD slots p 0 ≢ 0 → firstEmpty (n - (m + 1)) n slots (after n p) ≡ start
+  unfolding firstEmpty
+  empty-next h z =
+      let past : firstEmpty (n - m) n slots p ≡ firstEmpty (n - (m + 1)) n slots (after n p) = rw (empty-more h, ne-eqb (getD slots p 0) 0 z) in
+      sym past ∙ e
+
+  pub empty-end : n ≤ m → n ≡ start
+  unfolding firstEmpty
+  empty-end h =
+      let done : n - m ≡ 0 = omega arith in
+      let end : firstEmpty (n - m) n slots p ≡ n = rw done in
+      sym end ∙ e
+
+pub empty-start : (n : ℕ) (slots : List ℕ) (p : ℕ) → firstEmpty (n - 0) n slots p ≡ firstEmpty n n slots p
+empty-start n slots p = let all : n - 0 ≡ n = omega arith in rw all
+
+-- `put`
+module _ (slots : List ℕ) (number kind value : ℕ) where
+  pub put-most : number ≡ 18446744073709551615 → slots ≡ putNumber slots number (constantOf kind value)
+  put-most e = rw (le-ltb number 18446744073709551615 (omega arith)) refl
+
+  pub put-nowhere : length slots ≡ 0 → slots ≡ putNumber slots number (constantOf kind value)
+  unfolding putSlot
+  put-nowhere e = go (ltb number 18446744073709551615)
+    where
+      go : (b : Bool) → slots ≡ cond b (putSlot slots number (constantOf kind value)) slots
+      go true = sym (set-past slots _ (number + 1) (omega arith))
+      go false = refl
+
+  module _ (p : ℕ) (below : number < 18446744073709551615)
+      (first : p ≡ firstEmpty (length slots) (length slots) slots (home (length slots) (constantOf kind value))) where
+    pub put-in : set slots p (number + 1) ≡ putNumber slots number (constantOf kind value)
+    unfolding putSlot
+    put-in = rw (lt-ltb number 18446744073709551615 below, first) refl
+
+    pub put-past : length slots ≤ p → slots ≡ putNumber slots number (constantOf kind value)
+    put-past h = sym (set-past slots p (number + 1) h) ∙ put-in

@@ -1,0 +1,3 @@
+pub mod Home
+pub mod Plain
+pub mod Slots
