@@ -7,8 +7,8 @@ use mathlib.Core.Bool.{Bool, true, false, cond}
 use mathlib.Core.List.{List}
 use lib.Dec.{eqb, ltb}
 use borrow.Author.Tests.{eq-eqb, ne-eqb, lt-ltb, le-ltb}
-use Rattle.listings.specs.Sections.{propertyModel, propertyIndex, methodModel, methodName, isBelow, isAbove, isLess, lesser, leastFrom}
-use Rattle.listings.specs.Sections.{methodAfter, methodAt, errorNumber, errorsFrom}
+use Rattle.listings.specs.Sections.{propertyModel, propertyIndex, methodModel, methodName, isBelow, errorNumber, errorsFrom}
+use Rattle.listings.specs.Selecting.{isAbove, isLess, lesser, leastFrom, methodAfter, methodAt}
 use Rattle.listings.specs.declared.methods.Method.{Method}
 use Rattle.listings.specs.declared.methods.Method.the-variants.{Entry, Over}
 

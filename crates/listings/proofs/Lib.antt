@@ -2,6 +2,7 @@
 pub mod BenchTable
 pub mod Walking
 pub mod Keys
+pub mod Sorting
 pub mod Places
 pub mod Text
 pub mod Whole

@@ -13,7 +13,8 @@ use Rattle.line_writer.specs.Written.{startAt, lineAt}
 use Rattle.line_writer.specs.declared.place.Place.{Place}
 use Rattle.line_writer.specs.declared.writer.Fields.{Fields}
 use Rattle.listings.specs.Lines.{linesAt}
-use Rattle.listings.specs.Sections.{entryLine, isListed, entryLines, eachFrom, each, section, functionCode, methodLines}
+use Rattle.listings.specs.Sections.{entryLine, isListed, entryLines, eachFrom, each, section, functionCode}
+use Rattle.listings.specs.Selecting.{methodLines}
 use Rattle.listings.specs.declared.lines.Section.{Section}
 use Rattle.listings.specs.declared.lines.Section.the-variants.{Instructions}
 use Rattle.listings.specs.declared.methods.Method.{Method}

@@ -16,6 +16,8 @@ use Rattle.line_writer.specs.declared.place.Place.{Place}
 use Rattle.line_writer.specs.declared.writer.Fields.{Fields}
 use Rattle.listings.specs.Lines.{linesAt}
 use Rattle.listings.specs.Sections.{totalsLine, refusalLine, section, each, functionCode, methods, errorsIn}
+use Rattle.listings.specs.Selecting.{selected}
+use Rattle.listings.proofs.Sorting.{selected-sorted}
 use Rattle.listings.specs.Listing.{Areas, deliveryLines, refusalLines, listing, Finishes}
 use Rattle.listings.specs.declared.lines.Section.the-variants.{Functions, Constants, Models, Properties, ContextValues, Globals, Files, Errors}
 use Rattle.listings.proofs.Walking.{lines-append}
@@ -49,7 +51,7 @@ pub delivery-written : (t : Totals) (w : Areas) (bs : List ℕ) (x : Fields) (a 
     → d ≡ linesAt (section Constants (w .constants) (t .constants)) c
     → e ≡ linesAt (section Models (w .models) (t .models)) d
     → f ≡ linesAt (section Properties (w .properties) (t .properties)) e
-    → g ≡ linesAt (methods (w .methods) (t .methods)) f
+    → g ≡ linesAt (selected (w .methods) (t .methods)) f
     → h ≡ linesAt (section ContextValues (w .locals) (t .«context_locals»)) g
     → i ≡ linesAt (section Globals (w .constants) (t .constants)) h
     → r ≡ linesAt (section Files (w .books) (t .books)) i
@@ -59,7 +61,8 @@ delivery-written t w bs x a b c d e f g h i r X A B C D E F G H I R =
     heads (startAt 0 bs) (totalsLine t) _ X A (follows a (section Functions (w .functions) (t .functions)) _ B
     (follows b (each (λ j. functionCode (w .functions) (w .code) j) (t .functions)) _ C (follows c (section Constants (w .constants) (t .constants)) _ D
     (follows d (section Models (w .models) (t .models)) _ E (follows e (section Properties (w .properties) (t .properties)) _ F
-    (follows f (methods (w .methods) (t .methods)) _ G (follows g (section ContextValues (w .locals) (t .«context_locals»)) _ H
+    (follows f (methods (w .methods) (t .methods)) _ (G ∙ ap (λ (ls : List Fields). linesAt ls f) (selected-sorted (w .methods) (t .methods)))
+    (follows g (section ContextValues (w .locals) (t .«context_locals»)) _ H
     (follows h (section Globals (w .constants) (t .constants)) (section Files (w .books) (t .books)) I R))))))))
 
 pub refusal-written : (reply : Reply) (errors bs : List ℕ) (x : Fields) (a r : Placed) {n : ℕ} → x ≡ refusalLine reply → a ≡ lineAt x (startAt 0 bs)

@@ -17,7 +17,7 @@ use Rattle.column_files.specs.Convert.{Conversion, success, refusal, answerBy}
 use Rattle.column_lines.specs.Numeral.{leadOf, restOf, spelled, leadFits, restFits, spellFits}
 use Rattle.line_writer.specs.declared.writer.Fields.{Fields}
 use Rattle.listings.specs.Lines.{lineBytes, lineFits, textOf, allFit}
-use Rattle.listings.specs.Sections.{line, propertyIndex, entryLine, isListed, eachFrom, leastFrom, methodAfter, methodAt, errorsFrom}
+use Rattle.listings.specs.Sections.{line, propertyIndex, entryLine, isListed, eachFrom, insertMethod, methodOrder, errorsFrom}
 use Rattle.listings.specs.Listing.{Areas, deliveryLines, refusalLines, listingLines, printed}
 
 -- the reply and the areas that the definition answers, as the listing takes them
@@ -56,7 +56,7 @@ areasBy m = record {
 
 -- the lines for the words of a tree, with areas of some lengths
 listed : List ℕ → List ℕ → List Fields
-unfolding run tablesOf errorTables replyOf areasOf word unword codeOf propertyIndex entryLine isListed eachFrom leastFrom methodAfter methodAt errorsFrom
+unfolding run tablesOf errorTables replyOf areasOf word unword codeOf propertyIndex entryLine isListed eachFrom insertMethod methodOrder errorsFrom
     deliveryLines refusalLines
 listed w lengths =
     listingLines (replyBy (replyOf (answer w lengths))) (areasBy (areasOf lengths (answer w lengths))) (getD (areasOf lengths (answer w lengths)) 11 [])

@@ -1,4 +1,5 @@
 pub mod Lines
 pub mod Sections
+pub mod Selecting
 pub mod Listing
 pub mod Bench

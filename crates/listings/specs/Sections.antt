@@ -2,7 +2,7 @@
 -- docs/FORMAT.md has the words of an entry
 use Prim.Native.Nat.{ℕ, zero, suc, _/_}
 use mathlib.Core.Bool.{Bool, true, false, cond}
-use mathlib.Core.List.{List, [], _∷_, _++_}
+use mathlib.Core.List.{List, [], _∷_, _++_, map}
 use lib.ListN.{length}
 use lib.Dec.{eqb, ltb}
 use Rattle.words.specs.Areas.{widthOf, entryWord, codeArea, constantsArea, modelsArea, propertiesArea, methodsArea, contextLocalsArea, errorsArea, booksArea}
@@ -14,8 +14,6 @@ use Rattle.words.specs.declared.reply.Reply.{Reply}
 use Rattle.words.specs.declared.reply.Totals.{Totals}
 use Rattle.column_lines.specs.Form.{signedKind}
 use Rattle.line_writer.specs.declared.writer.Fields.{Fields}
-use Rattle.listings.specs.declared.methods.Method.{Method}
-use Rattle.listings.specs.declared.methods.Method.the-variants.{Entry, Over}
 use Rattle.listings.specs.declared.lines.Section.{Section}
 use Rattle.listings.specs.declared.lines.Section.the-variants.{
   Functions,
@@ -181,40 +179,18 @@ isBelow w i j =
     cond (ltb (methodModel w i) (methodModel w j)) true
     (cond (eqb (methodModel w i) (methodModel w j)) (ltb (methodName w i) (methodName w j)) false)
 
--- after the one that was listed last, if one was
-abbrev pub isAbove : List ℕ → Method → ℕ → Bool
-isAbove w Over i = true
-isAbove w (Entry j) i = isBelow w j i
+-- entry i among entries in order, of those with the same key the first alone
+unfoldable pub insertMethod : List ℕ → ℕ → List ℕ → List ℕ
+insertMethod w i [] = i ∷ []
+insertMethod w i (j ∷ js) = cond (isBelow w i j) (i ∷ j ∷ js) (cond (isBelow w j i) (j ∷ insertMethod w i js) (j ∷ js))
 
--- and below the least so far, if there is one
-abbrev pub isLess : List ℕ → Method → ℕ → Bool
-isLess w Over i = true
-isLess w (Entry j) i = isBelow w i j
-
-abbrev pub lesser : List ℕ → (last least : Method) → ℕ → Method
-lesser w last least i = cond (isAbove w last i) (cond (isLess w least i) (Entry i) least) least
-
--- the least of n entries from i on above the last, or an earlier one that is less
-unfoldable pub leastFrom : List ℕ → (last least : Method) → ℕ → ℕ → Method
-leastFrom w last least i zero = least
-leastFrom w last least i (suc n) = leastFrom w last (lesser w last least i) (suc i) n
-
--- the method to list after one; after the last there is none
-unfoldable pub methodAfter : List ℕ → ℕ → Method → Method
-methodAfter w n Over = Over
-methodAfter w n (Entry j) = leastFrom w (Entry j) Over 0 n
-
--- the method that stands at a place of the section
-unfoldable pub methodAt : List ℕ → ℕ → ℕ → Method
-methodAt w n zero = leastFrom w Over Over 0 n
-methodAt w n (suc k) = methodAfter w n (methodAt w n k)
-
-abbrev pub methodLines : List ℕ → Method → List Fields
-methodLines w Over = []
-methodLines w (Entry i) = methodLine w i ∷ []
+-- the first n entries in order
+unfoldable pub methodOrder : List ℕ → ℕ → List ℕ
+methodOrder w zero = []
+methodOrder w (suc n) = insertMethod w n (methodOrder w n)
 
 abbrev pub methods : List ℕ → ℕ → List Fields
-methods w n = each (λ k. methodLines w (methodAt w n k)) n
+methods w n = map (λ (i : ℕ). methodLine w i) (methodOrder w n)
 
 -- how many errors a refusal has: the entries ahead of the first without a number
 unfoldable pub errorsFrom : List ℕ → ℕ → ℕ → ℕ

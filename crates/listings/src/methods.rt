@@ -1,7 +1,8 @@
 // Methods in the order of 01: by model, then name.
 ghost use mathlib.Core.Path.{_≡_};
 ghost use Rattle.listings.specs.declared.methods.Method.the-variants.{Over};
-ghost use Rattle.listings.specs.Sections.{isBelow, isAbove, isLess, lesser, leastFrom, methodAfter};
+ghost use Rattle.listings.specs.Sections.{isBelow};
+ghost use Rattle.listings.specs.Selecting.{isAbove, isLess, lesser, leastFrom, methodAfter};
 use words::areas::METHOD_WORDS;
 use words::areas::entry_word;
 

@@ -2,7 +2,8 @@
 ghost use mathlib.Core.Path.{_≡_};
 ghost use Rattle.line_writer.specs.Placed.{placed};
 ghost use Rattle.listings.specs.Lines.{linesAt};
-ghost use Rattle.listings.specs.Sections.{section, each, functionCode, methodLines, methods, errorsIn};
+ghost use Rattle.listings.specs.Sections.{section, each, functionCode, errorsIn};
+ghost use Rattle.listings.specs.Selecting.{methodLines, selected};
 use crate::lines::Section;
 use crate::lines::write_entry;
 use crate::methods::Method;
@@ -64,7 +65,7 @@ fn write_method(area: &[u64], method: Method, out: &mut [u8], place: Place) -> P
 
 // Methods, by model, then name.
 pub fn write_methods(area: &[u64], n: u64, out: &mut [u8], place: Place) -> Place
-    ensures { λ r. ⌜ placed r (now (out .exit)) ≡ linesAt (methods (now (area .entry)) n) (placed place (now (out .entry))) ⌝ }
+    ensures { λ r. ⌜ placed r (now (out .exit)) ≡ linesAt (selected (now (area .entry)) n) (placed place (now (out .entry))) ⌝ }
 {
     let count = n as usize;
     let mut p = place;

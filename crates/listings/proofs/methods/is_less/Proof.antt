@@ -1,7 +1,7 @@
 -- `is_less` meets its contract, with and without an entry to compare. Assumes nothing.
 -- Made from Proof.answers by `answers make`: edit that file, and not this one.
 use mathlib.Core.Path.{sym, ap, _∙_}
-use Rattle.listings.specs.Sections.{isLess}
+use Rattle.listings.specs.Selecting.{isLess}
 use Rattle.listings.specs.declared.methods.Method.{Method}
 use Rattle.listings.proofs.methods.is_less.Statement.{statement}
 use Rattle.listings.proofs.methods.is_less.Tie as tie

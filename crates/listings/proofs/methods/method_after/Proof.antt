@@ -1,7 +1,7 @@
 -- `method_after` meets its contract. Assumes nothing.
 -- Made from Proof.answers by `answers make`: edit that file, and not this one.
 use mathlib.Core.Path.{sym, ap, _∙_}
-use Rattle.listings.specs.Sections.{methodAfter}
+use Rattle.listings.specs.Selecting.{methodAfter}
 use Rattle.listings.specs.declared.methods.Method.{Method}
 use Rattle.listings.proofs.methods.method_after.Statement.{statement}
 use Rattle.listings.proofs.methods.method_after.Tie as tie

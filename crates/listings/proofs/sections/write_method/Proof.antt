@@ -3,7 +3,8 @@
 use mathlib.Core.Path.{sym, ap, _∙_}
 use Rattle.line_writer.specs.Placed.{placed}
 use Rattle.listings.specs.Lines.{linesAt}
-use Rattle.listings.specs.Sections.{entryLine, isListed, methodLines}
+use Rattle.listings.specs.Sections.{entryLine, isListed}
+use Rattle.listings.specs.Selecting.{methodLines}
 use Rattle.listings.specs.declared.methods.Method.{Method}
 use Rattle.listings.proofs.sections.write_method.Statement.{statement}
 use Rattle.listings.proofs.sections.write_method.Tie as tie

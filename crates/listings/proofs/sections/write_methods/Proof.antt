@@ -6,7 +6,7 @@ use mathlib.Core.Path.{_≡_, refl}
 use lib.ListN.{length}
 use borrow.Author.Tests.{not-true}
 use Rattle.line_writer.specs.Placed.{placed}
-use Rattle.listings.specs.Sections.{methodLines, methodAt}
+use Rattle.listings.specs.Selecting.{methodLines, methodAt}
 use Rattle.listings.proofs.Walking.{Left, left-begin, left-more, left-none, left-refused, method-written}
 use Rattle.listings.proofs.Keys.{method-first, method-next}
 use Rattle.listings.proofs.sections.write_methods.Statement.{statement}
