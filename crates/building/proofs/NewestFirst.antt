@@ -1,13 +1,15 @@
 -- The search for a name among the entries of area 9, turn by turn: what is left to search answers what was asked. Assumes nothing.
-use Prim.Native.Nat.{ℕ, suc, _+_, _-_, _<_, _≤_}
+use Prim.Native.Nat.{ℕ, suc, _+_, _-_, _*_, _/_, _%_, _<_, _≤_}
 use native.Mathlib.Omega.{arith}
-use mathlib.Core.Path.{_≡_, sym, _∙_}
+use mathlib.Core.Path.{_≡_, sym, ap, _∙_}
 use mathlib.Core.List.{List}
 use mathlib.Core.Option.{Option, none, some}
 use mathlib.Core.Bool.{cond}
 use lib.Dec.{eqb}
+use lib.ListN.{length, getD}
 use borrow.Author.Tests.{eq-eqb, ne-eqb, le-leb, lt-leb}
 use Rattle.words.specs.Areas.{entryField}
+use Rattle.words.proofs.Entries.{field-in}
 use Rattle.building.specs.Found.{foundOf, narrowOf, findNewest}
 use Rattle.building.specs.declared.scopes.Narrow.the-variants as narrow
 use Rattle.building.specs.declared.scopes.Found.the-variants.{At, Nothing}
@@ -49,3 +51,18 @@ module _ (all : Option ℕ) (from i name : ℕ) (w : List ℕ) (so-far : all ≡
 
   pub newest-next : (other : ℕ) → from < i → other ≡ entryField 2 (i - 1) 0 w → (other ≡ name → ⊥) → all ≡ findNewest (i - 1 - from) from name w
   newest-next other h o e = step h ∙ rw (ne-eqb (entryField 2 (i - 1) 0 w) name (λ q. e (o ∙ q)))
+
+-- a search that counts words: the entry that ends at word `at`
+
+pub ends-at : (all : Option ℕ) (from end name : ℕ) (w : List ℕ) → all ≡ findNewest (end - from) from name w
+    → all ≡ findNewest (end * 2 / 2 - from) from name w
+ends-at all from end name w e = let h : end * 2 / 2 ≡ end = omega arith in rw h e
+
+pub word-in : (w : List ℕ) (at word : ℕ) → at % 2 ≡ 0 → 2 ≤ at → at ≤ length w → word < 2 → getD w (at - 2 + word) 0 ≡ entryField 2 (at / 2 - 1) word w
+word-in w at word even two inside small =
+    let i : at - 2 + word ≡ (at / 2 - 1) * 2 + word = omega arith in
+    ap (λ (j : ℕ). getD w j 0) i ∙ field-in w 2 (at / 2 - 1) word (omega arith) (omega arith)
+
+pub next-at : (all : Option ℕ) (from at name : ℕ) (w : List ℕ) → at % 2 ≡ 0 → 2 ≤ at → all ≡ findNewest (at / 2 - 1 - from) from name w
+    → all ≡ findNewest ((at - 2) / 2 - from) from name w
+next-at all from at name w even two e = let h : (at - 2) / 2 ≡ at / 2 - 1 = omega arith in rw h e

@@ -50,17 +50,22 @@ fn find_within(names: &[u64], from: usize, end: usize, name: u64) -> Found
     Found::Nothing
 }
 
-// The same for a name of 32 bits. Words are compared whole, and a local past 32 bits is said to be one.
+// The same for a name of 32 bits. Words are compared whole, and a local past 32 bits is said to be one. The loop counts words and not entries, for speed
+// (docs/BENCHMARKS.md, 'Live names').
 fn find_narrow(names: &[u64], from: usize, end: usize, name: u32) -> Narrow
     requires { ⌜ end * 2 ≤ length (now names) ⌝ }
     ensures { λ r. ⌜ r ≡ narrowOf (findNewest (end - from) from name (now (names .entry))) ⌝ }
 {
+    if end <= from {
+        return Narrow::Nothing;
+    }
     let wanted = name as u64;
-    let mut i = end;
-    while from < i {
-        i -= 1;
-        if names[i * areas::SCOPE_NAME_WORDS + NAME] == wanted {
-            let local = names[i * areas::SCOPE_NAME_WORDS + LOCAL];
+    let stop = from * areas::SCOPE_NAME_WORDS;
+    let mut at = end * areas::SCOPE_NAME_WORDS;
+    while stop < at {
+        at -= areas::SCOPE_NAME_WORDS;
+        if names[at + NAME] == wanted {
+            let local = names[at + LOCAL];
             if local <= MOST_NARROW {
                 return Narrow::At(local as u32);
             }
