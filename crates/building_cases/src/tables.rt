@@ -69,9 +69,9 @@ pub fn cases() {
     let mut one = [0u64; 3];
     pool_case(b"pool, room for one", &mut one, 0);
     let mut short = [0u64; 8];
-    pool_case(b"pool, one entry short", &mut short, 0);
+    pool_case(b"pool, just room for both", &mut short, 0);
     let mut all = [0u64; 12];
-    pool_case(b"pool, room for all", &mut all, 0);
+    pool_case(b"pool, room to spare", &mut all, 0);
     let mut marked = [0u64; 12];
     pool_case(b"pool, marked as full", &mut marked, 9);
     let mut no_error = [0u64; 3];

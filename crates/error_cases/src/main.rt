@@ -2,6 +2,8 @@
 // number, the length of the line buffer; then the errors, the table and the bytes. The buffer is filled with stale bytes before, and has stale bytes beside it.
 // For each case is written: number, place and total; the bytes that were delivered; and whether the rest of the buffer is zero and the bytes beside it are
 // kept.
+ghost use Prim.Native.Nat.{_≤_, _-_};
+ghost use lib.ListN.{length};
 use case_numbers::find;
 use case_numbers::parse;
 use column_files::Converted;

@@ -8,10 +8,10 @@ use borrow.Author.Needs.{needs}
 use native.Mathlib.Omega.{arith}
 
 abbrev Inv-loop : tie.InvT-loop
-Inv-loop text at₀ at = at ≤ length text + 1
+Inv-loop text at₀ t9 at = at ≤ length text + 1
 
 abbrev μ-loop : tie.MeasureT-loop
-μ-loop text at₀ at = length text + 1 - at
+μ-loop text at₀ t9 at = length text + 1 - at
 
 pub cases-spec : {M : Type 1} → statement M
 cases-spec =
@@ -32,9 +32,19 @@ cases-spec =
     (λ c. search needs)
     (λ c. search needs)
     (λ c κs. tt)
+    (λ c κs. search needs)
     (λ c. omega arith)
     (λ c. search needs)
     (λ c. omega arith)
+    (λ c. search needs)
+    (λ c. omega arith)
+    (λ c. omega arith)
+    (λ c. omega arith)
+    (λ c. search needs)
+    (λ c. search needs)
+    (λ c κs. search needs)
+    (λ c. search needs)
+    (λ c κs. search needs)
     (λ c. omega arith)
     (λ c. search needs)
     (λ c. search needs)
