@@ -21,7 +21,7 @@ use Rattle.tree.specs.declared.Shape.{Shape}
 use Rattle.tree.specs.declared.Shape.the-variants.{Fine, Refused}
 use Rattle.tree.specs.declared.Outcome.{Outcome}
 use Rattle.tree.specs.declared.Outcome.the-variants.{Went, Fault}
-use Rattle.definition.specs.Uses.{Limits, firstOver}
+use Rattle.definition.specs.Uses.{Limits, firstNotPublic, firstOver}
 use Rattle.definition.specs.Compiler.{Error}
 use Rattle.definition.specs.Book.{Context, newContext}
 use Rattle.definition.specs.DependencySolver.{Ending, Delivered, Faulty, Ring, compileNeeded, missing, needed, loadedOf}
@@ -45,6 +45,7 @@ pub data Row : ℕ → List Error → Type 0 where
   row-7 : (es : List Error) → Row 7 es
   row-8 : (es : List Error) → Row 8 es
   row-9 : Row 9 []
+  row-11 : Row 11 []
 
 -- rows 2, 3 and 4 are the shape's
 
@@ -102,7 +103,8 @@ reached c w lengths = shape (shape-row w) refl
 
     worked : shapeOf w ≡ Fine → (numbers : List ℕ) (o : Option ℕ) → firstOver l (compileNeeded numbers (documentsOf w) c .uses) ≡ o
         → Reached c w lengths (answerBy o (compileNeeded numbers (documentsOf w) c .ending))
-    worked f numbers (some area) q = Before area row-9
+    worked f numbers (some area) q =
+        cond-case (Reached c w lengths) (ltb area firstNotPublic) (λ t. Before area row-9) (λ t. Before (area - firstNotPublic) row-11)
     worked f numbers none q = Ended numbers f q _ refl
 
     needing : shapeOf w ≡ Fine → (numbers : List ℕ) (o : Option ℕ) → Reached c w lengths (answerNeeded o numbers (documentsOf w) l c)
@@ -184,6 +186,6 @@ pub standing-keeps : (c₀ : Context) (w lengths : List ℕ) (c : Context) → l
     → OperandsFit c → WordsKeep lengths c
 standing-keeps c₀ w lengths c n q safe fit = program-keeps lengths c n (delivery-safe c₀ w lengths c q safe) fit
 
-pub delivery-keeps : (w lengths : List ℕ) (c : Context) → length lengths ≡ 13 → answer w lengths ≡ Delivery c → OperandsFit c → WordsKeep lengths c
+pub delivery-keeps : (strict : Bool) (w lengths : List ℕ) (c : Context) → length lengths ≡ 13 → answer strict w lengths ≡ Delivery c → OperandsFit c → WordsKeep lengths c
 unfolding answer
-delivery-keeps w lengths c n q fit = standing-keeps newContext w lengths c n q fresh-safe fit
+delivery-keeps strict w lengths c n q fit = standing-keeps (newContext strict) w lengths c n q (fresh-safe strict) fit

@@ -21,7 +21,7 @@ use Rattle.definition.specs.Prior.{Entries, Prior, nothingStands, fileNu
 use Rattle.definition.specs.Uses.{Use, using′, greatestUse, sumOf}
 use Rattle.definition.specs.Compiler.{Error, Work, Added, compileFunctionDefinitionBase}
 use Rattle.definition.specs.Book.{Function, Model, Assembly, Context, codeCount, functionCount, modelCount, propertyCount, publicCount, bookCount}
-use Rattle.definition.specs.Book.{working, resumed, Placed, addBookConstant, defineContextLocal}
+use Rattle.definition.specs.Book.{working, resumed, Placed, addBookConstant, defineContextLocal, givesValues, compileInclude}
 use Rattle.definition.specs.Book.{defineContextLocalBy, setLocalValue, includedName, giveValue, compileAlias, compileIncludeDefinition, Value}
 use Rattle.definition.specs.Book.{Standing, Adding, NoConstant, valueOf, compileValue, compileBindingBy, compileBinding, compileLocalDefinition}
 use Rattle.definition.specs.Book.{hasText, Properties, addProperty, compileProperties, addModel, compileModelDefinition}
@@ -127,6 +127,13 @@ module _ {S : ℕ → ℕ} {P : Prior} {left : ℕ} where
   unfolding compileIncludeDefinition
   kept-include file [] = record { keeps = λ b k. k }
   kept-include file (a ∷ l) = kept-then (kept-alias file a) (kept-include file l)
+
+  kept-include-or-row-11 : (index file : ℕ) (l : List Alias) → Keeping S P left (compileInclude index file l)
+  unfolding compileInclude
+  kept-include-or-row-11 index file l = record {
+    keeps = λ b k. cond-case (BookKept S P left) (givesValues file l (b .context)) (λ t. kept-include file l .keeps b k)
+        (λ t. record { prior = k .prior; functions = k .functions; counted = counted-more (k .counted) });
+  }
 
   kept-compile-value : (v : Value) (t : Token) (o : Option ℕ) (b : Book.Book) → BookKept S P left b → BookKept S P left (compileValue v t o b)
   kept-compile-value (Standing n) t o b k = kept-value o n b k
@@ -272,7 +279,7 @@ module _ {S : ℕ → ℕ} {P : Prior} {left : ℕ} where
   kept-definition : (d : Definition) → All LimitedFunction (functionsIn d) → Keeping S P left (compileDefinition d)
   unfolding compileDefinition compileImplementDefinition compileApplyDefinition
   kept-definition (LocalDefinition bs) h = kept-locals bs
-  kept-definition (IncludeDefinition file l) h = kept-include (file .value) l
+  kept-definition (IncludeDefinition index file l) h = kept-include-or-row-11 index (file .value) l
   kept-definition (ModelDefinition n ps) h = record { keeps = kept-model n ps }
   kept-definition (PublicModelDefinition n ps) h = record { keeps = λ b k. kept-publish (n .value) _ (kept-model n ps b k) }
   kept-definition (PlainFunction f) (l & nil) = record { keeps = kept-function f l }
@@ -402,17 +409,17 @@ module _ (numbers : List ℕ) (ds : List Document) (r : Context) (h : All Limite
         counted = counted-at booksArea _ (noted-less _ (omega (arith, loaded-length c)) noted-here) (standing-counted c _);
       }) e
 
-  pub fresh-noted : compileNeeded numbers ds newContext .ending ≡ Delivered r
-      → ContextKept (λ area. 0) nothingStands 0 r (compileNeeded numbers ds newContext .uses)
+  pub fresh-noted : (strict : Bool) → compileNeeded numbers ds (newContext strict) .ending ≡ Delivered r
+      → ContextKept (λ area. 0) nothingStands 0 r (compileNeeded numbers ds (newContext strict) .uses)
   unfolding compileNeeded
-  fresh-noted e =
-      drive-kept (length numbers) ds _ numbers newContext r _ h (record {
+  fresh-noted strict e =
+      drive-kept (length numbers) ds _ numbers (newContext strict) r _ h (record {
         prior = refl;
         functions = nil;
         counted = counted-at booksArea _ noted-here (counted-at constantsArea _ (noted-more noted-here) (none-counted _));
       }) e
 
   -- on a fresh context all that is in use at the end is noted, in every area
-  pub counts-noted : compileNeeded numbers ds newContext .ending ≡ Delivered r
-      → (area : ℕ) → standingIn r area ≤ greatestUse area (compileNeeded numbers ds newContext .uses)
-  counts-noted e area = let x = fresh-noted e .counted .each area .known in omega arith
+  pub counts-noted : (strict : Bool) → compileNeeded numbers ds (newContext strict) .ending ≡ Delivered r
+      → (area : ℕ) → standingIn r area ≤ greatestUse area (compileNeeded numbers ds (newContext strict) .uses)
+  counts-noted strict e area = let x = fresh-noted strict e .counted .each area .known in omega arith

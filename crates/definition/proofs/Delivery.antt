@@ -6,6 +6,7 @@ use native.Mathlib.Nat.{le-refl}
 use native.Mathlib.Omega.{arith}
 use mathlib.Core.Path.{_≡_, ap, subst}
 use mathlib.Core.Logic.{inl, inr}
+use mathlib.Core.Bool.{Bool}
 use mathlib.Core.Option.{none}
 use mathlib.Core.List.{List, [], _∷_, _++_, map}
 use lib.ListN.{length, getD, List·getD-map}
@@ -83,12 +84,12 @@ stands-fits lengths c s =
     (low codeArea) (omega arith) (all-map (λ f p. p .0) (s .safe .parts .functions)) (s .functions)
 
 -- on a fresh context
-pub answer-stands : (w lengths : List ℕ) (c : Context) → answer w lengths ≡ Delivery c → Stands lengths c
+pub answer-stands : (strict : Bool) (w lengths : List ℕ) (c : Context) → answer strict w lengths ≡ Delivery c → Stands lengths c
 unfolding answer
-answer-stands w lengths c e =
-    let d = delivering newContext w lengths c e in
-    stands lengths c (λ area. omega arith) (d .within) (fresh-noted (d .numbers) (documentsOf w) c (fine-limited w (d .fine)) (d .ends))
-    (delivery-safe newContext w lengths c e fresh-safe)
+answer-stands strict w lengths c e =
+    let d = delivering (newContext strict) w lengths c e in
+    stands lengths c (λ area. omega arith) (d .within) (fresh-noted (d .numbers) (documentsOf w) c (fine-limited w (d .fine)) strict (d .ends))
+    (delivery-safe (newContext strict) w lengths c e (fresh-safe strict))
 
 -- and onto one that stands, within the same lengths
 pub standing-stands : (w lengths : List ℕ) (c r : Context) → Stands lengths c → answerFrom c w lengths ≡ Delivery r → Stands lengths r
@@ -103,33 +104,33 @@ standing-prior w lengths c r s e =
     let d = delivering c w lengths r e in
     standing-noted (d .numbers) (documentsOf w) r (fine-limited w (d .fine)) c (s .functions) (d .ends) .prior
 
-pub answer-prior : (w lengths : List ℕ) (c : Context) → answer w lengths ≡ Delivery c → c .prior ≡ nothingStands
+pub answer-prior : (strict : Bool) (w lengths : List ℕ) (c : Context) → answer strict w lengths ≡ Delivery c → c .prior ≡ nothingStands
 unfolding answer
-answer-prior w lengths c e =
-    let d = delivering newContext w lengths c e in
-    fresh-noted (d .numbers) (documentsOf w) c (fine-limited w (d .fine)) (d .ends) .prior
+answer-prior strict w lengths c e =
+    let d = delivering (newContext strict) w lengths c e in
+    fresh-noted (d .numbers) (documentsOf w) c (fine-limited w (d .fine)) strict (d .ends) .prior
 
 -- every operand that is delivered is below 2 ^ 56
-pub answer-fits : (w lengths : List ℕ) (c : Context) → answer w lengths ≡ Delivery c → OperandsFit c
-answer-fits w lengths c e = stands-fits lengths c (answer-stands w lengths c e)
+pub answer-fits : (strict : Bool) (w lengths : List ℕ) (c : Context) → answer strict w lengths ≡ Delivery c → OperandsFit c
+answer-fits strict w lengths c e = stands-fits lengths c (answer-stands strict w lengths c e)
 
 pub standing-fits : (w lengths : List ℕ) (c r : Context) → Stands lengths c → answerFrom c w lengths ≡ Delivery r → OperandsFit r
 standing-fits w lengths c r s e = stands-fits lengths r (standing-stands w lengths c r s e)
 
 -- demand 3 of the words, with no premise on operands
-pub answer-keeps : (w lengths : List ℕ) (c : Context) → length lengths ≡ 13 → answer w lengths ≡ Delivery c
+pub answer-keeps : (strict : Bool) (w lengths : List ℕ) (c : Context) → length lengths ≡ 13 → answer strict w lengths ≡ Delivery c
     → KeepsWithin (delivered lengths c) 0 (logsOf (c .program .functions))
-answer-keeps w lengths c n e =
-    subst (λ (p : Prior). KeepsWithin (delivered lengths c) (length (p .functions)) (logsOf (c .program .functions))) (answer-prior w lengths c e)
-    (delivery-keeps w lengths c n e (answer-fits w lengths c e))
+answer-keeps strict w lengths c n e =
+    subst (λ (p : Prior). KeepsWithin (delivered lengths c) (length (p .functions)) (logsOf (c .program .functions))) (answer-prior strict w lengths c e)
+    (delivery-keeps strict w lengths c n e (answer-fits strict w lengths c e))
 
 pub standing-answer-keeps : (w lengths : List ℕ) (c r : Context) → length lengths ≡ 13 → Stands lengths c → answerFrom c w lengths ≡ Delivery r
     → WordsKeep lengths r
 standing-answer-keeps w lengths c r n s e = standing-keeps c w lengths r n e (s .safe) (standing-fits w lengths c r s e)
 
 -- every function of a delivery has exactly one position for each instruction
-pub one-position-each : (w lengths : List ℕ) (c : Context) → answer w lengths ≡ Delivery c → OnePositionEach (c .program .functions)
-one-position-each w lengths c e = all-map (λ f s. s .0 .sized) (answer-stands w lengths c e .safe .parts .functions)
+pub one-position-each : (strict : Bool) (w lengths : List ℕ) (c : Context) → answer strict w lengths ≡ Delivery c → OnePositionEach (c .program .functions)
+one-position-each strict w lengths c e = all-map (λ f s. s .0 .sized) (answer-stands strict w lengths c e .safe .parts .functions)
 
 -- the entries of each area are within what was lent
 stands-area : (lengths : List ℕ) (c : Context) → Stands lengths c → (area : ℕ) → length (getD (tablesOf c) area []) ≤ limitOf (limitsOf lengths) area
@@ -138,9 +139,9 @@ stands-area lengths c s area =
     let y = ap (λ l. getD l area 0) (totals-counted c (s .safe)) in
     omega (arith, s .fits area)
 
-pub areas-fit : (w lengths : List ℕ) (c : Context) → answer w lengths ≡ Delivery c → (area : ℕ)
+pub areas-fit : (strict : Bool) (w lengths : List ℕ) (c : Context) → answer strict w lengths ≡ Delivery c → (area : ℕ)
     → length (getD (tablesOf c) area []) ≤ limitOf (limitsOf lengths) area
-areas-fit w lengths c e = stands-area lengths c (answer-stands w lengths c e)
+areas-fit strict w lengths c e = stands-area lengths c (answer-stands strict w lengths c e)
 
 pub standing-areas-fit : (w lengths : List ℕ) (c r : Context) → Stands lengths c → answerFrom c w lengths ≡ Delivery r → (area : ℕ)
     → length (getD (tablesOf r) area []) ≤ limitOf (limitsOf lengths) area

@@ -1,5 +1,6 @@
 pub mod AllRows
 pub mod AllStandingRows
+pub mod AllStrictRows
 pub mod Safe
 pub mod Lists
 pub mod Defining
@@ -27,3 +28,6 @@ pub mod Steady
 pub mod WithinBench
 pub mod PromiseBench
 pub mod SharedOnce
+pub mod Modes
+pub mod Strict
+pub mod StrictRefuses

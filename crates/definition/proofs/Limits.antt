@@ -34,7 +34,7 @@ functionsIn (PlainFunction f) = f ∷ []
 functionsIn (PublicFunction f) = f ∷ []
 functionsIn (ImplementDefinition m fs) = fs
 functionsIn (LocalDefinition x) = []
-functionsIn (IncludeDefinition x y) = []
+functionsIn (IncludeDefinition n x y) = []
 functionsIn (ModelDefinition x y) = []
 functionsIn (PublicModelDefinition x y) = []
 functionsIn (ApplyDefinition x y) = []
@@ -51,7 +51,7 @@ definition-limited (PlainFunction f) s = record { records = s .records; levels =
 definition-limited (PublicFunction f) s = record { records = s .records; levels = s .levels } & nil
 definition-limited (ImplementDefinition m fs) s = run-limited sizeF depthF fs (omega (arith, s .records)) (omega (arith, s .levels))
 definition-limited (LocalDefinition x) s = nil
-definition-limited (IncludeDefinition x y) s = nil
+definition-limited (IncludeDefinition n x y) s = nil
 definition-limited (ModelDefinition x y) s = nil
 definition-limited (PublicModelDefinition x y) s = nil
 definition-limited (ApplyDefinition x y) s = nil

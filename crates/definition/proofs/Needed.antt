@@ -278,7 +278,7 @@ module _ (standing : List ℕ) (root : Document) (others : List Document) where
 
 -- Facts that fail of other lists. Book 2 includes 3, which the bundle lacks
 abbrev includer : Document
-includer = record { filename = 2; definitions = IncludeDefinition (record { position = 0; kind = 11; value = 3 }) [] ∷ [] }
+includer = record { filename = 2; definitions = IncludeDefinition 1 (record { position = 0; kind = 11; value = 3 }) [] ∷ [] }
 
 includer-needs : needed [] includer [] ≡ 2 ∷ 3 ∷ []
 unfolding neededIn

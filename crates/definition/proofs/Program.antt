@@ -25,6 +25,7 @@ use Rattle.words.specs.Ast.{PlainFunction, PublicFunction, ImplementDefinition,
 use Rattle.definition.specs.Prior.{Entries, Prior, bookIndex, hasKey, findPublic}
 use Rattle.definition.specs.Book.{Function, Model, Method, Assembly, Context, functionCount, modelCount, bookCount, includedFrom, includedName}
 use Rattle.definition.specs.Book.{Deed, working, resumed, Placed, addBookConstant, MaybePlaced, defineContextLocal, defineContextLocalBy}
+use Rattle.definition.specs.Book.{withConstant, onlyOne, givesValues, compileInclude}
 use Rattle.definition.specs.Book.{setLocalValue, findAssembly, publicOf, giveValue, compileAlias, compileIncludeDefinition, Value, Standing, Adding}
 use Rattle.definition.specs.Book.{NoConstant, valueOf, compileValue, compileBindingBy, compileBinding, compileLocalDefinition}
 use Rattle.definition.specs.Book.{addProperty, noted, addModel, valueAt, compileProperties, hasText, compileModelDefinition, publish, Made}
@@ -323,8 +324,16 @@ standing-public {K} book name i (_&_ {x = x} {xs = es} p ps) e = go (hasKey book
     go true r q = let z : getD x 2 0 ≡ i = cc in omega arith
     go false r q = r q
 
+-- the case of one name is its rule
+pub one-name : (file name : ℕ) (c : Context) → includedName file name c ≡ includedFrom (bookIndex file 0 (c .prior .books)) file name c
+one-name file name c = go (includedFrom (bookIndex file 0 (c .prior .books)) file name c)
+  where
+    go : (o : Option ℕ) → onlyOne (withConstant o (some [])) ≡ o
+    go none = refl
+    go (some k) = refl
+
 find-public : (m n i : ℕ) (b : Book.Book) → BookGood b → includedName m n (b .context) ≡ some i → i < length (b .context .pool .constants)
-find-public m n i b g e = by (bookIndex m 0 (b .context .prior .books)) e
+find-public m n i b g e = by (bookIndex m 0 (b .context .prior .books)) (sym (one-name m n (b .context)) ∙ e)
   where
     go : (o : Option Assembly) → findAssembly m (b .context .assemblies) ≡ o → publicOf o n ≡ some i → i < length (b .context .pool .constants)
     go none q r = absurd (let z : _≡_ {A = ℕ} 0 1 = cc in omega arith)
@@ -361,6 +370,17 @@ include-fine : (file : ℕ) (l : List Alias) → Fine (compileIncludeDefinition 
 unfolding compileIncludeDefinition
 include-fine file [] = record { before = λ b e. e; keeps = λ b g e. g }
 include-fine file (a ∷ l) = fine-then (alias-fine file a) (include-fine file l)
+
+noted-good : (area n : ℕ) (b : Book.Book) → BookGood b → BookGood (noted area n b)
+noted-good area n b g = record { parts = g .parts; pool = g .pool; names = g .names; own = g .own; index = g .index; counted = g .counted; wide = g .wide }
+
+include-or-row-11 : (index file : ℕ) (l : List Alias) → Fine (compileInclude index file l)
+unfolding compileInclude
+include-or-row-11 index file l = record {
+  before = λ b. cond-case (λ (x : Book.Book). faults x ≡ [] → faults b ≡ []) (givesValues file l (b .context)) (λ t e. include-fine file l .before b e) (λ t e. e);
+  keeps = λ b g. cond-case (λ (x : Book.Book). faults x ≡ [] → BookGood x) (givesValues file l (b .context)) (λ t e. include-fine file l .keeps b g e)
+      (λ t e. noted-good _ 1 b g);
+}
 
 -- local definitions
 
@@ -882,7 +902,7 @@ apply-fine s t = record {
 definition-fine : (d : Definition) → Fine (compileDefinition d)
 unfolding compileDefinition
 definition-fine (LocalDefinition bs) = locals-fine bs
-definition-fine (IncludeDefinition file l) = include-fine (file .value) l
+definition-fine (IncludeDefinition index file l) = include-or-row-11 index (file .value) l
 definition-fine (ModelDefinition n ps) = place-fine (model-places n ps)
 definition-fine (PublicModelDefinition n ps) = publish-fine (n .value) (model-places n ps)
 definition-fine (PlainFunction f) = place-fine (function-places f)
@@ -974,8 +994,8 @@ pub worked-safe : (numbers : List ℕ) (ds : List Document) (c r : Context) → 
 unfolding compileNeeded
 worked-safe numbers ds c r s e = drive-good (length numbers) ds _ numbers c r _ s e
 
-pub fresh-safe : ProgramSafe newContext
-fresh-safe = record {
+pub fresh-safe : (strict : Bool) → ProgramSafe (newContext strict)
+fresh-safe strict = record {
   parts = record {
     prior = record { code = nil; functions = nil; models = nil; properties = nil; locals = nil; publics = nil };
     functions = nil;

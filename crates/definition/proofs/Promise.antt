@@ -3,6 +3,7 @@
 use Prim.Native.Nat.{ℕ}
 use native.Mathlib.Omega.{arith}
 use mathlib.Core.Path.{_≡_, refl, sym, ap, subst, _∙_}
+use mathlib.Core.Bool.{Bool}
 use mathlib.Core.List.{List, [], _∷_}
 use lib.ListN.{length}
 use Rattle.words.specs.declared.reply.Reply as struct
@@ -10,7 +11,7 @@ use Rattle.definition.specs.Compiler.{Error}
 use Rattle.definition.specs.Book.{Context, newContext}
 use Rattle.definition.specs.Answer.{Answer, Delivery, Refusal, Reply, answer, replyOf, areasOf}
 use Rattle.definition.specs.Within.{Areas, Program, KeepsWithin}
-use Rattle.definition.proofs.Answer.{refusals, Row, row-2, row-3, row-4, row-5, row-6, row-7, row-8, row-9}
+use Rattle.definition.proofs.Answer.{refusals, Row, row-2, row-3, row-4, row-5, row-6, row-7, row-8, row-9, row-11}
 use Rattle.definition.proofs.Delivery.{answer-keeps}
 use Rattle.definition.specs.Promise.{lengthsOf, saying, logsIn, answering, programOf, Compiles}
 
@@ -24,10 +25,11 @@ no-row row-6 z = omega arith
 no-row (row-7 es) z = omega arith
 no-row (row-8 es) z = omega arith
 no-row row-9 z = omega arith
+no-row row-11 z = omega arith
 
-module _ (tree : List ℕ) (before after : Areas) (r : struct.Reply) (thirteen : length (lengthsOf before) ≡ 13)
-    (reply : saying r ≡ replyOf (answering tree before)) (words : after ≡ areasOf (lengthsOf before) (answering tree before)) where
-  keeps : (a : Answer) → answering tree before ≡ a → r .number ≡ 0 → KeepsWithin (programOf after r) 0 (logsIn a)
+module _ (strict : Bool) (tree : List ℕ) (before after : Areas) (r : struct.Reply) (thirteen : length (lengthsOf before) ≡ 13)
+    (reply : saying r ≡ replyOf (answering strict tree before)) (words : after ≡ areasOf (lengthsOf before) (answering strict tree before)) where
+  keeps : (a : Answer) → answering strict tree before ≡ a → r .number ≡ 0 → KeepsWithin (programOf after r) 0 (logsIn a)
   unfolding replyOf answer
   keeps (Delivery c) q z =
       let says : saying r ≡ replyOf (Delivery c) = reply ∙ ap replyOf q in
@@ -39,10 +41,10 @@ module _ (tree : List ℕ) (before after : Areas) (r : struct.Reply) (thirteen :
         totals = replyOf (Delivery c) .totals;
         entryPoint = replyOf (Delivery c) .entryPoint;
         globals = replyOf (Delivery c) .globals;
-      }) 0 (logsIn (Delivery c))) (sym holds) (answer-keeps tree (lengthsOf before) c thirteen q))
+      }) 0 (logsIn (Delivery c))) (sym holds) (answer-keeps strict tree (lengthsOf before) c thirteen q))
   keeps (Refusal n p es) q z =
       let says : r .number ≡ n = ap (λ (x : Reply). x .number) (reply ∙ ap replyOf q) in
-      absurd (no-row (refusals newContext tree (lengthsOf before) n p es q) (sym says ∙ z))
+      absurd (no-row (refusals (newContext strict) tree (lengthsOf before) n p es q) (sym says ∙ z))
 
-  pub compiles : Compiles tree before after r
-  compiles = record { reply = reply; words = words; within = λ z. keeps (answering tree before) refl z }
+  pub compiles : Compiles strict tree before after r
+  compiles = record { reply = reply; words = words; within = λ z. keeps (answering strict tree before) refl z }

@@ -2,6 +2,7 @@
 -- and place, and every word of every area, are said. Assumes nothing.
 use Prim.Native.Nat.{ℕ}
 use mathlib.Core.Path.{_≡_, refl, ap, _∙_}
+use mathlib.Core.Bool.{false}
 use mathlib.Core.List.{List, [], _∷_}
 use lib.ListN.{getD, replicate}
 use Rattle.words.specs.declared.reply.Reply as struct
@@ -19,7 +20,7 @@ stale : ℕ → Areas
 stale w =
     let l = replicate 12 w in areas l l l l l l l l l l l l
 
-module _ (w : ℕ) (c k f m p t l u n b e o : List ℕ) (r : struct.Reply) (C : Compiles faulty (stale w) (areas c k f m p t l u n b e o) r) where
+module _ (w : ℕ) (c k f m p t l u n b e o : List ℕ) (r : struct.Reply) (C : Compiles false faulty (stale w) (areas c k f m p t l u n b e o) r) where
   number-said : r .number ≡ 7
   unfolding faulty stale run
   number-said = ap (λ (x : Reply). x .number) (C .reply)
@@ -37,7 +38,7 @@ module _ (w : ℕ) (c k f m p t l u n b e o : List ℕ) (r : struct.Reply) (C : 
   unfolding faulty stale run
   zero-said = (at 1, at 2, at 3, at 4, at 5, at 6, at 7, at 8, at 9, at 10, at 12)
     where
-      at : (i : ℕ) → getD (areas c k f m p t l u n b e o) i [] ≡ getD (areasOf (lengthsOf (stale w)) (answering faulty (stale w))) i []
+      at : (i : ℕ) → getD (areas c k f m p t l u n b e o) i [] ≡ getD (areasOf (lengthsOf (stale w)) (answering false faulty (stale w))) i []
       at i = ap (λ (x : Areas). getD x i []) (C .words)
 
   errors-said : e ≡ 10 ∷ 0 ∷ 16 ∷ 3 ∷ replicate 8 0

@@ -13,13 +13,13 @@ use lib.Dec.{T, eqb}
 use Rattle.words.specs.Ast.{Token, Binding, Alias, FunctionDefinition, Definition, LocalDefinition, IncludeDefinition, ModelDefinition}
 use Rattle.words.specs.Ast.{PublicModelDefinition, PlainFunction, PublicFunction, ImplementDefinition, ApplyDefinition, Document}
 use Rattle.tree.specs.Reading.{documentsOf}
-use Rattle.words.specs.Object.{Constant, constantOf, nullKind, modelKind, functionKind, isShared, sameConstant}
+use Rattle.words.specs.Object.{Constant, constantOf, defaultConstants, nullKind, modelKind, functionKind, isShared, sameConstant}
 use Rattle.definition.specs.FunctionState.{Entry, FunctionState, findName}
 use Rattle.definition.specs.Uses.{Use}
 use Rattle.definition.specs.Compiler.{Error, findConstant}
 use Rattle.definition.specs.Book
 use Rattle.definition.specs.Book.{functionCount, modelCount, Context, newContext, Deed, Placed, working, addBookConstant, defineContextLocal}
-use Rattle.definition.specs.Book.{defineContextLocalBy, setLocalValue}
+use Rattle.definition.specs.Book.{defineContextLocalBy, setLocalValue, givesValues, compileInclude}
 use Rattle.definition.specs.Book.{includedName, giveValue, compileAlias, compileIncludeDefinition, Value, Standing, Adding, NoConstant, valueOf}
 use Rattle.definition.specs.Book.{compileValue, compileBindingBy, compileBinding, compileLocalDefinition, hasText, Properties, addProperty}
 use Rattle.definition.specs.Book.{compileProperties, addModel, compileModelDefinition, compileBase, addFunction, addPlainFunction}
@@ -104,6 +104,11 @@ grows-include : (file : ℕ) (l : List Alias) → Grows (compileIncludeDefinitio
 unfolding compileIncludeDefinition
 grows-include file [] b = same-pool
 grows-include file (a ∷ l) b = grows-trans (grows-alias file a b) (grows-include file l (compileAlias file a b))
+
+grows-include-or-row-11 : (index file : ℕ) (l : List Alias) → Grows (compileInclude index file l)
+unfolding compileInclude
+grows-include-or-row-11 index file l b =
+    cond-case (λ (x : Book.Book). PoolGrows (poolOf b) (poolOf x)) (givesValues file l (b .context)) (λ t. grows-include file l b) (λ t. same-pool)
 
 grows-compile-value : (v : Value) (t : Token) (o : Option ℕ) → Grows (compileValue v t o)
 grows-compile-value (Standing n) t o b = grows-value o n b
@@ -200,7 +205,7 @@ grows-compile-methods (f ∷ fs) es b = grows-trans (grows-base f b) (grows-comp
 grows-definition : (d : Definition) → Grows (compileDefinition d)
 unfolding compileDefinition compileImplementDefinition compileApplyDefinition
 grows-definition (LocalDefinition bs) b = grows-locals bs b
-grows-definition (IncludeDefinition file l) b = grows-include (file .value) l b
+grows-definition (IncludeDefinition index file l) b = grows-include-or-row-11 index (file .value) l b
 grows-definition (ModelDefinition n ps) b = grows-model n ps b
 grows-definition (PublicModelDefinition n ps) b = grows-model n ps b
 grows-definition (PlainFunction f) b = grows-function f b
@@ -253,20 +258,20 @@ standing-grows w lengths c r e =
     drive-grows (length (d .numbers)) (documentsOf w) _ (d .numbers) c r _ (d .ends)
 
 -- the three constants of a fresh pool are not shared
-fresh-apart : SharedOnce (newContext .pool .constants)
+fresh-apart : SharedOnce defaultConstants
 fresh-apart = record { apart = λ i j p q s. go i j p q s }
   where
-    go : (i j : ℕ) → i < j → j < 3 → isShared (numbered (newContext .pool .constants) j .kind) ≡ true
-        → sameConstant (numbered (newContext .pool .constants) j) (numbered (newContext .pool .constants) i) ≡ false
+    go : (i j : ℕ) → i < j → j < 3 → isShared (numbered defaultConstants j .kind) ≡ true
+        → sameConstant (numbered defaultConstants j) (numbered defaultConstants i) ≡ false
     go i zero p q s = absurd (omega arith)
     go i (suc zero) p q s = absurd (let z : _≡_ {A = ℕ} 0 1 = cc in omega arith)
     go i (suc (suc zero)) p q s = absurd (let z : _≡_ {A = ℕ} 0 1 = cc in omega arith)
     go i (suc (suc (suc j))) p q s = absurd (omega arith)
 
 -- the pool of a delivery has no two shared constants that are the same
-pub shared-once : (w lengths : List ℕ) (c : Context) → answer w lengths ≡ Delivery c → SharedOnce (c .pool .constants)
+pub shared-once : (strict : Bool) (w lengths : List ℕ) (c : Context) → answer strict w lengths ≡ Delivery c → SharedOnce (c .pool .constants)
 unfolding answer
-shared-once w lengths c e = grows-apart fresh-apart (standing-grows w lengths newContext c e)
+shared-once strict w lengths c e = grows-apart fresh-apart (standing-grows w lengths (newContext strict) c e)
 
 -- and so has the pool of a delivery onto a context whose pool has none
 pub standing-shared-once : (w lengths : List ℕ) (c r : Context) → answerFrom c w lengths ≡ Delivery r → SharedOnce (c .pool .constants)

@@ -1,9 +1,10 @@
 -- The compile call of 01: from any words and the areas' lengths to the reply and the words of the twelve areas
-use Prim.Native.Nat.{ℕ, _/_}
-use mathlib.Core.Bool.{cond}
+use Prim.Native.Nat.{ℕ, _-_, _/_}
+use mathlib.Core.Bool.{Bool, cond}
 use mathlib.Core.Option.{Option, none, some}
 use mathlib.Core.List.{List, [], _∷_, map}
 use lib.ListN.{length, replicate}
+use lib.Dec.{ltb}
 use Rattle.words.specs.Ast.{Document}
 use Rattle.words.specs.Areas.{widths, entriesIn}
 use Rattle.words.specs.Record.{valueAt}
@@ -11,7 +12,7 @@ use Rattle.tree.specs.Check.{shapeOf}
 use Rattle.tree.specs.Reading.{documentsOf, listOf}
 use Rattle.tree.specs.declared.Shape.{Shape}
 use Rattle.tree.specs.declared.Shape.the-variants.{Fine, Refused}
-use Rattle.definition.specs.Uses.{Limits, firstOver}
+use Rattle.definition.specs.Uses.{Limits, firstNotPublic, firstOver}
 use Rattle.definition.specs.Compiler.{Error}
 use Rattle.definition.specs.Book.{Context, newContext, hasText}
 use Rattle.definition.specs.DependencySolver.{Ending, Delivered, Faulty, Ring, Worked, loadedOf, needed, missing, compileNeeded}
@@ -32,9 +33,13 @@ answerEnding (Delivered c) = Delivery c
 answerEnding (Faulty n es) = Refusal 7 n es
 answerEnding (Ring l) = Refusal 8 (length l) (ringErrors l)
 
--- row 9 wins: it was met before the work ended
+-- rows 9 and 11 by the area of the note (Uses.antt, `notPublicArea`)
+abbrev pub answerOver : ℕ → Answer
+answerOver area = cond (ltb area firstNotPublic) (Refusal 9 area []) (Refusal 11 (area - firstNotPublic) [])
+
+-- they win: they were met before the work ended (2026-07: 'at this point it comes before row 7 for the same book')
 abbrev pub answerBy : Option ℕ → Ending → Answer
-answerBy (some area) e = Refusal 9 area []
+answerBy (some area) e = answerOver area
 answerBy none e = answerEnding e
 
 abbrev pub answerWorked : Limits → Worked → Answer
@@ -86,10 +91,10 @@ limitsOf lengths = limitsBy widths lengths
 unfoldable pub answerFrom : Context → List ℕ → List ℕ → Answer
 answerFrom c w lengths = answerShape (shapeOf w) w (limitsOf lengths) c
 
--- and on a fresh one
-unfoldable pub answer : List ℕ → List ℕ → Answer
+-- and on a fresh one, in a mode
+unfoldable pub answer : Bool → List ℕ → List ℕ → Answer
 unfolding answerFrom
-answer w lengths = answerFrom newContext w lengths
+answer strict w lengths = answerFrom (newContext strict) w lengths
 
 -- the reply: a row (0: delivered) and its place; the areas' totals, by area from 1; the entry point; the number of global dependencies
 pub record Reply : Type 0 where

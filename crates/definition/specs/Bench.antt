@@ -3,6 +3,7 @@
 -- defined, in crates/listings
 use Prim.Native.Nat.{ℕ, zero, suc, _+_, _-_}
 use mathlib.Core.Path.{_≡_}
+use mathlib.Core.Bool.{Bool, false}
 use mathlib.Core.List.{List, [], _∷_, _++_, map}
 use lib.ListN.{length, getD, set, replicate}
 use Rattle.words.specs.Opcode.{Instruction, toInstruction, word, Pop, PushConstant, ReturnOp, LocalSet, LocalGet, LocalInit, ContextSet, ContextGet}
@@ -26,7 +27,7 @@ use Rattle.definition.specs.Compiler.{compileOperation, compileInfixExpr
 use Rattle.definition.specs.Compiler.{compileArrayExpression, compilePart, compileNoPart, compileIfExpression, compileForStatement}
 use Rattle.definition.specs.Compiler.{compileExpressionStatement, compileValued, compileBare, compileRescue, deeper, skip, andThen}
 use Rattle.definition.specs.Compiler.{compileExpression, compileParameter, compileParameters, compileFunctionDefinitionBase}
-use Rattle.definition.specs.Book.{Function, defineContextLocal, compileAlias, compileIncludeDefinition, compileBinding}
+use Rattle.definition.specs.Book.{Function, defineContextLocal, compileAlias, compileIncludeDefinition, compileInclude, compileBinding}
 use Rattle.definition.specs.Book.{compileLocalDefinition, compileProperties, compileModelDefinition, compileBase, addPlainFunction}
 use Rattle.definition.specs.Book.{compileFunctionDefinition, findModelIndexByLocalName, compileMethods, compileImplementDefinition}
 use Rattle.definition.specs.Book.{compileApplyDefinition, compileDefinition, compileDefinitions, compileDocument}
@@ -62,7 +63,7 @@ pub record Compiled : Type 0 where
 
 -- what the call came to: its row and place (0 and 0: delivered), the entries of errors, the functions, and the entries of the constants from the fourth on
 pub record Result : Type 0 where
-  row : ℕ
+  pub row : ℕ
   place : ℕ
   errors : Entries
   functions : List Compiled
@@ -99,19 +100,24 @@ resultOf (Refusal n p es) = record { row = n; place = p; errors = getD (errorTab
 abbrev pub ample : List ℕ
 ample = 0 ∷ replicate 12 100
 
--- the call on words, with areas of these lengths. Its line unfolds all that the call computes with, for whoever unfolds it
-unfoldable pub runIn : List ℕ → List ℕ → Result
+-- the call on words in a mode, with areas of these lengths. Its line unfolds all that the call computes with, for whoever unfolds it
+unfoldable pub runAs : Bool → List ℕ → List ℕ → Result
 unfolding shapeOf walkBy headAt soundAt thisAfter sameThis lacksBy withinOf fieldOf mayStand slotAfter isDue firstSlot goesOn inRange mayBeAt inPlace
     expressionOf listOf pairsOf parametersOf definitionOf documentOf documentsOf removePopOrPushNull emitReturn emitBreak exitBreakScope defineLocal firstOver
     addConstant emitConstant emitGlobal compileIntegerExpression compileFloatExpression compileStringExpression compileBooleanExpression compileNullExpression
     emitName compileIdentifierExpression compileThisExpression compileAssignName compilePair compileAssignExpression compileOperation compileInfixExpression
     compilePrefixExpression compileCallExpression compileArrayExpression compilePart compileNoPart compileIfExpression compileForStatement
     compileExpressionStatement compileValued compileBare compileRescue deeper skip andThen compileExpression compileParameter compileParameters
-    compileFunctionDefinitionBase defineContextLocal compileAlias compileIncludeDefinition compileBinding compileLocalDefinition compileProperties
+    compileFunctionDefinitionBase defineContextLocal compileAlias compileIncludeDefinition compileInclude compileBinding compileLocalDefinition compileProperties
     compileModelDefinition compileBase addPlainFunction compileFunctionDefinition findModelIndexByLocalName compileMethods compileImplementDefinition
     compileApplyDefinition compileDefinition compileDefinitions compileDocument neededIn drive compileNeeded answerBundle answerFrom answer tablesOf
     errorTables replyOf areasOf word
-runIn lengths w = resultOf (answer w lengths)
+runAs strict lengths w = resultOf (answer strict w lengths)
+
+-- in the present mode, as everything below
+unfoldable pub runIn : List ℕ → List ℕ → Result
+unfolding runAs
+runIn lengths w = runAs false lengths w
 
 unfoldable pub run : List ℕ → Result
 unfolding runIn
@@ -120,7 +126,7 @@ run w = runIn ample w
 -- the entries of an area, the words of all areas, the areas' totals, the entry point
 unfoldable pub table : ℕ → List ℕ → Entries
 unfolding run
-table area w = tableOf (answer w ample)
+table area w = tableOf (answer false w ample)
   where
     tableOf : Answer → Entries
     tableOf (Delivery c) = getD (tablesOf c) area []
@@ -128,15 +134,15 @@ table area w = tableOf (answer w ample)
 
 unfoldable pub wordsIn : List ℕ → List ℕ → Entries
 unfolding run
-wordsIn lengths w = areasOf lengths (answer w lengths)
+wordsIn lengths w = areasOf lengths (answer false w lengths)
 
 unfoldable pub totalsIn : List ℕ → List ℕ → List ℕ
 unfolding run
-totalsIn lengths w = replyOf (answer w lengths) .totals
+totalsIn lengths w = replyOf (answer false w lengths) .totals
 
 unfoldable pub entry : List ℕ → ℕ
 unfolding run
-entry w = replyOf (answer w ample) .entryPoint
+entry w = replyOf (answer false w ample) .entryPoint
 
 -- what a row expects: a delivery with its functions and constants, or a refusal
 abbrev pub delivered : List Compiled → Entries → Result

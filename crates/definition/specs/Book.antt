@@ -12,7 +12,7 @@ use Rattle.words.specs.Areas.{functionsArea, modelsArea, propertiesArea, method
 use Rattle.words.specs.Object.{Constant, constantOf, defaultConstants, NULL, TRUE, FALSE, integerKind, floatKind, modelKind, functionKind}
 use Rattle.definition.specs.FunctionState.{Entry, FunctionState, newFunctionState, findName}
 use Rattle.definition.specs.Prior.{Prior, nothingStands, bookIndex, findPublic}
-use Rattle.definition.specs.Uses.{Use, using′, sumOf}
+use Rattle.definition.specs.Uses.{Use, using′, notPublicArea, sumOf}
 use Rattle.definition.specs.Compiler.{CompilerContext, CompilerState, Work, withError, addConstant, compileFunctionDefinitionBase}
 
 -- `Function` of `runtime/program.rs`, with its name and its file's index of `FileInfo`, and its positions of `DebugInfo`
@@ -53,10 +53,11 @@ pub record ContextLocals : Type 0 where
 
 -- the Rust's `CompilerContext`; `pool` is what functions need of it. prior: what stood before a bundle (2026-01). Constants, marks and methods are whole
 -- lists, those that stood first; models, functions, context locals' names and values, and assemblies are those added, and their indices go on from
--- what stood
+-- what stood. strict: the mode, 'chosen for the whole bundle' (2026-07); no deed changes it
 pub record Context : Type 0 where
   pub pool : CompilerContext
   pub prior : Prior
+  pub strict : Bool
   pub program : ProgramParts
   pub locals : ContextLocals
   pub assemblies : List Assembly
@@ -71,11 +72,12 @@ pub record Book : Type 0 where
 abbrev pub Deed : Type 0
 Deed = Book → Book
 
--- `CompilerContext::new`
-abbrev pub newContext : Context
-newContext = record {
+-- `CompilerContext::new`, in a mode
+abbrev pub newContext : Bool → Context
+newContext strict = record {
   pool = record { constants = defaultConstants; globals = []; localCount = 0 };
   prior = nothingStands;
+  strict = strict;
   program = record { models = []; methods = []; functions = []; entryPoint = 0 };
   locals = record { values = []; names = [] };
   assemblies = [];
@@ -83,16 +85,16 @@ newContext = record {
 
 -- one field anew
 abbrev pub withPool : CompilerContext → Context → Context
-withPool p c = record { pool = p; prior = c .prior; program = c .program; locals = c .locals; assemblies = c .assemblies }
+withPool p c = record { pool = p; prior = c .prior; strict = c .strict; program = c .program; locals = c .locals; assemblies = c .assemblies }
 
 abbrev pub withProgram : ProgramParts → Context → Context
-withProgram p c = record { pool = c .pool; prior = c .prior; program = p; locals = c .locals; assemblies = c .assemblies }
+withProgram p c = record { pool = c .pool; prior = c .prior; strict = c .strict; program = p; locals = c .locals; assemblies = c .assemblies }
 
 abbrev pub withLocals : ContextLocals → Context → Context
-withLocals l c = record { pool = c .pool; prior = c .prior; program = c .program; locals = l; assemblies = c .assemblies }
+withLocals l c = record { pool = c .pool; prior = c .prior; strict = c .strict; program = c .program; locals = l; assemblies = c .assemblies }
 
 abbrev pub withAssemblies : List Assembly → Context → Context
-withAssemblies a c = record { pool = c .pool; prior = c .prior; program = c .program; locals = c .locals; assemblies = a }
+withAssemblies a c = record { pool = c .pool; prior = c .prior; strict = c .strict; program = c .program; locals = c .locals; assemblies = a }
 
 abbrev pub withModels : List Model → Context → Context
 withModels m c =
@@ -119,6 +121,11 @@ withLocalValues v c = withLocals (record { values = v; names = c .locals .names 
 
 abbrev pub withLocalNames : List Entry → Context → Context
 withLocalNames n c = withLocals (record { values = c .locals .values; names = n }) c
+
+-- in another mode
+abbrev pub inMode : Bool → Context → Context
+inMode strict c =
+    record { pool = c .pool; prior = c .prior; strict = strict; program = c .program; locals = c .locals; assemblies = c .assemblies }
 
 abbrev pub withContext : Context → Deed
 withContext c b = record { compiler = b .compiler; assembly = b .assembly; context = c; uses = b .uses }
@@ -240,9 +247,26 @@ abbrev pub includedFrom : Option ℕ → ℕ → ℕ → Context → Option ℕ
 includedFrom (some book) file name c = findPublic book name (c .prior .publics)
 includedFrom none file name c = publicOf (findAssembly file (c .assemblies)) name
 
--- `find_constant_index_by_include`: the rule of one included name (change point of 2026-07)
+-- one constant more, where there is one and the others are there
+abbrev pub withConstant : Option ℕ → Option (List ℕ) → Option (List ℕ)
+withConstant none cs = none
+withConstant (some c) none = none
+withConstant (some c) (some cs) = some (c ∷ cs)
+
+-- 2026-07: 'The rule for one name and the rule for the list are to be one definition': the constants of all names, or none where one of them is not public
+-- in that file
+abbrev pub includedNames : ℕ → List ℕ → Context → Option (List ℕ)
+includedNames file [] c = some []
+includedNames file (n ∷ ns) c = withConstant (includedFrom (bookIndex file 0 (c .prior .books)) file n c) (includedNames file ns c)
+
+abbrev pub onlyOne : Option (List ℕ) → Option ℕ
+onlyOne none = none
+onlyOne (some []) = none
+onlyOne (some (c ∷ cs)) = some c
+
+-- `find_constant_index_by_include`: the case of one name
 abbrev pub includedName : ℕ → ℕ → Context → Option ℕ
-includedName file name c = includedFrom (bookIndex file 0 (c .prior .books)) file name c
+includedName file name c = onlyOne (includedNames file (name ∷ []) c)
 
 abbrev pub giveValue : Option ℕ → Option ℕ → Deed
 giveValue local none b = b
@@ -258,6 +282,25 @@ compileAlias file a b =
 unfoldable pub compileIncludeDefinition : ℕ → List Alias → Deed
 compileIncludeDefinition file [] b = b
 compileIncludeDefinition file (a ∷ as′) b = compileIncludeDefinition file as′ (compileAlias file a b)
+
+-- the names that an include lists, repeated ones too, whether or not their aliases are there already
+abbrev pub publicNames : List Alias → List ℕ
+publicNames [] = []
+publicNames (a ∷ as′) = a .publicName .value ∷ publicNames as′
+
+abbrev pub isThere : Option (List ℕ) → Bool
+isThere none = false
+isThere (some cs) = true
+
+-- 'an include gives values only if every name it lists is public in that file' (strict); in the present mode any include gives those that are
+abbrev pub givesValues : ℕ → List Alias → Context → Bool
+givesValues file as′ c = cond (c .strict) (isThere (includedNames file (publicNames as′) c)) true
+
+-- 'otherwise no alias gets one and the bundle is refused': row 11 'as that include is reached', ahead of what the include itself would take. It is noted in
+-- its place among the steps of row 9, as an entry of an area that is not there and so has room for none (Uses.antt, `notPublicArea`)
+unfoldable pub compileInclude : ℕ → ℕ → List Alias → Deed
+compileInclude index file as′ b =
+    cond (givesValues file as′ (b .context)) (compileIncludeDefinition file as′ b) (noted (notPublicArea index) 1 b)
 
 -- local definitions
 
@@ -471,7 +514,7 @@ compileApplyDefinition source target b =
 -- `compile_definition`
 unfoldable pub compileDefinition : Definition → Deed
 compileDefinition (LocalDefinition bs) b = compileLocalDefinition bs b
-compileDefinition (IncludeDefinition file as′) b = compileIncludeDefinition (file .value) as′ b
+compileDefinition (IncludeDefinition index file as′) b = compileInclude index (file .value) as′ b
 compileDefinition (ModelDefinition n ps) b = compileModelDefinition n ps b .book
 compileDefinition (PublicModelDefinition n ps) b = publish (n .value) (compileModelDefinition n ps b)
 compileDefinition (PlainFunction f) b = compileFunctionDefinition f b .book

@@ -18,7 +18,7 @@ use Rattle.definition.specs.Prior.{fileNumbers}
 
 -- the book that a definition includes
 abbrev pub includedFile : Definition → Option ℕ
-includedFile (IncludeDefinition file as′) = some (file .value)
+includedFile (IncludeDefinition index file as′) = some (file .value)
 includedFile (LocalDefinition x) = none
 includedFile (ModelDefinition x y) = none
 includedFile (PublicModelDefinition x y) = none

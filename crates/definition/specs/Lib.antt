@@ -12,6 +12,8 @@ pub mod Within
 pub mod ProgramCheck
 pub mod Promise
 pub mod SharedOnce
+pub mod Strict
 pub mod Bench
 pub mod WithinBench
 pub mod PriorBench
+pub mod StrictBench

@@ -2,6 +2,7 @@
 -- A row has the words of a bundle and what the call comes to on them. All are proved by computing, in proofs/AllStandingRows.antt
 use Prim.Native.Nat.{ℕ}
 use mathlib.Core.Path.{_≡_}
+use mathlib.Core.Bool.{false}
 use mathlib.Core.List.{List, [], _∷_, _++_}
 use lib.ListN.{getD, replicate}
 use Rattle.words.specs.Object.{constantOf, defaultConstants, modelKind, functionKind}
@@ -13,11 +14,11 @@ use Rattle.definition.specs.Answer.{Answer, Delivery, Refusal, answerFro
 use Rattle.definition.specs.Bench.{r, bundle, ample, run}
 
 -- an entry of area 1 at a position
-abbrev code : ℕ → ℕ → ℕ → List ℕ
+abbrev pub code : ℕ → ℕ → ℕ → List ℕ
 code opcode operand position = word (toInstruction opcode operand) ∷ position ∷ []
 
 -- what stands: book 2 with the public function 3, whose code is the last two of three instructions, and the model 4 with the properties 6 and 5
-abbrev stood : Prior
+abbrev pub stood : Prior
 stood = record {
   code = code ReturnOp 0 7 ∷ code PushConstant 0 7 ∷ code ReturnOp 0 7 ∷ [];
   functions = (0 ∷ 0 ∷ 0 ∷ 0 ∷ 1 ∷ 2 ∷ 0 ∷ 3 ∷ []) ∷ [];
@@ -29,10 +30,11 @@ stood = record {
 }
 
 -- with the constants 3, function 0, and 4, model 0, which is marked, and a method of the model
-abbrev standing : Context
+abbrev pub standing : Context
 standing = record {
   pool = record { constants = defaultConstants ++ (constantOf functionKind 0 ∷ constantOf modelKind 0 ∷ []); globals = 4 ∷ []; localCount = 2 };
   prior = stood;
+  strict = false;
   program = record { models = []; methods = record { model = 0; name = 5; function = 0 } ∷ []; functions = []; entryPoint = 0 };
   locals = record { values = []; names = [] };
   assemblies = [];
@@ -57,7 +59,7 @@ refusedOnto lengths w = rowOf (answerFrom standing w lengths)
 
 -- book 7: `include 2` of the name 3 as 8, and of 4, which is not public, as 9; the public model 10 with the property 11; the function 12, which reads 8; and
 -- the function 13 of the model
-abbrev book7 : List ℕ
+abbrev pub book7 : List ℕ
 book7 =
     bundle (r 1 14 0 7
     ∷ r 11 5 0 2 ∷ r 40 1 0 3 ∷ r 40 1 0 8 ∷ r 40 1 0 4 ∷ r 40 1 0 9

@@ -1,6 +1,7 @@
 -- The promise of the compile call: 01's three demands in one claim about its reply and the words of the twelve areas at exit
 use Prim.Native.Nat.{ℕ}
 use mathlib.Core.Path.{_≡_}
+use mathlib.Core.Bool.{Bool}
 use mathlib.Core.List.{List, [], _∷_, map}
 use lib.ListN.{length}
 use Rattle.words.specs.declared.reply.Reply as struct
@@ -31,9 +32,9 @@ abbrev pub logsIn : Answer → List Log
 logsIn (Delivery c) = logsOf (c .program .functions)
 logsIn (Refusal n p es) = []
 
--- what the call answers to the words of a tree, with areas of some lengths
-abbrev pub answering : List ℕ → Areas → Answer
-answering tree before = answer tree (lengthsOf before)
+-- what the call answers to the words of a tree in a mode, with areas of some lengths
+abbrev pub answering : Bool → List ℕ → Areas → Answer
+answering strict tree before = answer strict tree (lengthsOf before)
 
 -- what is in the areas, beside the reply's totals, entry point and global dependencies
 abbrev pub programOf : Areas → struct.Reply → Program
@@ -44,9 +45,9 @@ programOf m r = record {
   globals = r .totals .«global_dependencies»;
 }
 
-pub record Compiles (tree : List ℕ) (before after : Areas) (r : struct.Reply) : Type 0 where
+pub record Compiles (strict : Bool) (tree : List ℕ) (before after : Areas) (r : struct.Reply) : Type 0 where
   -- demands 1 and 2: the reply and every word lent are the definition's (program, then zeros; a refusal's errors, and zeros)
-  pub reply : saying r ≡ replyOf (answering tree before)
-  pub words : after ≡ areasOf (lengthsOf before) (answering tree before)
+  pub reply : saying r ≡ replyOf (answering strict tree before)
+  pub words : after ≡ areasOf (lengthsOf before) (answering strict tree before)
   -- demand 3, of what is in the areas at exit; before a fresh call no function stands
-  pub within : r .number ≡ 0 → KeepsWithin (programOf after r) 0 (logsIn (answering tree before))
+  pub within : r .number ≡ 0 → KeepsWithin (programOf after r) 0 (logsIn (answering strict tree before))

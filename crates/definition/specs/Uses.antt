@@ -31,6 +31,14 @@ unfoldable pub firstOver : Limits → List Use → Option ℕ
 firstOver l [] = none
 firstOver l (u ∷ us) = orElse (firstOver l us) (overBy l u)
 
+-- 2026-07, row 11 'name not public' with 'the include's record index, as that include is reached': it is met among the steps of row 9, and whichever comes
+-- first answers. So it is a note of an area that is not there, and has room for no entry: 16 and the include's index on
+abbrev pub firstNotPublic : ℕ
+firstNotPublic = 16
+
+abbrev pub notPublicArea : ℕ → ℕ
+notPublicArea index = firstNotPublic + index
+
 -- the greatest number of entries of an area in use at any step (2026-09)
 unfoldable pub greatestUse : ℕ → List Use → ℕ
 greatestUse area [] = 0

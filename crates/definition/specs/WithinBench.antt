@@ -154,7 +154,7 @@ inner-and-outer = refl
 
 unfoldable logged : List ℕ → List Log
 unfolding run
-logged w = logsIn (answer w (0 ∷ replicate 12 200))
+logged w = logsIn (answer false w (0 ∷ replicate 12 200))
 
 -- (g) of 01: `this` is read at 0
 this-logged : logged (1 ∷ 4 ∷ 0 ∷ 2 ∷ 14 ∷ 3 ∷ 0 ∷ 3 ∷ 25 ∷ 2 ∷ 0 ∷ 0 ∷ 31 ∷ 1 ∷ 0 ∷ 0 ∷ []) ≡ noted [] (0 ∷ []) ∷ []

@@ -1,7 +1,7 @@
 -- What no deed changes of a book: what stood before, the books put away, its own name and index; and notes are only added. By cases over each
 -- deed. Assumes nothing.
 use Prim.Native.Nat.{ℕ}
-use mathlib.Core.Path.{_≡_, refl, ap, _∙_}
+use mathlib.Core.Path.{_≡_, refl, sym, ap, _∙_}
 use mathlib.Core.Bool.{Bool, true, false, cond}
 use mathlib.Core.Option.{Option, none, some}
 use mathlib.Core.List.{List, [], _∷_}
@@ -12,7 +12,10 @@ use Rattle.definition.specs.Prior.{Prior, bookIndex, findPublic}
 use Rattle.definition.specs.Book.{Assembly, findAssembly, publicOf, includedFrom}
 use Rattle.definition.specs.Book.{Book, Deed, working, pushBookError, addBookConstant, noted, defineContextLocalBy, defineContextLocal, setLocalValue}
 use Rattle.definition.specs.Book.{giveValue, includedName, compileAlias, compileIncludeDefinition, Value, Standing, Adding, NoConstant, valueOf, compileValue}
+use Rattle.definition.specs.Book.{givesValues, compileInclude}
 use Rattle.definition.specs.Book.{compileBindingBy, compileBinding, compileLocalDefinition}
+use Rattle.definition.proofs.Lists.{cond-case}
+use Rattle.definition.proofs.Program.{one-name}
 use Rattle.definition.proofs.Steady.{Longer, same, more, longer-trans, steady-constant}
 
 pub record Calm (b b′ : Book) : Type 0 where
@@ -40,7 +43,9 @@ calm-trans x y = record {
 -- so an include finds what it found before
 pub included-calm : {b b′ : Book} (file name : ℕ) → Calm b b′ → includedName file name (b′ .context) ≡ includedName file name (b .context)
 included-calm {b} {b′} file name c =
-    ap (λ (p : Prior). includedFrom (bookIndex file 0 (p .books)) file name (b′ .context)) (c .prior) ∙ go (bookIndex file 0 (b .context .prior .books))
+    one-name file name (b′ .context)
+    ∙ ap (λ (p : Prior). includedFrom (bookIndex file 0 (p .books)) file name (b′ .context)) (c .prior) ∙ go (bookIndex file 0 (b .context .prior .books))
+    ∙ sym (one-name file name (b .context))
   where
     go : (o : Option ℕ) → includedFrom o file name (b′ .context) ≡ includedFrom o file name (b .context)
     go none = ap (λ (as′ : List Assembly). publicOf (findAssembly file as′) name) (c .assemblies)
@@ -81,6 +86,10 @@ pub calm-include : (file : ℕ) (as′ : List Alias) → Calms (compileIncludeDe
 unfolding compileIncludeDefinition
 calm-include file [] b = calm-refl b
 calm-include file (a ∷ as′) b = calm-trans (calm-alias file a b) (calm-include file as′ (compileAlias file a b))
+
+pub calm-include-or-row-11 : (index file : ℕ) (as′ : List Alias) → Calms (compileInclude index file as′)
+unfolding compileInclude
+calm-include-or-row-11 index file as′ b = cond-case (Calm b) (givesValues file as′ (b .context)) (λ t. calm-include file as′ b) (λ t. calm-noted _ 1 b)
 
 pub calm-compile-value : (v : Value) (t : Token) (o : Option ℕ) → Calms (compileValue v t o)
 calm-compile-value (Standing c) t o b = calm-value o c b

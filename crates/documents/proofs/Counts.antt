@@ -3,6 +3,26 @@ use Prim.Native.Nat.{ℕ}
 use Rattle.building.specs.declared.taking.Taken.{Taken}
 use Rattle.documents.specs.declared.book.Book as struct
 
+-- the mark anew
+abbrev pub withMark : ℕ → struct.Book → struct.Book
+withMark n s = record {
+  full = n;
+  code = s .code;
+  constants = s .constants;
+  functions = s .functions;
+  models = s .models;
+  properties = s .properties;
+  methods = s .methods;
+  locals = s .locals;
+  publics = s .publics;
+  errors = s .errors;
+  file = s .file;
+  «first_local» = s .«first_local»;
+  «first_public» = s .«first_public»;
+  «entry_point» = s .«entry_point»;
+  strict = s .strict;
+}
+
 -- the counts after an entry more of area 3
 abbrev pub withFunctionCount : Taken → struct.Book → struct.Book
 withFunctionCount t s = record {
@@ -20,6 +40,7 @@ withFunctionCount t s = record {
   «first_local» = s .«first_local»;
   «first_public» = s .«first_public»;
   «entry_point» = s .«entry_point»;
+  strict = s .strict;
 }
 
 -- the counts after an entry more of area 4
@@ -39,6 +60,7 @@ withModelCount t s = record {
   «first_local» = s .«first_local»;
   «first_public» = s .«first_public»;
   «entry_point» = s .«entry_point»;
+  strict = s .strict;
 }
 
 -- the counts after an entry more of area 5
@@ -58,6 +80,7 @@ withPropertyCount t s = record {
   «first_local» = s .«first_local»;
   «first_public» = s .«first_public»;
   «entry_point» = s .«entry_point»;
+  strict = s .strict;
 }
 
 -- the counts after an entry more of area 6
@@ -77,6 +100,7 @@ withMethodCount t s = record {
   «first_local» = s .«first_local»;
   «first_public» = s .«first_public»;
   «entry_point» = s .«entry_point»;
+  strict = s .strict;
 }
 
 -- the counts after an entry more of area 7
@@ -96,6 +120,7 @@ withLocals t s = record {
   «first_local» = s .«first_local»;
   «first_public» = s .«first_public»;
   «entry_point» = s .«entry_point»;
+  strict = s .strict;
 }
 
 -- the counts after an entry more of area 8
@@ -115,6 +140,7 @@ withPublicCount t s = record {
   «first_local» = s .«first_local»;
   «first_public» = s .«first_public»;
   «entry_point» = s .«entry_point»;
+  strict = s .strict;
 }
 
 -- the entry point anew
@@ -134,4 +160,5 @@ entering i s = record {
   «first_local» = s .«first_local»;
   «first_public» = s .«first_public»;
   «entry_point» = i;
+  strict = s .strict;
 }

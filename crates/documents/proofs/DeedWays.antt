@@ -123,6 +123,7 @@ module _ {s : struct.Book} {c k f m p t l u n b e : List ℕ} {x : Book} where
         prior = S .prior;
         file = S .file;
         last-index = S .last-index;
+        mode = S .mode;
         indexed = S .indexed;
         entry = S .entry;
         names = S .names;
@@ -130,7 +131,7 @@ module _ {s : struct.Book} {c k f m p t l u n b e : List ℕ} {x : Book} where
         errors = S .errors;
       }
 
-fitted-locals : {κ : Limits} {s s′ : struct.Book} {c k f m p t l l′ u n b e : List ℕ} → length l′ ≡ length l → Fitted κ (shelf s c k f m p t l u n b e)
+pub fitted-locals : {κ : Limits} {s s′ : struct.Book} {c k f m p t l l′ u n b e : List ℕ} → length l′ ≡ length l → Fitted κ (shelf s c k f m p t l u n b e)
     → Fitted κ (shelf s′ c k f m p t l′ u n b e)
 fitted-locals long F = record {
   code = F .code;
@@ -144,6 +145,7 @@ fitted-locals long F = record {
   names = F .names;
   breaks = F .breaks;
   errors = F .errors;
+  others = F .others;
 }
 
 module _ {κ : Limits} {ps : List ℕ} {s : struct.Book} {c k f m p t l u n b e : List ℕ} {x : Book} (z : s .full ≡ 0)
@@ -256,6 +258,7 @@ value-keeping {s = s} {l = l} {x = x} z i constant {l′} d h H =
         prior = S .prior;
         file = S .file;
         last-index = S .last-index;
+        mode = S .mode;
         indexed = S .indexed;
         entry = S .entry;
         names = S .names;

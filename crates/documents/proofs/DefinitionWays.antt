@@ -16,14 +16,14 @@ use Rattle.definition.proofs.Limits.{LimitedFunction, functionsIn}
 use Rattle.documents.specs.declared.book.Book as struct
 use Rattle.documents.specs.Shelf.{Shelf, shelf, Keeping, Shelved}
 use Rattle.documents.specs.Deeds.{DefinesLocals}
-use Rattle.documents.specs.Including.{TakesNames}
+use Rattle.documents.specs.Including.{Includes}
 use Rattle.documents.specs.Modelling.{DefinesModel, Publishes, Applies}
 use Rattle.documents.specs.Adding.{DefinesFunction}
 use Rattle.documents.specs.Implementing.{Implements}
 use Rattle.documents.specs.Documents.{MeetsDefinition}
 use Rattle.documents.proofs.ModelWays.{alone-book, alone-publish, places-alone}
 use Rattle.documents.proofs.MakingWays.{bounded, all-bounded}
-use Rattle.documents.proofs.Calm.{Calms, calm-trans, calm-local-definition, calm-include}
+use Rattle.documents.proofs.Calm.{Calms, calm-trans, calm-local-definition, calm-include-or-row-11}
 use Rattle.documents.proofs.ModelCalm.{calm-model-definition, calm-publish, calm-apply}
 use Rattle.documents.proofs.FunctionDeeds.{calm-function}
 use Rattle.documents.proofs.ImplementWays.{calm-implement}
@@ -38,16 +38,15 @@ module _ {tree : List ℕ} {at end kind : ℕ} {books : List ℕ} (kind-is : kin
           → Keeping κ [] (shelf s c k f m p t l u n b e) x → Keeping κ [] (shelf s′ c k′ f m p t l′ u n b e′) (compileDefinition d x)
       go _ (v-LocalDefinition {bs = bs}) h q κ x H = D .defines bs (h .1) (omega arith) .deeds c f m p t u n b .meets κ [] x H
 
-  pub definition-include : {s′ : struct.Book} {l′ : List ℕ} → kind ≡ 11 → TakesNames tree (at + 1) end (valueAt tree at) books u s l s′ l′
+  pub definition-include : {s′ : struct.Book} {l′ : List ℕ} → kind ≡ 11 → Includes tree at end books u s l s′ l′
       → MeetsDefinition tree at end books (shelf s c k f m p t l u n b e) (shelf s′ c k f m p t l′ u n b e)
   unfolding compileDefinition DefinitionAt sizeD
   definition-include {s′} {l′} is D = record { meets = λ d h q limited κ x shelved H. go d (seeD d tree at h kind-is is) h q κ x shelved H }
     where
       go : (d : Definition) → ViewD 11 d → DefinitionAt d tree at → at + sizeD d ≡ end → (κ : Limits) (x : Book) → Shelved books (x .context)
           → Keeping κ [] (shelf s c k f m p t l u n b e) x → Keeping κ [] (shelf s′ c k f m p t l′ u n b e) (compileDefinition d x)
-      go _ (v-IncludeDefinition {t = file} {l = as′}) h q κ x shelved H =
-          let same : file .value ≡ valueAt tree at = ap (λ (y : Token). y .value) (h .0 .token) in
-          rw same (D .takes as′ (h .1) (omega arith) .deeds c k f m p t n b e .meets κ [] x shelved H)
+      go _ (v-IncludeDefinition {n = index} {t = file} {l = as′}) h q κ x shelved H =
+          D .includes index file as′ h q .deeds c k f m p t n b e .meets κ [] x shelved H
 
   module _ {place : ℕ} {s₁ : struct.Book} {k₁ m₁ p₁ l₁ e₁ : List ℕ} (D : DefinesModel tree at end s k m p l e place s₁ k₁ m₁ p₁ l₁ e₁) where
     pub definition-model : kind ≡ 12 → MeetsDefinition tree at end books (shelf s c k f m p t l u n b e) (shelf s₁ c k₁ f m₁ p₁ t l₁ u n b e₁)
@@ -131,7 +130,7 @@ module _ {tree : List ℕ} {at end kind : ℕ} {books : List ℕ} (kind-is : kin
 pub calm-definition : (d : Definition) → Calms (compileDefinition d)
 unfolding compileDefinition
 calm-definition (LocalDefinition bs) b = calm-local-definition bs b
-calm-definition (IncludeDefinition file as′) b = calm-include (file .value) as′ b
+calm-definition (IncludeDefinition index file as′) b = calm-include-or-row-11 index (file .value) as′ b
 calm-definition (ModelDefinition n ps) b = calm-model-definition n ps b
 calm-definition (PublicModelDefinition n ps) b = calm-trans (calm-model-definition n ps b) (calm-publish (n .value) (compileModelDefinition n ps b))
 calm-definition (PlainFunction f) b = calm-function f b

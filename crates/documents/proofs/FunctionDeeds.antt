@@ -141,6 +141,7 @@ keeping-entry i H = record {
     names = H .fitted .names;
     breaks = H .fitted .breaks;
     errors = H .fitted .errors;
+    others = H .fitted .others;
   };
   full = H .full;
   rest = λ z.
@@ -164,6 +165,7 @@ keeping-entry i H = record {
         prior = S .prior;
         file = S .file;
         last-index = S .last-index;
+        mode = S .mode;
         indexed = S .indexed;
         entry = refl;
         names = S .names;

@@ -138,6 +138,7 @@ module _ {κ : Limits} {ps : List ℕ} {s : struct.Book} {c₀ k₀ n₀ b₀ e�
         names = K .names;
         breaks = K .breaks;
         errors = K .errors;
+        others = F .others;
       }
 
   module _ (l′ : Bounded f) (name : ℕ) where
@@ -185,6 +186,7 @@ module _ {κ : Limits} {ps : List ℕ} {s : struct.Book} {c₀ k₀ n₀ b₀ e�
           prior = S .prior;
           file = S .file;
           last-index = S .last-index;
+          mode = S .mode;
           indexed = S .indexed;
           entry = S .entry;
           names = A .filled-names;

@@ -13,14 +13,15 @@ use borrow.Author.Tests.{eq-eqb, ne-eqb}
 use Rattle.words.specs.Areas.{entryField}
 use Rattle.words.proofs.Entries.{field-in}
 use Rattle.definition.specs.FunctionState.{Entry, findName, orElse}
-use Rattle.definition.specs.Book.{Assembly, Book, findAssembly, publicOf, includedFrom, includedName}
+use Rattle.definition.specs.Book.{Assembly, Book, findAssembly, publicOf, includedFrom, includedName, withConstant, includedNames, isThere}
+use Rattle.definition.proofs.Program.{one-name}
 use Rattle.definition.specs.Program.{Entries, entriesFrom, publicEntries, assemblyPublics, publicTable}
 use Rattle.definition.specs.Prior.{bookIndex, hasKey, findPublic}
 use Rattle.definition.specs.Within.{All, nil, _&_}
 use Rattle.building.specs.Found.{firstFrom}
 use Rattle.building.proofs.Filling.{filled-field}
 use Rattle.documents.specs.Shelf.{Shelf, Stock, Shelved}
-use Rattle.documents.specs.Including.{isBook, findBookC, isPair, findPairC, publicConstant, includedBy, includedC}
+use Rattle.documents.specs.Including.{isBook, findBookC, isPair, findPairC, publicConstant, includedBy, includedC, isSome, allNamesC}
 
 abbrev nobody : Assembly
 nobody = record { filename = 0; index = 0; publics = [] }
@@ -173,7 +174,7 @@ index-below file i j (e ∷ es) q = go (eqb (getD e 0 0) file) (λ r. omega (ari
 pub included-law : {ps : List ℕ} {m : Shelf} {x : Book} {books : List ℕ} (file name : ℕ) → Stock ps m x → Shelved books (x .context)
     → includedC (m .book .file) (m .book .publics) file name books (m .publics) ≡ includedName file name (x .context)
 included-law {m = m} {x = x} {books = books} file name S B =
-    ap (λ (o : Option ℕ). includedBy o (m .book .publics) name (m .publics)) found ∙ go (bookIndex file 0 stood) refl
+    ap (λ (o : Option ℕ). includedBy o (m .book .publics) name (m .publics)) found ∙ go (bookIndex file 0 stood) refl ∙ sym (one-name file name (x .context))
   where
     as′ : List Assembly
     as′ = x .context .assemblies
@@ -222,3 +223,16 @@ included-law {m = m} {x = x} {books = books} file name S B =
     go (some j) q =
         let h : j < n = omega (arith, index-below file 0 j stood q) in
         public j (omega arith) ∙ rw (names-past j name 0 n as′ (S .indexed) h) (or-none _)
+
+-- `all_public`, of the book that is found: the rule of the list
+pub names-law : {ps : List ℕ} {m : Shelf} {x : Book} {books : List ℕ} (file : ℕ) (names : List ℕ) → Stock ps m x → Shelved books (x .context)
+    → allNamesC (findBookC (m .book .file) file books) (m .book .publics) names (m .publics) ≡ isThere (includedNames file names (x .context))
+names-law file [] S B = refl
+names-law {x = x} file (n ∷ ns) S B =
+    rw (included-law file n S B ∙ one-name file n (x .context), names-law file ns S B)
+    (go (includedFrom (bookIndex file 0 (x .context .prior .books)) file n (x .context)) (includedNames file ns (x .context)))
+  where
+    go : (o : Option ℕ) (cs : Option (List ℕ)) → cond (isSome o) (isThere cs) false ≡ isThere (withConstant o cs)
+    go none cs = refl
+    go (some c) none = refl
+    go (some c) (some l) = refl

@@ -54,6 +54,7 @@ named d H = record {
         prior = S .prior;
         file = S .file;
         last-index = S .last-index;
+        mode = S .mode;
         indexed = S .indexed;
         entry = S .entry;
         names = S .names;
@@ -110,6 +111,7 @@ put-away {x = x} clean H = record {
       names = H .fitted .names;
       breaks = H .fitted .breaks;
       errors = H .fitted .errors;
+      others = H .fitted .others;
     };
     full = H .full;
     rest = λ z.
@@ -138,6 +140,7 @@ put-away {x = x} clean H = record {
           prior = S .prior;
           file = refl;
           last-index = refl;
+          mode = S .mode;
           indexed = indexed-more (length (x .context .prior .books)) as′ a (S .last-index) (S .indexed);
           entry = S .entry;
           names = S .names;

@@ -85,6 +85,7 @@ module _ {κ : Limits} {ps : List ℕ} {s : struct.Book} {c k f m p t l u n b e 
         names = K .names;
         breaks = K .breaks;
         errors = K .errors;
+        others = H .fitted .others;
       };
       full = marked-by;
       rest = λ z.
@@ -109,6 +110,7 @@ module _ {κ : Limits} {ps : List ℕ} {s : struct.Book} {c k f m p t l u n b e 
             prior = S .prior;
             file = S .file;
             last-index = S .last-index;
+            mode = S .mode;
             indexed = S .indexed;
             entry = S .entry;
             names = B .filled-names;

@@ -73,6 +73,7 @@ stock-methods S f = record {
   prior = S .prior;
   file = S .file;
   last-index = S .last-index;
+  mode = S .mode;
   indexed = S .indexed;
   entry = S .entry;
   names = S .names;
@@ -94,6 +95,7 @@ fitted-methods e F = record {
   names = F .names;
   breaks = F .breaks;
   errors = F .errors;
+  others = F .others;
 }
 
 -- area 8
@@ -126,6 +128,7 @@ stock-publics S f = record {
   prior = S .prior;
   file = S .file;
   last-index = S .last-index;
+  mode = S .mode;
   indexed = S .indexed;
   entry = S .entry;
   names = S .names;
@@ -147,6 +150,7 @@ fitted-publics e F = record {
   names = F .names;
   breaks = F .breaks;
   errors = F .errors;
+  others = F .others;
 }
 
 -- area 5: a property more of the model that is not there yet
@@ -174,6 +178,7 @@ stock-properties S f = record {
   prior = S .prior;
   file = S .file;
   last-index = S .last-index;
+  mode = S .mode;
   indexed = S .indexed;
   entry = S .entry;
   names = S .names;
@@ -195,6 +200,7 @@ fitted-properties e F = record {
   names = F .names;
   breaks = F .breaks;
   errors = F .errors;
+  others = F .others;
 }
 
 -- area 4: a model with the properties that were taken for it
@@ -224,6 +230,7 @@ stock-models S f e = record {
   prior = S .prior;
   file = S .file;
   last-index = S .last-index;
+  mode = S .mode;
   indexed = S .indexed;
   entry = S .entry;
   names = S .names;
@@ -245,4 +252,5 @@ fitted-models e F = record {
   names = F .names;
   breaks = F .breaks;
   errors = F .errors;
+  others = F .others;
 }

@@ -35,6 +35,7 @@ resumedBook s r = record {
   «first_local» = s .«first_local»;
   «first_public» = s .«first_public»;
   «entry_point» = s .«entry_point»;
+  strict = s .strict;
 }
 
 -- `fault`: the errors

@@ -40,6 +40,7 @@ openedBook s index = record {
   «first_local» = s .locals;
   «first_public» = s .publics;
   «entry_point» = s .«entry_point»;
+  strict = s .strict;
 }
 
 -- between two books it does not matter whose file is open

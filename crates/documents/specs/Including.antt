@@ -2,15 +2,16 @@
 -- Private contracts alone cite this file: whoever reads the promises need not believe it
 use Prim.Native.Nat.{ℕ, _+_, _-_}
 use mathlib.Core.Path.{_≡_}
-use mathlib.Core.Bool.{Bool, false, cond}
+use mathlib.Core.Bool.{Bool, true, false, cond}
 use mathlib.Core.Option.{Option, none, some}
-use mathlib.Core.List.{List}
+use mathlib.Core.List.{List, [], _∷_}
 use lib.Dec.{eqb}
-use Rattle.words.specs.Ast.{Alias}
+use Rattle.words.specs.Ast.{Token, Alias, IncludeDefinition}
 use Rattle.words.specs.Areas.{entryField}
-use Rattle.tree.specs.At.{Leaf, AliasAt, RunAt, runSize, double}
+use Rattle.words.specs.Record.{valueAt}
+use Rattle.tree.specs.At.{Leaf, AliasAt, RunAt, runSize, double, DefinitionAt, sizeD}
 use Rattle.definition.specs.Uses.{Limits}
-use Rattle.definition.specs.Book.{Book, Deed, compileAlias, compileIncludeDefinition}
+use Rattle.definition.specs.Book.{Book, Deed, compileAlias, compileIncludeDefinition, publicNames, compileInclude}
 use Rattle.building.specs.Found.{firstFrom}
 use Rattle.documents.specs.declared.book.Book as struct
 use Rattle.documents.specs.Shelf.{Shelf, shelf, Keeping, Shelved}
@@ -55,7 +56,31 @@ pub record LocalsInclude (books u : List ℕ) (s : struct.Book) (l : List ℕ) (
 pub record TakesName (tree : List ℕ) (at next file : ℕ) (books u : List ℕ) (s : struct.Book) (l : List ℕ) (s′ : struct.Book) (l′ : List ℕ) : Type 0 where
   pub takes : (a : Alias) → Leaf tree at 40 (a .publicName) → Leaf tree next 40 (a .alias) → LocalsInclude books u s l s′ l′ (compileAlias file a)
 
--- `include_definition`: its pairs, from a place up to the end
+-- `aliases`: the pairs, from a place up to the end
 pub record TakesNames (tree : List ℕ) (at end file : ℕ) (books u : List ℕ) (s : struct.Book) (l : List ℕ) (s′ : struct.Book) (l′ : List ℕ) : Type 0 where
   pub takes : (as′ : List Alias) → RunAt AliasAt double as′ tree at → at + runSize double as′ ≡ end
       → LocalsInclude books u s l s′ l′ (compileIncludeDefinition file as′)
+
+-- `is_public`
+abbrev pub isSome : Option ℕ → Bool
+isSome none = false
+isSome (some c) = true
+
+-- whether a book has all of some public names
+abbrev pub allNamesC : Option ℕ → ℕ → List ℕ → List ℕ → Bool
+allNamesC book count [] w = true
+allNamesC book count (n ∷ ns) w = cond (isSome (includedBy book count n w)) (allNamesC book count ns w) false
+
+-- `all_public`: those of the pairs from a place up to the end
+pub record AsksNames (tree : List ℕ) (at end : ℕ) (book : Option ℕ) (count : ℕ) (u : List ℕ) (r : Bool) : Type 0 where
+  pub asks : (as′ : List Alias) → RunAt AliasAt double as′ tree at → at + runSize double as′ ≡ end → r ≡ allNamesC book count (publicNames as′) u
+
+-- `gives_values`, of the include at a place
+pub record AsksMode (tree : List ℕ) (at end : ℕ) (books u : List ℕ) (s : struct.Book) (r : Bool) : Type 0 where
+  pub asks : (as′ : List Alias) → RunAt AliasAt double as′ tree (at + 1) → at + 1 + runSize double as′ ≡ end
+      → r ≡ cond (s .strict) (allNamesC (findBookC (s .file) (valueAt tree at) books) (s .publics) (publicNames as′) u) true
+
+-- `include_definition`, of the include at a place
+pub record Includes (tree : List ℕ) (at end : ℕ) (books u : List ℕ) (s : struct.Book) (l : List ℕ) (s′ : struct.Book) (l′ : List ℕ) : Type 0 where
+  pub includes : (index : ℕ) (file : Token) (as′ : List Alias) → DefinitionAt (IncludeDefinition index file as′) tree at
+      → at + sizeD (IncludeDefinition index file as′) ≡ end → LocalsInclude books u s l s′ l′ (compileInclude index (file .value) as′)

@@ -7,7 +7,7 @@ use Rattle.words.specs.Areas.{codeArea, constantsArea, functionsArea, modelsAre
 use Rattle.words.specs.Areas.{scopeNamesArea, breaksArea, errorsArea, entryWord, widthOf}
 use Rattle.definition.specs.FunctionState.{Entry}
 use Rattle.definition.specs.Prior.{Prior}
-use Rattle.definition.specs.Uses.{Limits, firstOver}
+use Rattle.definition.specs.Uses.{Limits, limitOf, firstNotPublic, firstOver}
 use Rattle.definition.specs.Book.{Function, Context, Book, Deed, Placed, MaybePlaced, modelCount, publicCount, bookCount}
 use Rattle.definition.specs.Program.{entriesFrom, propertyEntries, publicEntries, errorEntry, codeTable, constantTable, functionTable, modelTable}
 use Rattle.definition.specs.Program.{propertyTable, methodTable, localTable, publicTable}
@@ -82,6 +82,7 @@ pub record Stock (ps : List ℕ) (m : Shelf) (b : Book) : Type 0 where
   pub indexed : (i : ℕ) → i < length (b .context .assemblies)
       → getD (b .context .assemblies) i (record { filename = 0; index = 0; publics = [] }) .index ≡ length (b .context .prior .books) + i
   pub entry : m .book .«entry_point» ≡ b .context .program .entryPoint
+  pub mode : m .book .strict ≡ b .context .strict
   pub names : Filled (widthOf scopeNamesArea) (m .names) [] 0
   pub breaks : Filled (widthOf breaksArea) (m .breaks) [] 0
   pub errors : Filled (widthOf errorsArea) (m .errors) (entriesFrom errorEntry 0 (b .compiler .errors)) (m .book .errors)
@@ -99,6 +100,8 @@ pub record Fitted (κ : Limits) (m : Shelf) : Type 0 where
   pub names : Sized κ scopeNamesArea (m .names)
   pub breaks : Sized κ breaksArea (m .breaks)
   pub errors : Sized κ errorsArea (m .errors)
+  -- no area has a number from here on, where the notes of row 11 are
+  pub others : (area : ℕ) → firstNotPublic ≤ area → limitOf κ area ≡ 0
 
 -- within the limits κ, the counts and areas stand for the book b
 pub record Keeping (κ : Limits) (ps : List ℕ) (m : Shelf) (b : Book) : Type 0 where

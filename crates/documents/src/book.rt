@@ -9,7 +9,9 @@ ghost use Prim.Native.Nat.{_+_};
 ghost use Rattle.documents.specs.Deeds.{resumedBook, ErrorsDo, ConstantsPlace, LocalsSeek, LocalsValue, AddsValue, GivesValue, Binds, DefinesLocals};
 ghost use Rattle.words.specs.Record.{valueAt};
 ghost use Rattle.building.specs.Found.{foundOf};
-ghost use Rattle.documents.specs.Including.{findBookC, isPair, findPairC, includedC, TakesName, TakesNames};
+ghost use mathlib.Core.Option.{some};
+ghost use Rattle.documents.specs.Including.{findBookC, isPair, findPairC, isSome, includedBy, includedC, TakesName, TakesNames, AsksNames, AsksMode};
+ghost use Rattle.documents.specs.Including.{Includes};
 use building::context;
 use building::function_state;
 use building::function_state::FunctionState;
@@ -22,7 +24,7 @@ use words::record::field;
 use words::reply;
 
 // The book under compilation: the first full area, the entries in use of each area, the book's index, where its context locals and public names start,
-// and the entry point.
+// the entry point, and the mode (2026-07). Where the mark is `FIRST_NOT_PUBLIC` or more it is no area's but row 11's.
 pub struct Book {
     pub full: u64,
     pub code: usize,
@@ -38,6 +40,7 @@ pub struct Book {
     pub first_local: usize,
     pub first_public: usize,
     pub entry_point: u64,
+    pub strict: bool,
 }
 
 // A constant's number, with the book.
@@ -326,8 +329,8 @@ fn alias(
     b
 }
 
-// `compile_include_definition`: its pairs.
-pub(crate) fn include_definition(
+// The pairs of an include.
+fn aliases(
     tree: &[u64],
     at: usize,
     end: usize,
@@ -351,4 +354,86 @@ pub(crate) fn include_definition(
         i = next + 1;
     }
     b
+}
+
+// Whether a book has a public name.
+fn is_public(publics: &[u64], count: usize, book: u64, name: u64) -> bool
+    ensures { λ r. ⌜ r ≡ isSome (includedBy (some book) count name (now (publics .entry))) ⌝ }
+{
+    let found = find_pair(publics, areas::PUBLIC_NAME_WORDS, 0, count, book, name);
+    if let Found::At(_i) = found {
+        return true;
+    }
+    false
+}
+
+// Whether a book has all the public names that the pairs of an include list.
+fn all_public(tree: &[u64], at: usize, end: usize, publics: &[u64], count: usize, book: u64) -> bool
+    ensures { λ r. ⌜ AsksNames (now (tree .entry)) (at + 1) end (some book) count (now (publics .entry)) r ⌝ }
+{
+    if end <= at {
+        return true;
+    }
+    let mut i = at + 1;
+    while 1 < end - i {
+        let next = i + 1;
+        let name = field(tree, i, record::VALUE);
+        if !is_public(publics, count, book, name) {
+            return false;
+        }
+        i = next + 1;
+    }
+    true
+}
+
+// Whether an include gives values: in the present mode always, in strict mode where every name that it lists is public in its file.
+fn gives_values(
+    tree: &[u64],
+    at: usize,
+    end: usize,
+    book: Book,
+    publics: &[u64],
+    books: &[u64],
+) -> bool
+    ensures { λ r. ⌜ AsksMode (now (tree .entry)) at end (now (books .entry)) (now (publics .entry)) book r ⌝ }
+{
+    if !book.strict {
+        return true;
+    }
+    let file = field(tree, at, record::VALUE);
+    let many = book.file as usize;
+    let there = find_book(books, many, file);
+    if let Found::At(j) = there {
+        return all_public(tree, at, end, publics, book.publics, j);
+    }
+    if end <= at {
+        return true;
+    }
+    end - at <= 2
+}
+
+// `compile_include_definition`; in strict mode it is asked of all names first (2026-07), and row 11 takes the place of a full area's mark.
+pub(crate) fn include_definition(
+    tree: &[u64],
+    at: usize,
+    end: usize,
+    book: Book,
+    locals: &mut [u64],
+    publics: &[u64],
+    books: &[u64],
+) -> Book
+    ensures { λ r. ⌜ Includes (now (tree .entry)) at end (now (books .entry)) (now (publics .entry)) book (now (locals .entry)) r (now (locals .exit)) ⌝ }
+{
+    if book.full != 0 {
+        return book;
+    }
+    if tree.len() <= at {
+        return book;
+    }
+    if !gives_values(tree, at, end, book, publics, books) {
+        let mut b = book;
+        b.full = reply::FIRST_NOT_PUBLIC + at as u64;
+        return b;
+    }
+    aliases(tree, at, end, book, locals, publics, books)
 }

@@ -211,7 +211,7 @@ d-include w l i m =
     let z = p .fills in
     let d = p .deep in
     let q : spanAt w i ≡ 1 + runSize double (pairsOf (aliasOf w) (spanAt w i) w (i + 1) (next w i)) = omega arith in
-    record { is = (headed (m .kind-is) q, p .is); fills = sym q; deep = omega arith }
+    record { is = (headed (m .kind-is) q, p .is, refl); fills = sym q; deep = omega arith }
 
 d-model : (w : List ℕ) (l i : ℕ) → Node w l i 12 → ItemD w l i (definitionBy (partOf 12) w i)
 unfolding DefinitionAt sizeD depthD firstSlot

@@ -126,7 +126,7 @@ sizeS-pos (Expr e) = omega arith
 
 pub data ViewD : ℕ → Definition → Type 0 where
   v-LocalDefinition : {bs : List Binding} → ViewD 10 (LocalDefinition bs)
-  v-IncludeDefinition : {t : Token} {l : List Alias} → ViewD 11 (IncludeDefinition t l)
+  v-IncludeDefinition : {n : ℕ} {t : Token} {l : List Alias} → ViewD 11 (IncludeDefinition n t l)
   v-ModelDefinition : {t : Token} {ns : List Token} → ViewD 12 (ModelDefinition t ns)
   v-PublicModelDefinition : {t : Token} {ns : List Token} → ViewD 13 (PublicModelDefinition t ns)
   v-PlainFunction : {f : FunctionDefinition} → ViewD 14 (PlainFunction f)
@@ -136,7 +136,7 @@ pub data ViewD : ℕ → Definition → Type 0 where
 
 pub viewD : (d : Definition) → ViewD (kindD d) d
 viewD (LocalDefinition bs) = v-LocalDefinition
-viewD (IncludeDefinition t l) = v-IncludeDefinition
+viewD (IncludeDefinition n t l) = v-IncludeDefinition
 viewD (ModelDefinition t ns) = v-ModelDefinition
 viewD (PublicModelDefinition t ns) = v-PublicModelDefinition
 viewD (PlainFunction f) = v-PlainFunction
@@ -147,7 +147,7 @@ viewD (ApplyDefinition s t) = v-ApplyDefinition
 pub headD : (d : Definition) {w : List ℕ} {i : ℕ} → DefinitionAt d w i → Head w i (kindD d) (sizeD d)
 unfolding DefinitionAt sizeD
 headD (LocalDefinition bs) h = h .0
-headD (IncludeDefinition t l) h = h .0 .head
+headD (IncludeDefinition n t l) h = h .0 .head
 headD (ModelDefinition t ns) h = h .0 .head
 headD (PublicModelDefinition t ns) h = h .0 .head
 headD (PlainFunction f) h = h .headed .head
@@ -162,7 +162,7 @@ seeD d w i h f q = subst (λ j. ViewD j d) (sym (headD d h .kind-is) ∙ sym f �
 pub sizeD-pos : (d : Definition) → 0 < sizeD d
 unfolding sizeD
 sizeD-pos (LocalDefinition bs) = omega arith
-sizeD-pos (IncludeDefinition t l) = omega arith
+sizeD-pos (IncludeDefinition n t l) = omega arith
 sizeD-pos (ModelDefinition t ns) = omega arith
 sizeD-pos (PublicModelDefinition t ns) = omega arith
 sizeD-pos (PlainFunction f) = omega arith
@@ -200,7 +200,7 @@ kindS-in (Expr e) = refl
 -- its kind is one of those that may stand there
 pub kindD-in : (d : Definition) → has (kindD d) definitions ≡ true
 kindD-in (LocalDefinition bs) = refl
-kindD-in (IncludeDefinition t l) = refl
+kindD-in (IncludeDefinition n t l) = refl
 kindD-in (ModelDefinition t ns) = refl
 kindD-in (PublicModelDefinition t ns) = refl
 kindD-in (PlainFunction f) = refl

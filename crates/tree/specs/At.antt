@@ -53,7 +53,7 @@ kindS (Expr e) = 25
 -- the kinds of definitions
 abbrev pub kindD : Definition → ℕ
 kindD (LocalDefinition bs) = 10
-kindD (IncludeDefinition t l) = 11
+kindD (IncludeDefinition n t l) = 11
 kindD (ModelDefinition t ns) = 12
 kindD (PublicModelDefinition t ns) = 13
 kindD (PlainFunction f) = 14
@@ -248,7 +248,7 @@ pub record FunctionAt (kind : ℕ) (f : FunctionDefinition) (w : List ℕ) (i : 
 -- definitions, kinds 10 to 17
 unfoldable pub sizeD : Definition → ℕ
 sizeD (LocalDefinition bs) = 1 + runSize double bs
-sizeD (IncludeDefinition t l) = 1 + runSize double l
+sizeD (IncludeDefinition n t l) = 1 + runSize double l
 sizeD (ModelDefinition t ns) = 1 + runSize single ns
 sizeD (PublicModelDefinition t ns) = 1 + runSize single ns
 sizeD (PlainFunction f) = sizeF f
@@ -258,7 +258,7 @@ sizeD (ApplyDefinition s t) = 3
 
 unfoldable pub DefinitionAt : Definition → List ℕ → ℕ → Type 0
 DefinitionAt (LocalDefinition bs) w i = Head w i 10 (1 + runSize double bs) × RunAt BindingAt double bs w (i + 1)
-DefinitionAt (IncludeDefinition t l) w i = Headed w i 11 (1 + runSize double l) t × RunAt AliasAt double l w (i + 1)
+DefinitionAt (IncludeDefinition n t l) w i = Headed w i 11 (1 + runSize double l) t × RunAt AliasAt double l w (i + 1) × (n ≡ i)
 DefinitionAt (ModelDefinition t ns) w i = Headed w i 12 (1 + runSize single ns) t × RunAt NameAt single ns w (i + 1)
 DefinitionAt (PublicModelDefinition t ns) w i = Headed w i 13 (1 + runSize single ns) t × RunAt NameAt single ns w (i + 1)
 DefinitionAt (PlainFunction f) w i = FunctionAt 14 f w i
@@ -284,7 +284,7 @@ depthF f = 1 + max (runDepth single (f .parameters)) (depthSs (f .body))
 
 unfoldable pub depthD : Definition → ℕ
 depthD (LocalDefinition bs) = 1 + runDepth single bs
-depthD (IncludeDefinition t l) = 1 + runDepth single l
+depthD (IncludeDefinition n t l) = 1 + runDepth single l
 depthD (ModelDefinition t ns) = 1 + runDepth single ns
 depthD (PublicModelDefinition t ns) = 1 + runDepth single ns
 depthD (PlainFunction f) = depthF f

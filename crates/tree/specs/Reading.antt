@@ -142,7 +142,7 @@ partOf k = look k parts pApply
 
 abbrev pub definitionBy : Part → List ℕ → ℕ → Definition
 definitionBy pLocal w i = LocalDefinition (pairsOf (bindingOf w) (spanAt w i) w (i + 1) (next w i))
-definitionBy pInclude w i = IncludeDefinition (tokenAt w i) (pairsOf (aliasOf w) (spanAt w i) w (i + 1) (next w i))
+definitionBy pInclude w i = IncludeDefinition i (tokenAt w i) (pairsOf (aliasOf w) (spanAt w i) w (i + 1) (next w i))
 definitionBy pModel w i = ModelDefinition (tokenAt w i) (listOf (tokenAt w) (spanAt w i) w (i + 1) (next w i))
 definitionBy pPublicModel w i = PublicModelDefinition (tokenAt w i) (listOf (tokenAt w) (spanAt w i) w (i + 1) (next w i))
 definitionBy pFunction w i = PlainFunction (functionOf w i)

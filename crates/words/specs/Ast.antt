@@ -71,10 +71,10 @@ pub record Alias : Type 0 where
   pub publicName : Token
   pub alias : Token
 
--- `Definition`: kinds 10 to 17
+-- `Definition`: kinds 10 to 17. An include has its record's index ahead, which only row 11 reads (2026-07: 'the include's record index')
 pub data Definition : Type 0 where
   LocalDefinition : List Binding → Definition
-  IncludeDefinition : Token → List Alias → Definition
+  IncludeDefinition : ℕ → Token → List Alias → Definition
   ModelDefinition : Token → List Token → Definition
   PublicModelDefinition : Token → List Token → Definition
   PlainFunction : FunctionDefinition → Definition

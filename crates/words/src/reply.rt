@@ -21,6 +21,11 @@ pub const RING: u64 = 8;
 
 pub const AREA_FULL: u64 = 9;
 
+pub const NAME_NOT_PUBLIC: u64 = 11;
+
+// What a book's mark of a full area holds where row 11 was met: this number and the include's index on, which no area has.
+pub const FIRST_NOT_PUBLIC: u64 = 16;
+
 // The numbers of errors, in the order of 01's list of the Rust's messages.
 pub const ERROR_VARIABLE_EXISTS: u64 = 1;
 

@@ -1,88 +1,49 @@
--- `documents::book::include_definition` meets its contract. The invariant: what takes the names from here on takes all of them. Assumes nothing.
+-- `documents::book::include_definition` meets its contract: a way for each outcome of its tests. Assumes nothing.
 -- Made from Proof.answers by `answers make`: edit that file, and not this one.
-use Rattle.documents.proofs.IncludeWays.{pairs-end, pairs-more}
-use Rattle.documents.specs.Including.{TakesNames}
-use Rattle.documents.specs.declared.book.Book.{Book}
-use Rattle.words.specs.Record.{valueAt}
-use mathlib.Core.Path.{_≡_, refl}
-use mathlib.Core.List.{List}
-use lib.ListN.{length}
-use Prim.Native.Nat.{ℕ, _+_, _-_, _≤_}
+use Rattle.documents.proofs.IncludeWays.{include-full, include-past, include-refused, include-given}
+use borrow.Author.Tests.{not-true, not-false}
+use mathlib.Core.Path.{refl}
 use Rattle.documents.proofs.book.include_definition.Statement.{statement}
 use Rattle.documents.proofs.book.include_definition.Tie as tie
 use borrow.Author.Needs.{needs}
-use native.Mathlib.Omega.{arith}
 
-abbrev Inv-loop : tie.InvT-loop
-Inv-loop tree at end locals₀ publics books file i₀ b₀ locals i b = (i ≤ end) × (length locals ≡ length locals₀) × ((s : Book)
-    (l : List ℕ) → TakesNames tree i end file books publics b locals s l
-    → TakesNames tree i₀ end file books publics b₀ locals₀ s l)
-
-abbrev μ-loop : tie.MeasureT-loop
-μ-loop tree at end locals₀ publics books file i₀ b₀ locals i b = end - i
-
-returns : tie.Need-returns Inv-loop μ-loop
+returns : tie.Need-returns
 returns c =
-    let c5 = c .before .before .before .before .before in
-    pairs-end (c5 .args .tree .now) (c5 .args .at + 1) (c5 .args .end) (valueAt (c5 .args .tree .now) (c5 .args .at)) (omega (arith, c .if1 .taken))
+    let c6 = c .before .before .before .before .before .before in
+    include-full (c6 .args .tree .now) (c6 .args .at) (c6 .args .end) (c6 .args .books .now) (c6 .args .publics .now) (c6 .args .book) (c6 .args .locals .now)
+    (c .if1 .taken)
 
-loop-holds : tie.Need-loop-holds Inv-loop μ-loop
-loop-holds c = (omega (arith, c .before .if1 .left), refl, λ s l h. h)
-
-sub-loop : tie.Need-sub-loop Inv-loop μ-loop
-sub-loop c = omega (arith, c .loop .inv .0)
-
-add-next : tie.Need-add-next Inv-loop μ-loop
-add-next c =
-    let c8 = c .before .before .before .before .before .before .before .before in
-    omega (arith, c .before .loop .inv .0, c .loop-test .taken, c8 .fits)
-
-add-i-2 : tie.Need-add-i-2 Inv-loop μ-loop
-add-i-2 c =
-    let c5 = c .before .before .before .before .before in
-    let c12 = c5 .before .before .before .before .before .before .before in
-    omega (arith, c5 .loop .inv .0, c .before .before .before .before .loop-test .taken, c12 .fits)
-
-loop-less : tie.Need-loop-less Inv-loop μ-loop
-loop-less c =
-    let c5 = c .before .before .before .before .before in
-    omega (arith, c5 .loop .inv .0, c .before .before .before .before .loop-test .taken)
-
-loop-again : tie.Need-loop-again Inv-loop μ-loop
-loop-again c =
-    let c5 = c .before .before .before .before .before in
-    let c6 = c5 .before in
-    let c12 = c6 .before .before .before .before .before .before in (
-      omega (arith, c5 .loop .inv .0, c .before .before .before .before .loop-test .taken),
-      omega (arith, c5 .loop .inv .1, c .before .before .alias .kept),
-      λ s l h. c5 .loop .inv .2 s l (pairs-more (c12 .args .tree .now) (c5 .loop .i) (c12 .args .end) (c6 .field .result)
-          (c .before .before .before .before .loop-test .taken) (c .before .before .alias .ensures) h),
-    )
-
-same-length : tie.Need-same-length Inv-loop μ-loop
-same-length c = c .before .loop .inv .1
-
-returns-2 : tie.Need-returns-2 Inv-loop μ-loop
+returns-2 : tie.Need-returns-2
 returns-2 c =
-    let c8 = c .before .before .before .before .before .before .before .before in
-    rw (c .before .before .field .ensures) at (c .before .loop .inv .2 _ _ (pairs-end (c8 .args .tree .now) (c .before .loop .i) (c8 .args .end)
-    (c .before .before .field .result) (c .loop-test .left)))
+    let c7 = c .before .before .before .before .before .before .before in
+    include-past (c7 .args .tree .now) (c7 .args .at) (c7 .args .end) (c7 .args .books .now) (c7 .args .publics .now) (c7 .args .book) (c7 .args .locals .now)
+    (c .if2 .taken)
+
+returns-3 : tie.Need-returns-3
+returns-3 c =
+    let c9 = c .before .before .before .before .before .before .before .before .before in
+    include-refused (c9 .args .tree .now) (c9 .args .at) (c9 .args .end) (c9 .args .books .now) (c9 .args .publics .now) (c9 .args .book)
+    (c9 .args .locals .now) (c .before .before .before .if1 .left)
+    (c .before .gives-values .ensures) (not-true (c .before .gives-values .result) (c .if3 .taken)) refl
+
+returns-4 : tie.Need-returns-4
+returns-4 c =
+    let c5 = c .before .before .before .before .before in
+    let c7 = c5 .before .before in
+    let c13 = c7 .before .before .before .before .before .before in
+    include-given (c13 .args .tree .now) (c13 .args .at) (c13 .args .end) (c13 .args .books .now) (c13 .args .publics .now) (c13 .args .book)
+    (c13 .args .locals .now) (c7 .if1 .left)
+    (c5 .gives-values .ensures) (not-false (c5 .gives-values .result) (c .before .before .before .before .if3 .left)) (c .before .before .aliases .ensures)
 
 pub include-definition-spec : {M : Type 1} → statement M
 include-definition-spec =
     tie.close
     (tie.spec
-    Inv-loop
-    μ-loop
     returns
+    returns-2
     (λ c κs. search needs)
-    (λ c. omega arith)
-    loop-holds
-    sub-loop
-    add-next
-    (λ c κs. tt)
-    add-i-2
-    loop-less
-    loop-again
-    same-length
-    returns-2)
+    (λ c. search needs)
+    returns-3
+    (λ c κs. search needs)
+    (λ c. search needs)
+    returns-4)
