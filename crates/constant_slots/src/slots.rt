@@ -94,14 +94,23 @@ fn look(
         let there = slots[at];
         looked += 1;
         if there == 0 {
-            return Looked { found: Found::Nothing, looked };
+            return Looked {
+                found: Found::Nothing,
+                looked,
+            };
         }
         if has(constants, count, there - 1, kind, value) {
-            return Looked { found: Found::At(there - 1), looked };
+            return Looked {
+                found: Found::At(there - 1),
+                looked,
+            };
         }
         at = after(slots.len(), at);
     }
-    Looked { found: Found::Nothing, looked }
+    Looked {
+        found: Found::Nothing,
+        looked,
+    }
 }
 
 // Whether a number is in the pool and has the constant.

@@ -135,8 +135,14 @@ stays-publish name p = one-more (more same) refl refl refl refl
 
 stays-base : (f : FunctionDefinition) → Staying (λ b. compileBase f b .book)
 unfolding compileBase
-stays-base f b = record { uses = longer-trans (more (more (more same)))
-    (steady-base f (working b) .uses); prior = refl; assemblies = refl; filename = refl; strict = refl }
+stays-base f b = record {
+  uses = longer-trans (more (more (more same)))
+      (steady-base f (working b) .uses);
+  prior = refl;
+  assemblies = refl;
+  filename = refl;
+  strict = refl;
+}
 
 stays-add : (s : FunctionState) (n : ℕ) → Staying (addFunction s n)
 stays-add s n b = one-more (more same) refl refl refl refl
