@@ -90,61 +90,67 @@ fits-lead (suc w) false = sym (le-leb 0 (suc w) (omega arith))
 
 -- the digits
 
+single : (k m : ℕ) → digitsBy k true m ≡ digitOf m ∷ []
+unfolding digitsBy
+single zero m = refl
+single (suc k) m = refl
+
 module _ (w k : ℕ) (g : Bool) (m : ℕ) where
-  one-digit : m < 10 → restOf w g (m / 10) ++ (digitOf m ∷ []) ≡ rightJustified (suc w) (signOf g ++ digitsBy true k m)
-  unfolding digitsBy
+  one-digit : m < 10 → restOf w g (m / 10) ++ (digitOf m ∷ []) ≡ rightJustified (suc w) (signOf g ++ digitsBy k true m)
   one-digit h =
       ap (λ (l : List ℕ). l ++ (digitOf m ∷ [])) (rest-lead w g (m / 10) (omega arith) ∙ right-lead w g) ∙ sym (right-more w (signOf g) (digitOf m))
+      ∙ ap (λ (l : List ℕ). rightJustified (suc w) (signOf g ++ l)) (sym (single k m))
 
-  one-fits : m < 10 → restFits w g (m / 10) ≡ leb (length (signOf g ++ digitsBy true k m)) (suc w)
-  unfolding digitsBy
-  one-fits h = rest-lead-fits w g (m / 10) (omega arith) ∙ fits-lead w g ∙ fits-more w (signOf g) (digitOf m)
+  one-fits : m < 10 → restFits w g (m / 10) ≡ leb (length (signOf g ++ digitsBy k true m)) (suc w)
+  one-fits h =
+      rest-lead-fits w g (m / 10) (omega arith) ∙ fits-lead w g ∙ fits-more w (signOf g) (digitOf m)
+      ∙ ap (λ (l : List ℕ). leb (length (signOf g ++ l)) (suc w)) (sym (single k m))
 
   abbrev front : List ℕ
-  front = digitsBy (ltb (m / 10) 10) k (m / 10)
+  front = digitsBy k (ltb (m / 10) 10) (m / 10)
 
   more-digits : 10 ≤ m → spelled w g (m / 10) ≡ rightJustified w (signOf g ++ front)
-      → restOf w g (m / 10) ++ (digitOf m ∷ []) ≡ rightJustified (suc w) (signOf g ++ digitsBy false (suc k) m)
+      → restOf w g (m / 10) ++ (digitOf m ∷ []) ≡ rightJustified (suc w) (signOf g ++ digitsBy (suc k) false m)
   unfolding digitsBy
   more-digits h e =
       ap (λ (l : List ℕ). l ++ (digitOf m ∷ [])) (sym (spelled-rest w g (m / 10) (λ z. omega arith)) ∙ e)
       ∙ sym (right-more w (signOf g ++ front) (digitOf m)) ∙ ap (rightJustified (suc w)) (append-assoc (signOf g) front (digitOf m ∷ []))
 
   more-fits : 10 ≤ m → spellFits w g (m / 10) ≡ leb (length (signOf g ++ front)) w
-      → restFits w g (m / 10) ≡ leb (length (signOf g ++ digitsBy false (suc k) m)) (suc w)
+      → restFits w g (m / 10) ≡ leb (length (signOf g ++ digitsBy (suc k) false m)) (suc w)
   unfolding digitsBy
   more-fits h e =
       sym (spelled-rest-fits w g (m / 10) (λ z. omega arith)) ∙ e ∙ fits-more w (signOf g ++ front) (digitOf m)
       ∙ ap (λ (l : List ℕ). leb (length l) (suc w)) (append-assoc (signOf g) front (digitOf m ∷ []))
 
-spelled-digits : (w k : ℕ) (g : Bool) (m : ℕ) → m ≤ k → spelled w g m ≡ rightJustified w (signOf g ++ digitsBy (ltb m 10) k m)
+spelled-digits : (w k : ℕ) (g : Bool) (m : ℕ) → m ≤ k → spelled w g m ≡ rightJustified w (signOf g ++ digitsBy k (ltb m 10) m)
 unfolding spelled
-spelled-digits zero k g m h = sym (right-none (signOf g ++ digitsBy (ltb m 10) k m))
+spelled-digits zero k g m h = sym (right-none (signOf g ++ digitsBy k (ltb m 10) m))
 spelled-digits (suc w) zero g m h = let z : m < 10 = omega arith in rw (lt-ltb m 10 z) (one-digit w 0 g m z)
 spelled-digits (suc w) (suc k) g m h = go (ltb m 10) refl (λ x. spelled-digits w k g (m / 10) x)
   where
     go : (t : Bool) → ltb m 10 ≡ t → (m / 10 ≤ k → spelled w g (m / 10) ≡ rightJustified w (signOf g ++ front w k g m))
-        → restOf w g (m / 10) ++ (digitOf m ∷ []) ≡ rightJustified (suc w) (signOf g ++ digitsBy (ltb m 10) (suc k) m)
+        → restOf w g (m / 10) ++ (digitOf m ∷ []) ≡ rightJustified (suc w) (signOf g ++ digitsBy (suc k) (ltb m 10) m)
     go true e more = rw e (one-digit w (suc k) g m (ltb-true m 10 e))
     go false e more = let l : 10 ≤ m = ltb-false m 10 e in rw e (more-digits w k g m l (more (omega arith)))
 
-digits-some : (k : ℕ) (t : Bool) (m : ℕ) → ltb m 10 ≡ t → m ≤ k → 0 < length (digitsBy t k m)
+digits-some : (k : ℕ) (t : Bool) (m : ℕ) → 0 < length (digitsBy k t m)
 unfolding digitsBy
-digits-some k true m e h = omega arith
-digits-some zero false m e h = absurd (let z : 10 ≤ m = ltb-false m 10 e in omega arith)
-digits-some (suc k) false m e h = let n = snoc-length (digitsBy (ltb (m / 10) 10) k (m / 10)) (digitOf m) in omega (arith, n)
+digits-some zero t m = omega arith
+digits-some (suc k) true m = omega arith
+digits-some (suc k) false m = let n = snoc-length (digitsBy k (ltb (m / 10) 10) (m / 10)) (digitOf m) in omega (arith, n)
 
-fits-digits : (w k : ℕ) (g : Bool) (m : ℕ) → m ≤ k → spellFits w g m ≡ leb (length (signOf g ++ digitsBy (ltb m 10) k m)) w
+fits-digits : (w k : ℕ) (g : Bool) (m : ℕ) → m ≤ k → spellFits w g m ≡ leb (length (signOf g ++ digitsBy k (ltb m 10) m)) w
 unfolding spellFits
 fits-digits zero k g m h =
-    let s = digits-some k (ltb m 10) m refl h in
-    let n = length-append (signOf g) (digitsBy (ltb m 10) k m) in
-    sym (lt-leb (length (signOf g ++ digitsBy (ltb m 10) k m)) 0 (omega (arith, n, s)))
+    let s = digits-some k (ltb m 10) m in
+    let n = length-append (signOf g) (digitsBy k (ltb m 10) m) in
+    sym (lt-leb (length (signOf g ++ digitsBy k (ltb m 10) m)) 0 (omega (arith, n, s)))
 fits-digits (suc w) zero g m h = let z : m < 10 = omega arith in rw (lt-ltb m 10 z) (one-fits w 0 g m z)
 fits-digits (suc w) (suc k) g m h = go (ltb m 10) refl (λ x. fits-digits w k g (m / 10) x)
   where
     go : (t : Bool) → ltb m 10 ≡ t → (m / 10 ≤ k → spellFits w g (m / 10) ≡ leb (length (signOf g ++ front w k g m)) w)
-        → restFits w g (m / 10) ≡ leb (length (signOf g ++ digitsBy (ltb m 10) (suc k) m)) (suc w)
+        → restFits w g (m / 10) ≡ leb (length (signOf g ++ digitsBy (suc k) (ltb m 10) m)) (suc w)
     go true e more = rw e (one-fits w (suc k) g m (ltb-true m 10 e))
     go false e more = let l : 10 ≤ m = ltb-false m 10 e in rw e (more-fits w k g m l (more (omega arith)))
 

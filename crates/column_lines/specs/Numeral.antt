@@ -36,14 +36,14 @@ negativeOf signed word = signed && leb leastSize word
 abbrev pub mostOf : Bool → ℕ
 mostOf signed = cond signed 9223372036854775807 18446744073709551615
 
--- the digits of m in base ten: of a number below ten, which `one` tells, a single one, of another those of m / 10 before its last; they are at most m
-unfoldable pub digitsBy : Bool → ℕ → ℕ → List ℕ
-digitsBy true most m = digitOf m ∷ []
-digitsBy false zero m = []
-digitsBy false (suc most) m = digitsBy (ltb (m / 10) 10) most (m / 10) ++ (digitOf m ∷ [])
+-- the digits of m in base ten: one where m is below ten, which the Bool tells, else those of m / 10 and then one; a number m has at most m + 1
+unfoldable pub digitsBy : ℕ → Bool → ℕ → List ℕ
+digitsBy zero below m = digitOf m ∷ []
+digitsBy (suc more) true m = digitOf m ∷ []
+digitsBy (suc more) false m = digitsBy more (ltb (m / 10) 10) (m / 10) ++ (digitOf m ∷ [])
 
 abbrev pub digits : ℕ → List ℕ
-digits m = digitsBy (ltb m 10) m m
+digits m = digitsBy m (ltb m 10) m
 
 -- a word in base ten: a minus sign where it is negative, then its digits
 unfoldable pub written : Bool → ℕ → List ℕ
