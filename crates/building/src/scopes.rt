@@ -35,23 +35,8 @@ pub struct Defined {
     pub state: FunctionState,
 }
 
-// The search of `find_newest` where the area holds every entry: then no read is tested.
-fn find_within(names: &[u64], from: usize, end: usize, name: u64) -> Found
-    requires { ⌜ end * 2 ≤ length (now names) ⌝ }
-    ensures { λ r. ⌜ r ≡ foundOf (findNewest (end - from) from name (now (names .entry))) ⌝ }
-{
-    let mut i = end;
-    while from < i {
-        i -= 1;
-        if names[i * areas::SCOPE_NAME_WORDS + NAME] == name {
-            return Found::At(names[i * areas::SCOPE_NAME_WORDS + LOCAL]);
-        }
-    }
-    Found::Nothing
-}
-
-// The same for a name of 32 bits. Words are compared whole, and a local past 32 bits is said to be one. The loop counts words and not entries, for speed
-// (docs/BENCHMARKS.md, 'Live names').
+// The search of `find_newest` for a name of 32 bits where the area holds every entry: then no read is tested. Words are compared whole, and a local past
+// 32 bits is said to be one. The loop counts words and not entries, for speed (docs/BENCHMARKS.md, 'Live names').
 fn find_narrow(names: &[u64], from: usize, end: usize, name: u32) -> Narrow
     requires { ⌜ end * 2 ≤ length (now names) ⌝ }
     ensures { λ r. ⌜ r ≡ narrowOf (findNewest (end - from) from name (now (names .entry))) ⌝ }
@@ -76,8 +61,8 @@ fn find_narrow(names: &[u64], from: usize, end: usize, name: u32) -> Narrow
 }
 
 // The local of a name among the entries from `from` up to the count, the newest first, in a function of so many locals. Names and locals of 32 bits are
-// searched as such; where the name, a local of the function or the local found is past 32 bits, the search of 64 bits answers. A count beyond the area
-// goes the slow way, where a word outside reads as 0.
+// searched as such. Where the name, a local of the function or the local found is past 32 bits, the search of 64 bits answers, and where the count is
+// beyond the area: there a word outside reads as 0.
 fn find_newest(names: &[u64], from: usize, count: usize, locals: u64, name: u64) -> Found
     ensures { λ r. ⌜ r ≡ foundOf (findNewest (count - from) from name (now (names .entry))) ⌝ }
 {
@@ -96,7 +81,6 @@ fn find_newest(names: &[u64], from: usize, count: usize, locals: u64, name: u64)
                 }
             }
         }
-        return find_within(names, from, count, name);
     }
     let mut i = count;
     while from < i {

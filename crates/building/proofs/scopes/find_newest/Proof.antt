@@ -1,5 +1,5 @@
 -- `building::scopes::find_newest` meets its contract. The invariant: what is left to search answers what was asked. The measure is how much is left.
--- Where the area holds every entry, `find_narrow` answers, or `find_within` past 32 bits. Assumes nothing.
+-- Where the area holds every entry and nothing is past 32 bits, `find_narrow` answers. Assumes nothing.
 -- Made from Proof.answers by `answers make`: edit that file, and not this one.
 use mathlib.Core.Path.{_≡_, refl}
 use Prim.Native.Nat.{_-_}
@@ -31,14 +31,11 @@ returns-2 c =
     (c .before .before .find-narrow .result) (c .before .before .find-narrow .ensures)
     (c .enum-told .given .1)
 
-returns-3 : tie.Need-returns-3 Inv-loop μ-loop
-returns-3 c = c .find-within .ensures
-
 loop-holds : tie.Need-loop-holds Inv-loop μ-loop
 loop-holds c = refl
 
-returns-4 : tie.Need-returns-4 Inv-loop μ-loop
-returns-4 c =
+returns-3 : tie.Need-returns-3 Inv-loop μ-loop
+returns-3 c =
     let c7 = c .before .before .before .before .before .before .before in
     newest-here _ (c7 .args .from) (c .before .before .before .before .loop .i) (c7 .args .name) (c7 .args .names .now)
     (c .before .before .before .before .loop .inv) _ _
@@ -50,8 +47,8 @@ loop-again c =
     newest-next _ (c6 .args .from) (c .before .before .before .loop .i) (c6 .args .name) (c6 .args .names .now) (c .before .before .before .loop .inv) _
     (c .before .before .loop-test .taken) (c .before .entry-word .ensures) (c .if4 .left)
 
-returns-5 : tie.Need-returns-5 Inv-loop μ-loop
-returns-5 c = newest-none _ (c .before .before .before .before .args .from) (c .before .loop .i) (c .before .before .before .before .args .name)
+returns-4 : tie.Need-returns-4 Inv-loop μ-loop
+returns-4 c = newest-none _ (c .before .before .before .before .args .from) (c .before .loop .i) (c .before .before .before .before .args .name)
     (c .before .before .before .before .args .names .now) (c .before .loop .inv) (c .loop-test .left)
 
 pub find-newest-spec : {M : Type 1} → statement M
@@ -69,13 +66,11 @@ find-newest-spec =
     (λ c. search needs)
     returns-2
     (λ c. search needs)
-    (λ c κs. omega arith)
-    returns-3
     loop-holds
     (λ c. omega arith)
     (λ c κs. search needs)
     (λ c κs. search needs)
-    returns-4
+    returns-3
     (λ c. omega arith)
     loop-again
-    returns-5)
+    returns-4)
