@@ -826,7 +826,8 @@ answer-left lengths (Refusal n p es) k =
 
 -- onto any standing program, over any words and areas of any lengths: the list that the call leaves in area 11 has no error that `errors_in_words`
 -- does not know
-pub standing-compiled-known : (c : Context) (w lengths : List ℕ) → firstUnknown 0 (errorsIn (getD (areasOf lengths (answerFrom c w lengths)) errorsArea [])) ≡ none
+pub standing-compiled-known : (c : Context) (w lengths : List ℕ)
+    → firstUnknown 0 (errorsIn (getD (areasOf lengths (answerFrom c w lengths)) errorsArea [])) ≡ none
 standing-compiled-known c w lengths = answer-left lengths (answerFrom c w lengths) (answer-known c w lengths)
 
 -- and onto none
