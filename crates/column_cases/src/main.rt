@@ -121,9 +121,11 @@ fn judge(file: &[u8], words: &mut [u64]) {
     }
 }
 
-fn case(file: &[u8], room: usize) {
+fn case(name: &[u8], file: &[u8], room: usize) {
     let mut words = [7; 512];
     if room <= MOST_ROOM {
+        io::write_all(STDOUT_FILENO, name);
+        io::write_all(STDOUT_FILENO, b":");
         judge(file, &mut words[0..room]);
     }
 }
@@ -135,17 +137,16 @@ fn cases(text: &[u8]) {
         let name = at + HEADER;
         let size = number(&text[at..middle]);
         let room = number(&text[middle..middle + 8]);
-        let body = find(text, name, b'\n') + 1;
-        if body > text.len() {
+        let newline = find(text, name, b'\n');
+        if newline >= text.len() {
             return;
         }
+        let body = newline + 1;
         if text.len() - body < size {
             return;
         }
         let end = body + size;
-        io::write_all(STDOUT_FILENO, &text[name..body - 1]);
-        io::write_all(STDOUT_FILENO, b":");
-        case(&text[body..end], room);
+        case(&text[name..newline], &text[body..end], room);
         at = end + 1;
     }
 }
