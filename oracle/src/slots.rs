@@ -14,11 +14,13 @@ pub const TEXT: u64 = 4;
 /// "its home slot (a definition in specs/)": of a constant, among so many slots, which are not none.
 pub type Home<'a> = &'a dyn Fn(Constant, u64) -> u64;
 
-/// What the readings propose: `(v + kind × (n / 8)) mod n`, v being the value, for floats the value mod 1,048,573.
-pub fn proposed_home((kind, value): Constant, slots: u64) -> u64 {
-    let value = if kind == FLOAT { value % 1_048_573 } else { value };
-    let sum = value as u128 + kind as u128 * (slots / 8) as u128;
-    (sum % slots as u128) as u64
+/// The home slot as crates/constant_slots/specs/Home.antt has it: the value times a prime that does not divide the number of slots, a
+/// float's bits folded first; each kind begins an eighth of the slots after the one before.
+pub fn specs_home((kind, value): Constant, slots: u64) -> u64 {
+    let value = if kind == FLOAT { value % 3_141_592_661 * (value % 2_718_281_831) % 4_294_967_291 } else { value };
+    let stride: u64 = [13, 11, 7].into_iter().find(|prime| slots % prime != 0).unwrap_or(1);
+    let sum = u128::from(value % slots) * u128::from(stride) + u128::from(kind % 8) * u128::from(slots / 8);
+    (sum % u128::from(slots)) as u64
 }
 
 /// The constants of area 2's words up to its total; marks have no part in a search.
@@ -170,15 +172,125 @@ pub fn case(seed: u64, index: u64, home: Home) -> Case {
     Case { table, pool, wanted, filled }
 }
 
+// Stored cases of the program `slot_cases`: a line of its input, and the line that it must write.
+
+const SEARCH: u64 = 1;
+const FILL: u64 = 2;
+const PUT: u64 = 3;
+const CLEAR: u64 = 4;
+
+/// What all slots beside a table hold.
+const BESIDE: u64 = 7;
+
+fn listed(words: impl IntoIterator<Item = u64>) -> String {
+    words.into_iter().map(|word| format!(" {word}")).collect()
+}
+
+fn stored(label: &str, way: u64, case: &Case) -> (String, String) {
+    let (count, slots) = (case.pool.len() as u64, case.table.len());
+    let head = [way, case.wanted.0, case.wanted.1, count, slots as u64];
+    let words = case.pool.iter().flat_map(|&(kind, value)| [kind, value, kind % 2]);
+    let line = format!("{label}:{}", listed(head.into_iter().chain(case.table.clone()).chain(words)));
+    if way == SEARCH {
+        let (number, looked) = search(&case.table, &case.pool, case.wanted, &specs_home);
+        return (line, format!("{label}:{}", listed([u64::from(number.is_some()), number.unwrap_or(0), looked])));
+    }
+    let mut table = match way {
+        FILL => fill(&case.pool, slots, &specs_home),
+        CLEAR => after_call(&case.table, false),
+        _ => case.table.clone(),
+    };
+    if way == PUT {
+        put(&mut table, count, case.wanted, &specs_home);
+    }
+    (line, format!("{label}:{}", listed([BESIDE].into_iter().chain(table).chain([BESIDE]))))
+}
+
+/// The input of `slot_cases` and what it must write: pieces by hand, then cases from a seed.
+pub fn stored_cases() -> (String, String) {
+    let hand = |pool: &[Constant], slots: usize, wanted| {
+        let table = fill(pool, slots, &specs_home);
+        Case { table, pool: pool.to_vec(), wanted, filled: true }
+    };
+    let pair = [(INTEGER, 3), (INTEGER, 7)];
+    let floats = [(FLOAT, 0), (FLOAT, 1 << 63), (INTEGER, 0), (FLOAT, 0x7FF8_0000_0000_0001)];
+    let mut lines = vec![
+        stored("at home", SEARCH, &hand(&pair, 4, (INTEGER, 3))),
+        stored("round the end", SEARCH, &hand(&pair, 4, (INTEGER, 7))),
+        stored("not there", SEARCH, &hand(&pair, 4, (INTEGER, 11))),
+        stored("as many slots as entries", SEARCH, &hand(&pair, 2, (INTEGER, 7))),
+        stored("one slot more", SEARCH, &hand(&pair, 3, (INTEGER, 7))),
+        stored("no slots and no entries", SEARCH, &hand(&[], 0, (INTEGER, 7))),
+        stored("one slot and no entries", SEARCH, &hand(&[], 1, (INTEGER, 7))),
+        stored("a repeat is not the first", SEARCH, &hand(&[(INTEGER, 5), (INTEGER, 5)], 9, (INTEGER, 5))),
+        stored("minus zero", SEARCH, &hand(&floats, 9, (FLOAT, 1 << 63))),
+        stored("another not-a-number", SEARCH, &hand(&floats, 9, (FLOAT, 0x7FF8_0000_0000_0000))),
+        stored("a text of that value", SEARCH, &hand(&floats, 9, (TEXT, 0))),
+        stored("filling with repeats", FILL, &hand(&[(INTEGER, 5), (INTEGER, 5), (INTEGER, 5)], 5, (INTEGER, 0))),
+        stored("filling too few slots", FILL, &hand(&floats, 3, (INTEGER, 0))),
+        stored("no slot to take", PUT, &hand(&pair, 2, (INTEGER, 9))),
+    ];
+    for index in 0..300 {
+        let case = case(12, index, &specs_home);
+        lines.push(stored(&format!("search {index}"), SEARCH, &case));
+        let way = [FILL, PUT, CLEAR][index as usize % 3];
+        lines.push(stored(&format!("{} {index}", ["fill", "put", "clear"][index as usize % 3]), way, &case));
+    }
+    let text = |pick: fn(&(String, String)) -> &String| lines.iter().map(|line| pick(line).clone() + "\n").collect();
+    (text(|line| &line.0), text(|line| &line.1))
+}
+
+/// How many slots a pool's constants are looked for in while it grows, on average and at most.
+pub fn looked_at(pool: &[Constant], slots: usize, home: Home) -> (f64, u64) {
+    let mut table = vec![0u64; slots];
+    let (mut all, mut most) = (0, 0);
+    for (number, &constant) in (0u64..).zip(pool) {
+        let (found, looked) = search(&table, &pool[..number as usize], constant, home);
+        all += looked;
+        most = most.max(looked);
+        if found.is_none() {
+            put(&mut table, number, constant, home);
+        }
+    }
+    (all as f64 / pool.len() as f64, most)
+}
+
+/// Pools to be looked through: a name and the constants.
+pub fn shapes(n: u64) -> Vec<(&'static str, Vec<Constant>)> {
+    let each = |constant: &dyn Fn(u64) -> Constant| (1..=n).map(constant).collect::<Vec<_>>();
+    let float = |value: f64| (FLOAT, value.to_bits());
+    let mut random = Random::new(12);
+    vec![
+        ("integers 1, 2, 3 ..", each(&|k| (INTEGER, k))),
+        ("integers -1, -2 ..", each(&|k| (INTEGER, k.wrapping_neg()))),
+        ("integers 10, 20 ..", each(&|k| (INTEGER, k * 10))),
+        ("integers 1000, 2000 ..", each(&|k| (INTEGER, k * 1000))),
+        ("integers 1024, 2048 ..", each(&|k| (INTEGER, k * 1024))),
+        ("random integers", each(&|k| (INTEGER, Random::for_case(5, k).below(1 << 62)))),
+        ("texts 1, 2, 3 ..", each(&|k| (TEXT, k))),
+        ("floats 0.05, 0.10 ..", each(&|k| float(k as f64 * 0.05))),
+        ("floats 0.125, 0.25 ..", each(&|k| float(k as f64 / 8.0))),
+        ("floats 1, 2, 3 ..", each(&|k| float(k as f64))),
+        ("floats of random mantissas", (0..n).map(|_| (FLOAT, random.below(1 << 52) | 0x3FF << 52)).collect()),
+        ("texts and floats 0.05 ..", each(&|k| if k % 2 == 0 { (TEXT, k / 2) } else { float(k as f64 * 0.05) })),
+        ("texts and functions", each(&|k| (4 + k % 2 * 2, k / 2))),
+        ("integers, texts and functions", each(&|k| (2 + k % 3 * 2, k / 3))),
+        (
+            "7 integers to 3 texts",
+            each(&|k| if k % 10 < 7 { (INTEGER, k / 10 * 7 + k % 10) } else { (TEXT, k / 10 * 3 + k % 10 - 7) }),
+        ),
+    ]
+}
+
 #[cfg(test)]
 mod tests {
     use super::*;
     use std::collections::BTreeSet;
 
-    /// Homes to try: the proposal, all in one slot, all in the last, and some that scatter.
+    /// Homes to try: that of the specs, all in one slot, all in the last, and some that scatter.
     fn homes() -> Vec<Box<dyn Fn(Constant, u64) -> u64>> {
         vec![
-            Box::new(proposed_home),
+            Box::new(specs_home),
             Box::new(|_, _| 0),
             Box::new(|_, n| n - 1),
             Box::new(|(kind, value), n| (kind * 31 + value % 1000 * 7) % n),
@@ -202,7 +314,7 @@ mod tests {
     fn reading_2_integers_in_a_row() {
         for n in 1..=70u64 {
             for start in [0, 1, 5, 1 << 20, 1 << 32, (1 << 63) - n] {
-                let homes: BTreeSet<u64> = (start..start + n).map(|value| proposed_home((INTEGER, value), n)).collect();
+                let homes: BTreeSet<u64> = (start..start + n).map(|value| specs_home((INTEGER, value), n)).collect();
                 assert_eq!(homes.len() as u64, n);
                 assert!(homes.iter().all(|&home| home < n));
             }
@@ -249,11 +361,11 @@ mod tests {
     fn reading_4_where_it_falls_back() {
         let pool = [(0, 0), (1, 1), (1, 0), (INTEGER, 9)];
         for slots in 0..10 {
-            let (found, looked) = search(&fill(&pool, slots, &proposed_home), &pool, (INTEGER, 9), &proposed_home);
+            let (found, looked) = search(&fill(&pool, slots, &specs_home), &pool, (INTEGER, 9), &specs_home);
             assert_eq!((found, looked > 0), (Some(3), slots >= 5));
         }
-        assert_eq!(search(&[], &[], (INTEGER, 0), &proposed_home), (None, 0), "no slots and no entries");
-        assert_eq!(search(&[0], &[], (INTEGER, 0), &proposed_home), (None, 1));
+        assert_eq!(search(&[], &[], (INTEGER, 0), &specs_home), (None, 0), "no slots and no entries");
+        assert_eq!(search(&[0], &[], (INTEGER, 0), &specs_home), (None, 1));
     }
 
     #[test]
@@ -336,8 +448,8 @@ mod tests {
     fn cases_of_a_seed() {
         let (mut filled, mut back, mut found) = (0, 0, 0);
         for index in 0..20_000 {
-            let case = case(1, index, &proposed_home);
-            let (number, looked) = search(&case.table, &case.pool, case.wanted, &proposed_home);
+            let case = case(1, index, &specs_home);
+            let (number, looked) = search(&case.table, &case.pool, case.wanted, &specs_home);
             assert_eq!(looked == 0, case.table.len() <= case.pool.len());
             assert!(looked as usize <= case.table.len());
             if case.filled || looked == 0 {
@@ -350,5 +462,32 @@ mod tests {
             found += u64::from(number.is_some());
         }
         assert!(filled > 5000 && filled < 19_000 && back > 2000 && found > 2000, "{filled} {back} {found}");
+    }
+
+    /// The stored cases are these; `BLESS=1 cargo test slots` writes them anew.
+    #[test]
+    fn stored_cases_of_slot_cases() {
+        let (input, output) = stored_cases();
+        let folder = std::path::Path::new(env!("CARGO_MANIFEST_DIR")).join("../crates/slot_cases");
+        for (name, text) in [("stdin", input), ("stdout", output)] {
+            if std::env::var("BLESS").is_ok() {
+                std::fs::write(folder.join(name), &text).unwrap();
+            }
+            assert_eq!(std::fs::read_to_string(folder.join(name)).unwrap(), text);
+        }
+    }
+
+    /// Every shape with twice the slots: `cargo test --release slots_looked_at -- --ignored --nocapture` prints the figures.
+    #[test]
+    #[ignore]
+    fn slots_looked_at() {
+        for n in [10_000, 100_000, 1_000_000] {
+            for (name, pool) in shapes(n) {
+                for slots in [2 * n, 2 * n + 1] {
+                    let (mean, most) = looked_at(&pool, slots as usize, &specs_home);
+                    println!("{n:>8} {slots:>8} {name:32} {mean:>8.2} {most:>6}");
+                }
+            }
+        }
     }
 }

@@ -35,7 +35,8 @@ plain-is test (suc k) i f = go (test i) refl (λ g. plain-is test k (i + 1) g)
     go : (b : Bool) → test i ≡ b → (((j : ℕ) → j < i + 1 → test j ≡ false) → Plain test (i + 1 + k) (firstFrom test k (i + 1)))
         → Plain test (i + suc k) (cond b (some i) (firstFrom test k (i + 1)))
     go true e r = at-first i (omega arith) e f
-    go false e r = let z : i + 1 + k ≡ i + suc k = omega arith in subst (λ m. Plain test m (firstFrom test k (i + 1))) z (r (λ j h. more e j h (ℕ-discrete j i)))
+    go false e r = let z : i + 1 + k ≡ i + suc k = omega arith in
+        subst (λ m. Plain test m (firstFrom test k (i + 1))) z (r (λ j h. more e j h (ℕ-discrete j i)))
 
 -- a table that is so filled, and a test that takes constants of one home alone
 module _ (n : ℕ) (slots : List ℕ) (l : List Constant) (f : Fills n slots l) (c : Constant) (is : ℕ → Bool)

@@ -163,7 +163,8 @@ pool-grows-from (suc k) i w =
     ap (λ l. constantAt w i ∷ l) (pool-grows-from k (i + 1) w ∙ ap (λ m. constantsFrom k (i + 1) w ++ (constantAt w m ∷ [])) z)
 
 pub pool-grows : (k : ℕ) (w : List ℕ) → poolOf (k + 1) w ≡ poolOf k w ++ (constantAt w k ∷ [])
-pool-grows k w = let z : k + 1 ≡ suc k = omega arith in ap (λ m. poolOf m w) z ∙ pool-grows-from k 0 w ∙ ap (λ m. poolOf k w ++ (constantAt w m ∷ [])) (zero-add k)
+pool-grows k w = let z : k + 1 ≡ suc k = omega arith in
+    ap (λ m. poolOf m w) z ∙ pool-grows-from k 0 w ∙ ap (λ m. poolOf k w ++ (constantAt w m ∷ [])) (zero-add k)
 
 pub filled-next : (n k : ℕ) (w : List ℕ) → putSlot (slotsOf n (poolOf k w)) k (constantAt w k) ≡ slotsOf n (poolOf (k + 1) w)
 filled-next n k w =

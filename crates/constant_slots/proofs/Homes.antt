@@ -104,7 +104,13 @@ module _ (n k d : ℕ) (h : d < n) where
     where
       go : Dec (q < s) → q < s
       go (yes l) = l
-      go (no g) = absurd (omega (arith, mul-le-mul-right {m = s} {n = q} n (omega arith), mul-le-mul-right {m = d + 1} {n = n} s (omega arith), add-mul d 1 s, mul-comm n s))
+      go (no g) = absurd (omega (
+        arith,
+        mul-le-mul-right {m = s} {n = q} n (omega arith),
+        mul-le-mul-right {m = d + 1} {n = n} s (omega arith),
+        add-mul d 1 s,
+        mul-comm n s,
+      ))
 
   strides : (k + d * stride n) % n ≡ k % n → d ≡ 0
   strides e = go (ℕ-discrete (n % 13) 0) (ℕ-discrete (n % 11) 0) (ℕ-discrete (n % 7) 0)

@@ -1,4 +1,5 @@
 pub mod Agree
+pub mod Examples
 pub mod Filling
 pub mod Homes
 pub mod PlainWays

@@ -1,4 +1,4 @@
--- The ways through the routines of `plain.rt`: what a turn of a search makes of `firstFrom`, and constants that are passed over by their values. Assumes nothing.
+-- The ways through the routines of `plain.rt`: what a turn of a search makes of `firstFrom`, and constants passed over by their values. Assumes nothing.
 use Prim.Native.Nat.{ℕ, zero, suc, _+_, _-_, _*_, _≤_, _<_}
 use native.Mathlib.Decide.{decLt}
 use native.Mathlib.Omega.{arith}

@@ -18,11 +18,11 @@ use Rattle.constant_slots.proofs.Filling.{set-past}
 use Rattle.constant_slots.specs.Slots.{after, firstEmpty, putSlot, putNumber, Search, searched, look, lookedOf}
 
 -- the arithmetic of a home
-pub product-fits : (v : ℕ) → v % 3141592661 * (v % 2718281831) < 2 ^ 64
-product-fits v =
-    let a : v % 3141592661 ≤ 3141592660 = omega arith in
-    let b : v % 2718281831 ≤ 2718281830 = omega arith in
-    omega (arith, mul-le-mul a b)
+pub product-fits : (v a b : ℕ) → 0 < a → a ≤ 4294967296 → 0 < b → b ≤ 4294967296 → v % a * (v % b) < 2 ^ 64
+product-fits v a b h k l m =
+    let first : v % a ≤ 4294967295 = omega (arith, mod-lt v h) in
+    let second : v % b ≤ 4294967295 = omega (arith, mod-lt v l) in
+    omega (arith, mul-le-mul first second)
 
 pub stride-small : (n : ℕ) → stride n ≤ 13
 stride-small n = go (eqb (n % 13) 0) (eqb (n % 11) 0) (eqb (n % 7) 0)

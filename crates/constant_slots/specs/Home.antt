@@ -1,14 +1,23 @@
 -- 2026-12: the home slot of a constant among n slots, from which it is looked for and put. 'In n slots, n non-negative integers in a row have different
--- home slots' is `row-of-homes` of proofs/Homes.antt; what else is asked of it is that pools as they are written do not crowd (docs/DECISIONS.md, 'Home slots')
+-- home slots' is `row-of-homes` of proofs/Homes.antt; what else is asked of it is that pools as they are written do not crowd (docs/DECISIONS.md, 89)
 use Prim.Native.Nat.{ℕ, _+_, _*_, _/_, _%_}
 use mathlib.Core.Bool.{cond}
 use lib.Dec.{eqb}
 use Rattle.words.specs.Object.{Constant, floatKind}
 
--- a float's 64 bits: round floats differ in their highest bits alone, so the product of two remainders by primes is taken. The primes are the first from
--- 3141592653 and from 2718281828 on, and the last below 2^32
+-- the primes of a float's home: the first from 3141592653 and from 2718281828 on, and the last below 2^32
+abbrev pub firstPrime : ℕ
+firstPrime = 3141592661
+
+abbrev pub secondPrime : ℕ
+secondPrime = 2718281831
+
+abbrev pub lastPrime : ℕ
+lastPrime = 4294967291
+
+-- a float's 64 bits: round floats differ in their highest bits alone, so the product of two remainders is taken
 abbrev pub folded : ℕ → ℕ
-folded bits = bits % 3141592661 * (bits % 2718281831) % 4294967291
+folded bits = bits % firstPrime * (bits % secondPrime) % lastPrime
 
 -- what is spread over the slots: numbers and texts as they are, since they are mostly small and close to each other
 abbrev pub spreadValue : Constant → ℕ

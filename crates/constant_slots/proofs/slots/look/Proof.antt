@@ -25,8 +25,8 @@ loop-holds : tie.Need-loop-holds Inv-loop μ-loop
 loop-holds c = (
   c .before .before .pre,
   look-start (isInPool (c .before .before .args .count) (constantOf (c .before .before .args .kind)
-      (c .before .before .args .value)) (c .before .before .args .constants .now)) (length (c .before .before .args .slots .now))
-      (c .before .before .args .slots .now) (c .before .before .args .from),
+      (c .before .before .args .value)) (c .before .before .args .constants .now))
+      (length (c .before .before .args .slots .now)) (c .before .before .args .slots .now) (c .before .before .args .from),
 )
 
 returns : tie.Need-returns Inv-loop μ-loop

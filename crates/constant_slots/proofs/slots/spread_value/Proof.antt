@@ -2,13 +2,14 @@
 -- Made from Proof.answers by `answers make`: edit that file, and not this one.
 use mathlib.Core.Path.{refl}
 use borrow.Author.Tests.{eq-eqb, ne-eqb}
+use Rattle.constant_slots.specs.Home.{firstPrime, secondPrime}
 use Rattle.constant_slots.proofs.SlotWays.{product-fits}
 use Rattle.constant_slots.proofs.slots.spread_value.Statement.{statement}
 use Rattle.constant_slots.proofs.slots.spread_value.Tie as tie
 use native.Mathlib.Omega.{arith}
 
 mul-result : tie.Need-mul-result
-mul-result c = omega (arith, product-fits (c .before .args .value))
+mul-result c = omega (arith, product-fits (c .before .args .value) firstPrime secondPrime (omega arith) (omega arith) (omega arith) (omega arith))
 
 returns : tie.Need-returns
 returns c = rw (eq-eqb (c .before .args .kind) 3 (c .if1 .taken)) refl
