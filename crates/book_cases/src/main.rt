@@ -254,6 +254,7 @@ fn compare(
 // The compile call, and what it must leave: the reply after the last length, and the lists.
 fn judge(
     tree: &[u64],
+    strict: bool,
     code: &mut [u64],
     constants: &mut [u64],
     functions: &mut [u64],
@@ -272,6 +273,7 @@ fn judge(
 ) -> bool {
     let reply = books::compile(
         tree,
+        strict,
         code,
         constants,
         functions,
@@ -317,7 +319,7 @@ fn room(numbers: &[u64], at: usize) -> usize
 }
 
 // Lends the areas of a case, whose lengths stand from a place on.
-fn lend(tree: &[u64], numbers: &[u64], at: usize) -> bool
+fn lend(tree: &[u64], strict: bool, numbers: &[u64], at: usize) -> bool
     requires { ⌜ at ≤ 1024 ⌝ }
 {
     let last = at + 11;
@@ -348,6 +350,7 @@ fn lend(tree: &[u64], numbers: &[u64], at: usize) -> bool
     let n12 = room(numbers, at + 11);
     judge(
         tree,
+        strict,
         &mut code[0..n1],
         &mut constants[0..n2],
         &mut functions[0..n3],
@@ -378,7 +381,7 @@ fn fits(numbers: &[u64], at: usize) -> bool {
     true
 }
 
-fn case(numbers: &[u64]) -> u64 {
+fn case_in(strict: bool, numbers: &[u64]) -> u64 {
     let end = after(numbers, 0);
     if end > MOST_NUMBERS {
         say(b"  no case\n");
@@ -392,10 +395,21 @@ fn case(numbers: &[u64]) -> u64 {
         say(b"  no room\n");
         return DIFFERS;
     }
-    if lend(&numbers[1..end], numbers, end) {
+    if lend(&numbers[1..end], strict, numbers, end) {
         return AS_STORED;
     }
     DIFFERS
+}
+
+// The first number is the mode: 0 present, else strict.
+fn case(numbers: &[u64]) -> u64 {
+    let end = numbers.len();
+    if end == 0 {
+        say(b"  no case\n");
+        return DIFFERS;
+    }
+    let strict = numbers[0] != 0;
+    case_in(strict, &numbers[1..end])
 }
 
 fn read_name(name: &mut [u8]) {

@@ -131,7 +131,7 @@ zero-drop i a z =
     let zs : drop i a ≡ replicate (length a - i) 0 = ap (λ (y : List ℕ). drop i y) z ∙ drop-zeros i (length a) in
     zs ∙ ap (λ (y : ℕ). replicate y 0) (sym (ap (λ (y : List ℕ). length y) zs ∙ length-replicate {A = ℕ} (length a - i) 0))
 
-module _ {tree set : List ℕ} {c k f m p t l u n b e o : List ℕ} {x r : Taken} {k₁ o₁ : List ℕ} (C : FirstConstants k x k₁)
+module _ {strict : Bool} {tree set : List ℕ} {c k f m p t l u n b e o : List ℕ} {x r : Taken} {k₁ o₁ : List ℕ} (C : FirstConstants k x k₁)
     (B : TakesBooks tree (length tree / 4) set (x .full) o r o₁) (same : length k₁ ≡ length k) where
   module _ {root : Document} {others : List Document} (A : Accepted tree set root others) (zeros : Cleared c k f m p t l u n b e o) (κ : Limits)
       (lent : (s : struct.Book) → Lent κ s c k f m p t l u n b e o) where
@@ -141,10 +141,10 @@ module _ {tree set : List ℕ} {c k f m p t l u n b e o : List ℕ} {x r : Taken
     marks : Marks (firstOver κ (begunUses (length numbers))) (r .full)
     marks =
         mark-books B (root ∷ others) numbers (A .bundle) (needed-ascends root others) (needed-below root others (A .bundle .numbers)) (A .chosen) κ
-        (using′ constantsArea 3 ∷ []) (lent (begunBook r 0) .books) (mark-constants κ (zeros .emptied .constants) (lent (begunBook r 0) .fitted .constants) C)
+        (using′ constantsArea 3 ∷ []) (lent (begunBook strict r 0) .books) (mark-constants κ (zeros .emptied .constants) (lent (begunBook strict r 0) .fitted .constants) C)
 
     -- the definition's work from there
-    as-work : compileNeeded numbers (root ∷ others) newContext ≡ drive (length numbers) (root ∷ others) [] numbers newContext (begunUses (length numbers))
+    as-work : compileNeeded numbers (root ∷ others) (newContext strict) ≡ drive (length numbers) (root ∷ others) [] numbers (newContext strict) (begunUses (length numbers))
     unfolding compileNeeded
     as-work = let n : 0 + length numbers ≡ length numbers = omega arith in rw n
 
@@ -177,21 +177,22 @@ module _ {tree set : List ℕ} {c k f m p t l u n b e o : List ℕ} {x r : Taken
               (needed-below root others (A .bundle .numbers)) (A .chosen) (no-mark z) (omega arith),
         ))
 
-    resting : r .full ≡ 0 → Resting κ (begunBook r (x .count)) c k₁ f m p t l u n b e newContext (begunUses (length numbers))
+    resting : r .full ≡ 0 → Resting κ (begunBook strict r (x .count)) c k₁ f m p t l u n b e (newContext strict) (begunUses (length numbers))
     resting z = record {
       ready = record {
         fitted = record {
-          code = lent (begunBook r 0) .fitted .code;
-          constants = rw same (lent (begunBook r 0) .fitted .constants);
-          functions = lent (begunBook r 0) .fitted .functions;
-          models = lent (begunBook r 0) .fitted .models;
-          properties = lent (begunBook r 0) .fitted .properties;
-          methods = lent (begunBook r 0) .fitted .methods;
-          locals = lent (begunBook r 0) .fitted .locals;
-          publics = lent (begunBook r 0) .fitted .publics;
-          names = lent (begunBook r 0) .fitted .names;
-          breaks = lent (begunBook r 0) .fitted .breaks;
-          errors = lent (begunBook r 0) .fitted .errors;
+          code = lent (begunBook strict r 0) .fitted .code;
+          constants = rw same (lent (begunBook strict r 0) .fitted .constants);
+          functions = lent (begunBook strict r 0) .fitted .functions;
+          models = lent (begunBook strict r 0) .fitted .models;
+          properties = lent (begunBook strict r 0) .fitted .properties;
+          methods = lent (begunBook strict r 0) .fitted .methods;
+          locals = lent (begunBook strict r 0) .fitted .locals;
+          publics = lent (begunBook strict r 0) .fitted .publics;
+          names = lent (begunBook strict r 0) .fitted .names;
+          breaks = lent (begunBook strict r 0) .fitted .breaks;
+          errors = lent (begunBook strict r 0) .fitted .errors;
+          others = lent (begunBook strict r 0) .fitted .others;
         };
         full = marks;
         rest = λ y. record {
@@ -213,6 +214,7 @@ module _ {tree set : List ℕ} {c k f m p t l u n b e o : List ℕ} {x r : Taken
           prior = record { books = nil; publics = nil };
           file = refl;
           last-index = refl;
+          mode = refl;
           indexed = λ i h. absurd (omega arith);
           entry = refl;
           names = zero-filled (zeros .emptied .names);
@@ -223,9 +225,9 @@ module _ {tree set : List ℕ} {c k f m p t l u n b e o : List ℕ} {x r : Taken
     }
 
     driving : r .full ≡ 0 → {set₀ : List ℕ} → set₀ ≡ replicate (length set) 0
-        → Driving (root ∷ others) tree (length tree / 4) 0 (r .count) numbers (drop (length numbers) o) [] set₀ o₁ κ (begunBook r (x .count)) c k₁ f
+        → Driving (root ∷ others) tree (length tree / 4) 0 (r .count) numbers (drop (length numbers) o) [] set₀ o₁ κ (begunBook strict r (x .count)) c k₁ f
         m p t l u n b
-        e newContext (begunUses (length numbers))
+        e (newContext strict) (begunUses (length numbers))
     driving z empty = record {
       distinct = A .distinct;
       limited = rw (A .documents) at (fine-limited tree (A .fine));
@@ -248,7 +250,7 @@ module _ {tree set : List ℕ} {c k f m p t l u n b e o : List ℕ} {x r : Taken
   module _ (calm : (d : Definition) → Calms (compileDefinition d)) where
     -- the constants or the books do not fit
     not-begun : (r .full ≡ 0 → ⊥) → (row place : ℕ)
-        → Works tree set c k f m p t l u n b e o (begunBook r (x .count)) c k₁ f m p t l u n b e o₁ row place
+        → Works strict tree set c k f m p t l u n b e o (begunBook strict r (x .count)) c k₁ f m p t l u n b e o₁ row place
     not-begun ne row place = record {
       works = λ root others A zeros κ lent. (
         [],
@@ -256,7 +258,7 @@ module _ {tree set : List ℕ} {c k f m p t l u n b e o : List ℕ} {x r : Taken
           refl,
           record {
             full = rw (as-work A zeros κ lent) (over-longer κ (drive-longer calm (length (needed [] root others)) (root ∷ others) [] (needed [] root
-                others) newContext
+                others) (newContext strict)
                 (begunUses (length (needed [] root others)))) (marks A zeros κ lent) ne);
             came = λ z. absurd (ne z);
           },
@@ -264,14 +266,14 @@ module _ {tree set : List ℕ} {c k f m p t l u n b e o : List ℕ} {x r : Taken
       );
     }
 
-    pub work-full : {s : struct.Book} → s ≡ begunBook r (x .count) → (r .full ≡ 0 → ⊥) → (row place : ℕ)
-        → Works tree set c k f m p t l u n b e o s c k₁ f m p t l u n b e o₁ row place
+    pub work-full : {s : struct.Book} → s ≡ begunBook strict r (x .count) → (r .full ≡ 0 → ⊥) → (row place : ℕ)
+        → Works strict tree set c k f m p t l u n b e o s c k₁ f m p t l u n b e o₁ row place
     work-full s-is ne row place = rw s-is (not-begun ne row place)
 
-    pub work-on : {s : struct.Book} → s ≡ begunBook r (x .count) → r .full ≡ 0 → {set₀ : List ℕ} → set₀ ≡ replicate (length set) 0
+    pub work-on : {s : struct.Book} → s ≡ begunBook strict r (x .count) → r .full ≡ 0 → {set₀ : List ℕ} → set₀ ≡ replicate (length set) 0
         → {s′ : struct.Book} {c′ k′ f′ m′ p′ t′ l′ u′ n′ b′ e′ o′ : List ℕ} {row place : ℕ}
         → Drives tree (length tree / 4) 0 (r .count) set₀ o₁ s c k₁ f m p t l u n b e s′ c′ k′ f′ m′ p′ t′ l′ u′ n′ b′ e′ o′ row place
-        → Works tree set c k f m p t l u n b e o s′ c′ k′ f′ m′ p′ t′ l′ u′ n′ b′ e′ o′ row place
+        → Works strict tree set c k f m p t l u n b e o s′ c′ k′ f′ m′ p′ t′ l′ u′ n′ b′ e′ o′ row place
     work-on s-is z empty D = record {
       works = λ root others A zeros κ lent.
           let numbers = needed [] root others in (
@@ -279,13 +281,13 @@ module _ {tree set : List ℕ} {c k f m p t l u n b e o : List ℕ} {x r : Taken
             (
               zero-drop (length numbers) o (zeros .emptied .books),
               rw (as-work A zeros κ lent)
-                  (D .drives (root ∷ others) numbers (drop (length numbers) o) [] κ newContext (begunUses (length numbers))
+                  (D .drives (root ∷ others) numbers (drop (length numbers) o) [] κ (newContext strict) (begunUses (length numbers))
                   (rw s-is (driving A zeros κ lent z empty))),
             ),
           );
     }
 
 -- more records than row 2 lets pass
-pub work-huge : {tree set c k f m p t l u n b e o : List ℕ} {s′ : struct.Book} {c′ k′ f′ m′ p′ t′ l′ u′ n′ b′ e′ o′ : List ℕ} {row place : ℕ}
-    → mostRecords < length tree / 4 → Works tree set c k f m p t l u n b e o s′ c′ k′ f′ m′ p′ t′ l′ u′ n′ b′ e′ o′ row place
-work-huge {tree} h = record { works = λ root others A zeros κ lent. absurd (omega (arith, fine-limit tree (A .fine))) }
+pub work-huge : {strict : Bool} {tree set c k f m p t l u n b e o : List ℕ} {s′ : struct.Book} {c′ k′ f′ m′ p′ t′ l′ u′ n′ b′ e′ o′ : List ℕ} {row place : ℕ}
+    → mostRecords < length tree / 4 → Works strict tree set c k f m p t l u n b e o s′ c′ k′ f′ m′ p′ t′ l′ u′ n′ b′ e′ o′ row place
+work-huge {tree = tree} h = record { works = λ root others A zeros κ lent. absurd (omega (arith, fine-limit tree (A .fine))) }

@@ -42,10 +42,10 @@ module _ (w : List ℕ) (end : ℕ) (ranges : (j : ℕ) → j < end → inRange 
   includes-range : (defs : List Definition) (i : ℕ) → RunAt DefinitionAt sizeD defs w i → i + runSize sizeD defs ≤ end → Below setSize (dependencies defs)
   unfolding RunAt runSize DefinitionAt
   includes-range [] i a f = tt
-  includes-range (IncludeDefinition t l ∷ ds) i a f =
-      let p = sizeD-pos (IncludeDefinition t l) in (
+  includes-range (IncludeDefinition index t l ∷ ds) i a f =
+      let p = sizeD-pos (IncludeDefinition index t l) in (
         subst (λ (n : ℕ). n < setSize) (sym (ap (λ (x : Token). x .value) (a .0 .0 .token))) (text-range i 11 (omega arith) (a .0 .0 .head .kind-is) refl),
-        includes-range ds (i + sizeD (IncludeDefinition t l)) (a .1) (omega arith),
+        includes-range ds (i + sizeD (IncludeDefinition index t l)) (a .1) (omega arith),
       )
   includes-range (LocalDefinition x ∷ ds) i a f = includes-range ds (i + sizeD (LocalDefinition x)) (a .1) (omega arith)
   includes-range (ModelDefinition x y ∷ ds) i a f = includes-range ds (i + sizeD (ModelDefinition x y)) (a .1) (omega arith)

@@ -184,7 +184,7 @@ module _ (tree : List ℕ) (j end : ℕ) (P : List ℕ → Type 0) where
     where
       go : (x : Definition) → (kindD x ≡ 11 → ⊥) → P (dependencies ds) → P (dependencies (x ∷ ds))
       go (LocalDefinition x) h r = r
-      go (IncludeDefinition x y) h r = absurd (h refl)
+      go (IncludeDefinition n x y) h r = absurd (h refl)
       go (ModelDefinition x y) h r = r
       go (PublicModelDefinition x y) h r = r
       go (PlainFunction x) h r = r
@@ -200,10 +200,10 @@ module _ (tree : List ℕ) (j end : ℕ) (P : List ℕ → Type 0) where
   defs-more {kind} {file} {next} inside k eleven v q p (d ∷ ds) a f = go d (seeD d tree j (a .0) k eleven) a f
     where
       go : (x : Definition) → ViewD 11 x → RunAt DefinitionAt sizeD (x ∷ ds) tree j → j + runSize sizeD (x ∷ ds) ≡ end → P (dependencies (x ∷ ds))
-      go (IncludeDefinition t l) v-IncludeDefinition u e =
-          let f : j + (sizeD (IncludeDefinition t l) + runSize sizeD ds) ≡ end = e in
-          let nx : next ≡ j + sizeD (IncludeDefinition t l)
-          = q ∙ skip-law tree j end (headD (IncludeDefinition t l) (u .0)) (sizeD-pos (IncludeDefinition t l)) (omega arith) in
+      go (IncludeDefinition index t l) v-IncludeDefinition u e =
+          let f : j + (sizeD (IncludeDefinition index t l) + runSize sizeD ds) ≡ end = e in
+          let nx : next ≡ j + sizeD (IncludeDefinition index t l)
+          = q ∙ skip-law tree j end (headD (IncludeDefinition index t l) (u .0)) (sizeD-pos (IncludeDefinition index t l)) (omega arith) in
           let same : t .value ≡ file = ap (λ (x : Token). x .value) (u .0 .0 .token) ∙ sym v in
           rw same (p ds (rw nx (u .1)) (omega arith))
 

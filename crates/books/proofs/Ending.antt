@@ -6,7 +6,8 @@ use native.Mathlib.Omega.{arith}
 use native.Mathlib.Decide.{ℕ-discrete}
 use mathlib.Core.Path.{_≡_, refl, sym, ap, subst, _∙_}
 use mathlib.Core.Bool.{Bool, true, false, cond}
-use lib.Dec.{eqb}
+use lib.Dec.{eqb, ltb}
+use borrow.Author.Tests.{lt-ltb, le-ltb}
 use mathlib.Core.Option.{Option, none, some}
 use mathlib.Core.List.{List, [], _∷_, _++_}
 use lib.ListN.{length, getD, replicate, length-replicate, length-append}
@@ -15,7 +16,7 @@ use Rattle.words.specs.Areas.{clearedFrom, entryField}
 use Rattle.words.specs.Object.{Constant, constantOf}
 use Rattle.words.specs.declared.reply.Reply as struct
 use Rattle.words.specs.Reply.{delivery, refusal}
-use Rattle.definition.specs.Uses.{Use, Limits, firstOver}
+use Rattle.definition.specs.Uses.{Use, Limits, firstOver, firstNotPublic}
 use Rattle.definition.specs.Compiler.{Error}
 use Rattle.definition.specs.Prior.{Entries, fileNumbers}
 use Rattle.definition.specs.Book.{hasText, Assembly, Context, newContext, bookCount}
@@ -31,8 +32,9 @@ use Rattle.documents.specs.Shelf.{shelf}
 use Rattle.documents.specs.Documents.{Resting}
 use Rattle.books.specs.Driving.{Zero, Cleared, Lent, Came, came-delivered, came-faulty}
 use Rattle.books.specs.Driving.{came-ring, Outcome, Accepted, Fronts, Works, MarkedFrom, markOf, Emptied}
+use Rattle.definition.proofs.Strict.{none-there}
 use Rattle.definition.specs.Promise.{areas, lengthsOf, saying, answering, logsIn, programOf, Compiles}
-use Rattle.books.specs.Finishing.{totals, Finishes, Runs}
+use Rattle.books.specs.Finishing.{totals, markRefusal, Finishes, Runs}
 use Rattle.books.proofs.Whole.{filled-is, delivered-words, delivered-reply}
 use Rattle.definition.proofs.Promise.{compiles}
 use Rattle.books.proofs.Beginning.{zero-filled}
@@ -85,6 +87,7 @@ lent-are s c k f m p t l u n b e o = record {
     names = refl;
     breaks = refl;
     errors = refl;
+    others = none-there (lengthsOf (areas c k f m p t l u n b e o));
   };
   books = refl;
 }
@@ -130,18 +133,18 @@ all-marked gs cs {k} {count} F M =
         rw same (filled-field j 2 (omega arith) (omega (arith, F .count, so-many)) (omega arith) F
         ∙ ap (λ (x : List ℕ). getD x 2 0) (single-at (constantWords gs) 0 cs j (constantOf 0 0) h) ∙ rw same)
 
-module _ (tree : List ℕ) (before : Areas) where
+module _ (strict : Bool) (tree : List ℕ) (before : Areas) where
   -- an answer's reply and words are the call's
-  answered : {after : Areas} {r : struct.Reply} (a : Answer) → length (lengthsOf before) ≡ 13 → answering tree before ≡ a → saying r ≡ replyOf a
-      → after ≡ areasOf (lengthsOf before) a → Compiles tree before after r
+  answered : {after : Areas} {r : struct.Reply} (a : Answer) → length (lengthsOf before) ≡ 13 → answering strict tree before ≡ a → saying r ≡ replyOf a
+      → after ≡ areasOf (lengthsOf before) a → Compiles strict tree before after r
   answered {after} {r} a thirteen q says holds =
-      compiles tree before after r thirteen (says ∙ sym (ap replyOf q)) (holds ∙ sym (ap (areasOf (lengthsOf before)) q))
+      compiles strict tree before after r thirteen (says ∙ sym (ap replyOf q)) (holds ∙ sym (ap (areasOf (lengthsOf before)) q))
 
   -- a refusal with these errors and zeros
   refuses : {c k f m p t l u n b e o : List ℕ} {errors : ℕ} (row place : ℕ) (es : List Error) → length (lengthsOf before) ≡ 13
-      → lengthsOf before ≡ lengthsOf (areas c k f m p t l u n b e o) → answering tree before ≡ Refusal row place es → Zero c → Zero k → Zero f → Zero m → Zero p
+      → lengthsOf before ≡ lengthsOf (areas c k f m p t l u n b e o) → answering strict tree before ≡ Refusal row place es → Zero c → Zero k → Zero f → Zero m → Zero p
       → Zero t → Zero l → Zero u → Zero n → Zero b → Filled 4 e (entriesFrom errorEntry 0 es) errors → Zero o
-      → Compiles tree before (areas c k f m p t l u n b e o) (refusal row place)
+      → Compiles strict tree before (areas c k f m p t l u n b e o) (refusal row place)
   refuses {c} {k} {f} {m} {p} {t} {l} {u} {n} {b} {e} {o} row place es thirteen long q zc zk zf zm zp zt zl zu zn zb fe zo =
       answered (Refusal row place es) thirteen q (refused-reply row place es)
       (subst (λ (ls : List ℕ). areas c k f m p t l u n b e o ≡ areasOf ls (Refusal row place es)) (sym long)
@@ -150,22 +153,22 @@ module _ (tree : List ℕ) (before : Areas) where
   -- rows 2 to 6
   pub compile-refused : {set c k f m p t l u n b e o : List ℕ} {row place : ℕ} {r : struct.Reply} → length (lengthsOf before) ≡ 13
       → lengthsOf before ≡ lengthsOf (areas c k f m p t l u n b e o) → Cleared c k f m p t l u n b e o → Fronts tree row place set → (row ≡ 0 → ⊥)
-      → r ≡ refusal row place → Compiles tree before (areas c k f m p t l u n b e o) r
+      → r ≡ refusal row place → Compiles strict tree before (areas c k f m p t l u n b e o) r
   compile-refused {c = c} {k} {f} {m} {p} {t} {l} {u} {n} {b} {e} {o} {row} {place} {r} thirteen long z F ne says =
       let E = z .emptied in
-      subst (λ (x : struct.Reply). Compiles tree before (areas c k f m p t l u n b e o) x) (sym says)
-      (refuses row place [] thirteen long (F .refused ne (lengthsOf before)) (E .code) (E .constants) (E .functions) (E .models) (E .properties) (E .methods)
+      subst (λ (x : struct.Reply). Compiles strict tree before (areas c k f m p t l u n b e o) x) (sym says)
+      (refuses row place [] thirteen long (F .refused ne strict (lengthsOf before)) (E .code) (E .constants) (E .functions) (E .models) (E .properties) (E .methods)
       (E .locals) (E .publics) (E .names) (E .breaks) (zero-filled (z .errors)) (E .books))
 
   -- the work, and how it ends
   module _ {set c k f m p t l u n b e o : List ℕ} {s′ : book.Book} {c′ k′ f′ m′ p′ t′ l′ u′ n′ b′ e′ o′ : List ℕ} {row place number : ℕ}
       (thirteen : length (lengthsOf before) ≡ 13) (long : lengthsOf before ≡ lengthsOf (areas c k f m p t l u n b e o)) (z : Cleared c k f m p t l u n b e o)
       {at : ℕ} (F : Fronts tree number at set) (went : number ≡ 0)
-      (W : Works tree set c k f m p t l u n b e o s′ c′ k′ f′ m′ p′ t′ l′ u′ n′ b′ e′ o′ row place) where
+      (W : Works strict tree set c k f m p t l u n b e o s′ c′ k′ f′ m′ p′ t′ l′ u′ n′ b′ e′ o′ row place) where
     -- what the definition's work came to
     record Worked′ : Type 0 where
       worked : Worked
-      answers : answering tree before ≡ answerWorked (limitsOf (lengthsOf before)) worked
+      answers : answering strict tree before ≡ answerWorked (limitsOf (lengthsOf before)) worked
       rest : List ℕ
       zeros : Zero rest
       outcome : Outcome (limitsOf (lengthsOf before)) s′ c′ k′ f′ m′ p′ t′ l′ u′ n′ b′ e′ o′ rest row place worked
@@ -179,8 +182,8 @@ module _ (tree : List ℕ) (before : Areas) where
         (lent-are s c k f m p t l u n b e o) in
         let Y = W .works (X .0) (X .1 .0) A z κ lent in
         record {
-          worked = compileNeeded (needed [] (X .0) (X .1 .0)) (X .0 ∷ X .1 .0) newContext;
-          answers = A .answers (lengthsOf before);
+          worked = compileNeeded (needed [] (X .0) (X .1 .0)) (X .0 ∷ X .1 .0) (newContext strict);
+          answers = A .answers strict (lengthsOf before);
           rest = Y .0;
           zeros = Y .1 .0;
           outcome = Y .1 .1;
@@ -190,17 +193,26 @@ module _ (tree : List ℕ) (before : Areas) where
     module _ {c″ k″ f″ m″ p″ t″ l″ u″ n″ b″ e″ o″ : List ℕ} {r : struct.Reply} (long″ : lengthsOf before ≡ lengthsOf (areas c″ k″ f″ m″ p″ t″ l″ u″
         n″ b″ e″ o″))
       where
-        pub compile-full : (s′ .full ≡ 0 → ⊥) → Cleared c″ k″ f″ m″ p″ t″ l″ u″ n″ b″ e″ o″ → r ≡ refusal 9 (s′ .full)
-            → Compiles tree before (areas c″ k″ f″ m″ p″ t″ l″ u″ n″ b″ e″ o″) r
+        pub compile-full : (s′ .full ≡ 0 → ⊥) → Cleared c″ k″ f″ m″ p″ t″ l″ u″ n″ b″ e″ o″ → r ≡ markRefusal (s′ .full)
+            → Compiles strict tree before (areas c″ k″ f″ m″ p″ t″ l″ u″ n″ b″ e″ o″) r
         compile-full ne y says =
             let X = work in
             let E = y .emptied in
             let at : firstOver (limitsOf (lengthsOf before)) (X .worked .uses) ≡ some (s′ .full) = marked-is (X .outcome .full) ne in
-            let q : answering tree before ≡ Refusal 9 (s′ .full) [] = X .answers ∙ rw at in
-            subst (λ (x : struct.Reply). Compiles tree before (areas c″ k″ f″ m″ p″ t″ l″ u″ n″ b″ e″ o″) x) (sym says)
-            (refuses 9 (s′ .full) [] thirteen long″ q (E .code) (E .constants) (E .functions) (E .models) (E .properties) (E .methods) (E .locals) (E .publics)
-            (E .names) (E .breaks) (zero-filled (y .errors)) (E .books))
+            by (ltb (s′ .full) firstNotPublic) (X .answers ∙ rw at) says E (zero-filled (y .errors))
           where
+            by : (area : Bool) → answering strict tree before ≡ cond area (Refusal 9 (s′ .full) []) (Refusal 11 (s′ .full - firstNotPublic) [])
+                → r ≡ cond area (refusal 9 (s′ .full)) (refusal 11 (s′ .full - firstNotPublic)) → Emptied c″ k″ f″ m″ p″ t″ l″ u″ n″ b″ o″ → {errors : ℕ}
+                → Filled 4 e″ (entriesFrom errorEntry 0 []) errors → Compiles strict tree before (areas c″ k″ f″ m″ p″ t″ l″ u″ n″ b″ e″ o″) r
+            by true q says E z =
+                subst (λ (x : struct.Reply). Compiles strict tree before (areas c″ k″ f″ m″ p″ t″ l″ u″ n″ b″ e″ o″) x) (sym says)
+                (refuses 9 (s′ .full) [] thirteen long″ q (E .code) (E .constants) (E .functions) (E .models) (E .properties) (E .methods) (E .locals)
+                (E .publics) (E .names) (E .breaks) z (E .books))
+            by false q says E z =
+                subst (λ (x : struct.Reply). Compiles strict tree before (areas c″ k″ f″ m″ p″ t″ l″ u″ n″ b″ e″ o″) x) (sym says)
+                (refuses 11 (s′ .full - firstNotPublic) [] thirteen long″ q (E .code) (E .constants) (E .functions) (E .models) (E .properties) (E .methods)
+                (E .locals) (E .publics) (E .names) (E .breaks) z (E .books))
+
             marked-is : {x : Option ℕ} {a : ℕ} → Marks x a → (a ≡ 0 → ⊥) → x ≡ some a
             marked-is unmarked h = absurd (h refl)
             marked-is (marked h) g = refl
@@ -212,26 +224,26 @@ module _ (tree : List ℕ) (before : Areas) where
         go unmarked = refl
         go (marked h) = absurd (omega arith)
 
-    ended : s′ .full ≡ 0 → answering tree before ≡ answerEnding (work .worked .ending)
+    ended : s′ .full ≡ 0 → answering strict tree before ≡ answerEnding (work .worked .ending)
     ended y = work .answers ∙ rw (unmarked-is y)
 
     -- a book with errors, or a ring: the errors stay
     module _ {c″ k″ f″ m″ p″ t″ l″ u″ n″ b″ o″ : List ℕ} {r : struct.Reply} (long″ : lengthsOf before ≡ lengthsOf (areas c″ k″ f″ m″ p″ t″ l″ u″ n″ b″ e′ o″))
       where
         pub compile-errors : s′ .full ≡ 0 → (row ≡ 0 → ⊥) → Zero c″ → Zero k″ → Zero f″ → Zero m″ → Zero p″ → Zero t″ → Zero l″ → Zero u″ → Zero n″ → Zero b″
-            → Zero o″ → r ≡ refusal row place → Compiles tree before (areas c″ k″ f″ m″ p″ t″ l″ u″ n″ b″ e′ o″) r
+            → Zero o″ → r ≡ refusal row place → Compiles strict tree before (areas c″ k″ f″ m″ p″ t″ l″ u″ n″ b″ e′ o″) r
         compile-errors y ne zc zk zf zm zp zt zl zu zn zb zo says =
-            subst (λ (x : struct.Reply). Compiles tree before (areas c″ k″ f″ m″ p″ t″ l″ u″ n″ b″ e′ o″) x) (sym says)
+            subst (λ (x : struct.Reply). Compiles strict tree before (areas c″ k″ f″ m″ p″ t″ l″ u″ n″ b″ e′ o″) x) (sym says)
             (go (work .outcome .came y) (ended y))
           where
-            by : (a i : ℕ) (es : List Error) {j : ℕ} → row ≡ a → place ≡ i → answering tree before ≡ Refusal a i es
+            by : (a i : ℕ) (es : List Error) {j : ℕ} → row ≡ a → place ≡ i → answering strict tree before ≡ Refusal a i es
                 → Filled 4 e′ (entriesFrom errorEntry 0 es) j
-                → Compiles tree before (areas c″ k″ f″ m″ p″ t″ l″ u″ n″ b″ e′ o″) (refusal row place)
+                → Compiles strict tree before (areas c″ k″ f″ m″ p″ t″ l″ u″ n″ b″ e′ o″) (refusal row place)
             by a i es h g q F =
                 refuses row place es thirteen long″ (q ∙ rw (h, g)) zc zk zf zm zp zt zl zu zn zb F zo
 
             go : {rest : List ℕ} {us : List Use} {x : Ending} → Came (limitsOf (lengthsOf before)) s′ c′ k′ f′ m′ p′ t′ l′ u′ n′ b′ e′ o′ rest row place us x
-                → answering tree before ≡ answerEnding x → Compiles tree before (areas c″ k″ f″ m″ p″ t″ l″ u″ n″ b″ e′ o″) (refusal row place)
+                → answering strict tree before ≡ answerEnding x → Compiles strict tree before (areas c″ k″ f″ m″ p″ t″ l″ u″ n″ b″ e′ o″) (refusal row place)
             go (came-delivered h i R w) q = absurd (ne h)
             go (came-faulty {file = file} {es = es} h i F) q = by 7 file es h i q F
             go (came-ring {left = left} h i F) q = by 8 (length left) (ringErrors left) h i q F
@@ -239,18 +251,18 @@ module _ (tree : List ℕ) (before : Areas) where
     -- a delivery
     pub compile-delivered : {globals : ℕ} {r : struct.Reply} → lengthsOf before ≡ lengthsOf (areas c′ k′ f′ m′ p′ t′ l′ u′ n′ b′ e′ o′) → s′ .full ≡ 0 → row ≡ 0
         → MarkedFrom k′ 0 (s′ .constants) 0 globals → r ≡ delivery (totals s′ place globals)
-        → Compiles tree before (areas c′ k′ f′ m′ p′ t′ l′ u′ n′ b′ e′ o′) r
+        → Compiles strict tree before (areas c′ k′ f′ m′ p′ t′ l′ u′ n′ b′ e′ o′) r
     compile-delivered {globals} {r} long′ y zero-row M says =
-        subst (λ (x : struct.Reply). Compiles tree before (areas c′ k′ f′ m′ p′ t′ l′ u′ n′ b′ e′ o′) x) (sym says)
+        subst (λ (x : struct.Reply). Compiles strict tree before (areas c′ k′ f′ m′ p′ t′ l′ u′ n′ b′ e′ o′) x) (sym says)
         (go (work .rest) (work .zeros) (work .outcome .came y) (ended y))
       where
         whole : Context → Type 0
-        whole context = answering tree before ≡ Delivery context
+        whole context = answering strict tree before ≡ Delivery context
 
         by : (context : Context) (uses : List Use) (rest : List ℕ) → Zero rest → place ≡ bookCount context
             → Resting (limitsOf (lengthsOf before)) s′ c′ k′ f′ m′ p′ t′ l′ u′ n′ b′ e′ context uses → o′ ≡ loadedOf context ++ rest
-            → answering tree before ≡ Delivery context
-            → Compiles tree before (areas c′ k′ f′ m′ p′ t′ l′ u′ n′ b′ e′ o′) (delivery (totals s′ place globals))
+            → answering strict tree before ≡ Delivery context
+            → Compiles strict tree before (areas c′ k′ f′ m′ p′ t′ l′ u′ n′ b′ e′ o′) (delivery (totals s′ place globals))
         by context uses rest zr i R w q =
             let many : place ≡ length (bookTable context) = i ∙ sym (length-append (context .prior .books) (entriesFrom bookEntry 0 (context .assemblies))
             ∙ ap (λ (n : ℕ). length (context .prior .books) + n) (single-length _ 0 (context .assemblies))) in
@@ -263,8 +275,8 @@ module _ (tree : List ℕ) (before : Areas) where
 
         go : (rest : List ℕ) → Zero rest → {us : List Use} {x : Ending}
             → Came (limitsOf (lengthsOf before)) s′ c′ k′ f′ m′ p′ t′ l′ u′ n′ b′ e′ o′ rest row place us x
-            → answering tree before ≡ answerEnding x
-            → Compiles tree before (areas c′ k′ f′ m′ p′ t′ l′ u′ n′ b′ e′ o′) (delivery (totals s′ place globals))
+            → answering strict tree before ≡ answerEnding x
+            → Compiles strict tree before (areas c′ k′ f′ m′ p′ t′ l′ u′ n′ b′ e′ o′) (delivery (totals s′ place globals))
         go rest zr (came-delivered {context = context} h i R w) q = by context _ rest zr i R w q
         go rest zr (came-faulty h i F) q = absurd (omega (arith, h, zero-row))
         go rest zr (came-ring h i F) q = absurd (omega (arith, h, zero-row))
@@ -327,9 +339,16 @@ same-lengths : {c₀ k₀ f₀ m₀ p₀ t₀ l₀ u₀ n₀ b₀ e₀ o₀ c k 
     → lengthsOf (areas c₀ k₀ f₀ m₀ p₀ t₀ l₀ u₀ n₀ b₀ e₀ o₀) ≡ lengthsOf (areas c k f m p t l u n b e o)
 same-lengths S = rw (S .code, S .constants, S .functions, S .models, S .properties, S .methods, S .locals, S .publics, S .names, S .breaks, S .errors, S .books)
 
+-- the ways of `refused_by`
+pub refused-full : {full : ℕ} {r : struct.Reply} → full < firstNotPublic → r ≡ refusal 9 full → r ≡ markRefusal full
+refused-full {full} h says = says ∙ sym (ap (λ (x : Bool). cond x (refusal 9 full) (refusal 11 (full - firstNotPublic))) (lt-ltb full firstNotPublic h))
+
+pub refused-name : {full : ℕ} {r : struct.Reply} → firstNotPublic ≤ full → r ≡ refusal 11 (full - firstNotPublic) → r ≡ markRefusal full
+refused-name {full} h says = says ∙ sym (ap (λ (x : Bool). cond x (refusal 9 full) (refusal 11 (full - firstNotPublic))) (le-ltb full firstNotPublic h))
+
 -- the ways of `finish`
 pub finish-full : {s : book.Book} {row place : ℕ} {c k f m p t l u n b e o c″ k″ f″ m″ p″ t″ l″ u″ n″ b″ e″ o″ : List ℕ} {r : struct.Reply} → (s .full ≡ 0 → ⊥)
-    → Emptied c″ k″ f″ m″ p″ t″ l″ u″ n″ b″ o″ → Zero e″ → r ≡ refusal 9 (s .full)
+    → Emptied c″ k″ f″ m″ p″ t″ l″ u″ n″ b″ o″ → Zero e″ → r ≡ markRefusal (s .full)
     → Finishes s row place c k f m p t l u n b e o c″ k″ f″ m″ p″ t″ l″ u″ n″ b″ e″ o″ r
 finish-full ne E z says = record { full = λ _. (E, (z, says)); refused = λ y _. absurd (ne y); whole = λ y _. absurd (ne y) }
 
@@ -343,71 +362,71 @@ pub finish-whole : {s : book.Book} {row place globals : ℕ} {c k f m p t l u n 
 finish-whole {globals = globals} y h M says = record { full = λ g. absurd (g y); refused = λ _ g. absurd (g h); whole = λ _ _. (refl, (globals, (M, says))) }
 
 -- the ways of `run`
-module _ {tree c k f m p t l u n b e o : List ℕ} where
+module _ {strict : Bool} {tree c k f m p t l u n b e o : List ℕ} where
   pub run-row : {set : List ℕ} {row place : ℕ} {r : struct.Reply} → Fronts tree row place set → (row ≡ 0 → ⊥) → r ≡ refusal row place
-      → Runs tree c k f m p t l u n b e o c k f m p t l u n b e o r
-  run-row F ne says = record { runs = λ z. compile-refused tree (areas c k f m p t l u n b e o) refl refl z F ne says }
+      → Runs strict tree c k f m p t l u n b e o c k f m p t l u n b e o r
+  run-row F ne says = record { runs = λ z. compile-refused strict tree (areas c k f m p t l u n b e o) refl refl z F ne says }
 
   module _ {set : List ℕ} {s′ : book.Book} {c′ k′ f′ m′ p′ t′ l′ u′ n′ b′ e′ o′ c″ k″ f″ m″ p″ t″ l″ u″ n″ b″ e″ o″ : List ℕ} {row place number at : ℕ}
       {r : struct.Reply}
-      (F : Fronts tree number at set) (went : number ≡ 0) (W : Works tree set c k f m p t l u n b e o s′ c′ k′ f′ m′ p′ t′ l′ u′ n′ b′ e′ o′ row place)
+      (F : Fronts tree number at set) (went : number ≡ 0) (W : Works strict tree set c k f m p t l u n b e o s′ c′ k′ f′ m′ p′ t′ l′ u′ n′ b′ e′ o′ row place)
       (E : Finishes s′ row place c′ k′ f′ m′ p′ t′ l′ u′ n′ b′ e′ o′ c″ k″ f″ m″ p″ t″ l″ u″ n″ b″ e″ o″ r)
       (S : SameLengths c k f m p t l u n b e o c″ k″ f″ m″ p″ t″ l″ u″ n″ b″ e″ o″) where
     ended-full : Cleared c k f m p t l u n b e o → (s′ .full ≡ 0 → ⊥)
-        → Compiles tree (areas c k f m p t l u n b e o) (areas c″ k″ f″ m″ p″ t″ l″ u″ n″ b″ e″ o″) r
+        → Compiles strict tree (areas c k f m p t l u n b e o) (areas c″ k″ f″ m″ p″ t″ l″ u″ n″ b″ e″ o″) r
     ended-full z ne =
         let X = E .full ne in
-        compile-full tree (areas c k f m p t l u n b e o) refl refl z F went W (same-lengths S) ne (record { emptied = X .0; errors = X .1 .0 }) (X .1 .1)
+        compile-full strict tree (areas c k f m p t l u n b e o) refl refl z F went W (same-lengths S) ne (record { emptied = X .0; errors = X .1 .0 }) (X .1 .1)
 
     ended-refused : Cleared c k f m p t l u n b e o → s′ .full ≡ 0 → (row ≡ 0 → ⊥)
-        → Compiles tree (areas c k f m p t l u n b e o) (areas c″ k″ f″ m″ p″ t″ l″ u″ n″ b″ e″ o″) r
+        → Compiles strict tree (areas c k f m p t l u n b e o) (areas c″ k″ f″ m″ p″ t″ l″ u″ n″ b″ e″ o″) r
     ended-refused z y ne =
         let X = E .refused y ne in
         let Z = X .0 in
         let long : lengthsOf (areas c k f m p t l u n b e o) ≡ lengthsOf (areas c″ k″ f″ m″ p″ t″ l″ u″ n″ b″ e′ o″) =
         subst (λ (x : List ℕ). lengthsOf (areas c k f m p t l u n b e o) ≡ lengthsOf (areas c″ k″ f″ m″ p″ t″ l″ u″ n″ b″ x o″)) (X .1 .0) (same-lengths S) in
-        subst (λ (x : List ℕ). Compiles tree (areas c k f m p t l u n b e o) (areas c″ k″ f″ m″ p″ t″ l″ u″ n″ b″ x o″) r) (sym (X .1 .0))
-        (compile-errors tree (areas c k f m p t l u n b e o) refl refl z F went W long y ne (Z .code) (Z .constants) (Z .functions) (Z .models)
+        subst (λ (x : List ℕ). Compiles strict tree (areas c k f m p t l u n b e o) (areas c″ k″ f″ m″ p″ t″ l″ u″ n″ b″ x o″) r) (sym (X .1 .0))
+        (compile-errors strict tree (areas c k f m p t l u n b e o) refl refl z F went W long y ne (Z .code) (Z .constants) (Z .functions) (Z .models)
         (Z .properties) (Z .methods) (Z .locals)
         (Z .publics) (Z .names) (Z .breaks) (Z .books) (X .1 .1))
 
     ended-whole : Cleared c k f m p t l u n b e o → s′ .full ≡ 0 → row ≡ 0
-        → Compiles tree (areas c k f m p t l u n b e o) (areas c″ k″ f″ m″ p″ t″ l″ u″ n″ b″ e″ o″) r
+        → Compiles strict tree (areas c k f m p t l u n b e o) (areas c″ k″ f″ m″ p″ t″ l″ u″ n″ b″ e″ o″) r
     ended-whole z y h =
         let X = E .whole y h in
-        subst (λ (x : Areas). Compiles tree (areas c k f m p t l u n b e o) x r) (sym (X .0))
-        (compile-delivered tree (areas c k f m p t l u n b e o) refl refl z F went W (same-lengths S ∙ ap lengthsOf (X .0)) y h (X .1 .1 .0) (X .1 .1 .1))
+        subst (λ (x : Areas). Compiles strict tree (areas c k f m p t l u n b e o) x r) (sym (X .0))
+        (compile-delivered strict tree (areas c k f m p t l u n b e o) refl refl z F went W (same-lengths S ∙ ap lengthsOf (X .0)) y h (X .1 .1 .0) (X .1 .1 .1))
 
-    pub run-finished : Runs tree c k f m p t l u n b e o c″ k″ f″ m″ p″ t″ l″ u″ n″ b″ e″ o″ r
+    pub run-finished : Runs strict tree c k f m p t l u n b e o c″ k″ f″ m″ p″ t″ l″ u″ n″ b″ e″ o″ r
     run-finished = record { runs = go }
       where
         by-row : Cleared c k f m p t l u n b e o → s′ .full ≡ 0 → Dec (row ≡ 0)
-            → Compiles tree (areas c k f m p t l u n b e o) (areas c″ k″ f″ m″ p″ t″ l″ u″ n″ b″ e″ o″) r
+            → Compiles strict tree (areas c k f m p t l u n b e o) (areas c″ k″ f″ m″ p″ t″ l″ u″ n″ b″ e″ o″) r
         by-row z y (yes h) = ended-whole z y h
         by-row z y (no ne) = ended-refused z y ne
 
         by-full : Cleared c k f m p t l u n b e o → Dec (s′ .full ≡ 0)
-            → Compiles tree (areas c k f m p t l u n b e o) (areas c″ k″ f″ m″ p″ t″ l″ u″ n″ b″ e″ o″) r
+            → Compiles strict tree (areas c k f m p t l u n b e o) (areas c″ k″ f″ m″ p″ t″ l″ u″ n″ b″ e″ o″) r
         by-full z (yes y) = by-row z y (ℕ-discrete row 0)
         by-full z (no ne) = ended-full z ne
 
-        go : Cleared c k f m p t l u n b e o → Compiles tree (areas c k f m p t l u n b e o) (areas c″ k″ f″ m″ p″ t″ l″ u″ n″ b″ e″ o″) r
+        go : Cleared c k f m p t l u n b e o → Compiles strict tree (areas c k f m p t l u n b e o) (areas c″ k″ f″ m″ p″ t″ l″ u″ n″ b″ e″ o″) r
         go z = by-full z (ℕ-discrete (s′ .full) 0)
 
 -- the promise is of the lengths alone
-carried : {tree : List ℕ} {before before′ after : Areas} {r : struct.Reply} → lengthsOf before ≡ lengthsOf before′ → Compiles tree before′ after r
-    → Compiles tree before after r
-carried {tree} {after = after} {r} q C = record {
-  reply = C .reply ∙ ap (λ (ls : List ℕ). replyOf (answer tree ls)) (sym q);
-  words = C .words ∙ ap (λ (ls : List ℕ). areasOf ls (answer tree ls)) (sym q);
+carried : {strict : Bool} {tree : List ℕ} {before before′ after : Areas} {r : struct.Reply} → lengthsOf before ≡ lengthsOf before′ → Compiles strict tree before′ after r
+    → Compiles strict tree before after r
+carried {strict} {tree} {after = after} {r} q C = record {
+  reply = C .reply ∙ ap (λ (ls : List ℕ). replyOf (answer strict tree ls)) (sym q);
+  words = C .words ∙ ap (λ (ls : List ℕ). areasOf ls (answer strict tree ls)) (sym q);
   within = λ z. subst
-      (λ (ls : List ℕ). KeepsWithin (programOf after r) 0 (logsIn (answer tree ls)))
+      (λ (ls : List ℕ). KeepsWithin (programOf after r) 0 (logsIn (answer strict tree ls)))
       (sym q) (C .within z);
 }
 
 -- the way of `compile`
-pub compile-runs : {tree c₀ k₀ f₀ m₀ p₀ t₀ l₀ u₀ n₀ b₀ e₀ o₀ c k f m p t l u n b e o c″ k″ f″ m″ p″ t″ l″ u″ n″ b″ e″ o″ : List ℕ} {r : struct.Reply}
+pub compile-runs : {strict : Bool} {tree c₀ k₀ f₀ m₀ p₀ t₀ l₀ u₀ n₀ b₀ e₀ o₀ c k f m p t l u n b e o c″ k″ f″ m″ p″ t″ l″ u″ n″ b″ e″ o″ : List ℕ} {r : struct.Reply}
     → SameLengths c₀ k₀ f₀ m₀ p₀ t₀ l₀ u₀ n₀ b₀ e₀ o₀ c k f m p t l u n b e o → Emptied c k f m p t l u n b o → Zero e
-    → Runs tree c k f m p t l u n b e o c″ k″ f″ m″ p″ t″ l″ u″ n″ b″ e″ o″ r
-    → Compiles tree (areas c₀ k₀ f₀ m₀ p₀ t₀ l₀ u₀ n₀ b₀ e₀ o₀) (areas c″ k″ f″ m″ p″ t″ l″ u″ n″ b″ e″ o″) r
+    → Runs strict tree c k f m p t l u n b e o c″ k″ f″ m″ p″ t″ l″ u″ n″ b″ e″ o″ r
+    → Compiles strict tree (areas c₀ k₀ f₀ m₀ p₀ t₀ l₀ u₀ n₀ b₀ e₀ o₀) (areas c″ k″ f″ m″ p″ t″ l″ u″ n″ b″ e″ o″) r
 compile-runs S E z R = carried (same-lengths S) (R .runs (record { emptied = E; errors = z }))

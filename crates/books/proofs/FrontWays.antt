@@ -1,4 +1,5 @@
 -- Rows 2 to 6, one lemma for each way: what the routines found is what the definition's `answer` asks, one after the other. Assumes nothing.
+use mathlib.Core.Bool.{Bool}
 use Prim.Native.Nat.{ℕ, zero, suc, _+_, _-_, _*_, _/_, _<_}
 use native.Mathlib.Omega.{arith}
 use mathlib.Core.Path.{_≡_, refl, sym, ap, subst, _∙_}
@@ -43,7 +44,7 @@ shape-number (refused {r = r} p x) row place h z = let same : row ≡ r = cc in 
 pub front-shape : (tree set : List ℕ) {row place : ℕ} {x : Shape} → x ≡ shapeOf tree → x ≡ Refused row place → Fronts tree row place set
 unfolding answer answerFrom
 front-shape tree set {row} {place} q h = record {
-  refused = λ ne lengths. rw (sym q ∙ h);
+  refused = λ ne strict lengths. rw (sym q ∙ h);
   accepted = λ z. absurd (shape-number (shape-row tree) row place (sym q ∙ h) z);
 }
 
@@ -74,7 +75,7 @@ module _ (tree : List ℕ) {x : Shape} (shape-is : x ≡ shapeOf tree) (fine-is 
   pub front-twice : (set : List ℕ) {i : ℕ} → r ≡ At i → Fronts tree 5 i set
   unfolding answer answerFrom
   front-twice set {i} at = record {
-    refused = λ ne lengths. rw (
+    refused = λ ne strict lengths. rw (
       is-fine,
       found-some (twice [] tree (documentPlaces tree)) i (sym at ∙ finds (documentsOf tree) bundle .answer end-is),
     );
@@ -115,13 +116,13 @@ module _ (tree : List ℕ) {x : Shape} (shape-is : x ≡ shapeOf tree) (fine-is 
           M .misses (root ∷ others) numbers (needed-ascends root others) (needed-below root others (bundled .numbers)) chosen
           (finds-again (root ∷ others) bundled .present none-again)
 
-      so-far : (lengths : List ℕ) → answer tree lengths ≡ answerNeeded (missing (root ∷ others) numbers) numbers (root ∷ others) (limitsOf lengths) newContext
+      so-far : (strict : Bool) (lengths : List ℕ) → answer strict tree lengths ≡ answerNeeded (missing (root ∷ others) numbers) numbers (root ∷ others) (limitsOf lengths) (newContext strict)
       unfolding answer answerFrom answerBundle
-      so-far lengths = rw (is-fine, once, documents)
+      so-far strict lengths = rw (is-fine, once, documents)
 
       no-root : {y : ℕ} → m ≡ At y → Fronts tree 6 y set
       no-root {y} at = record {
-        refused = λ ne lengths. so-far lengths ∙ rw (found-some (missing (root ∷ others) numbers) y (sym at ∙ absent));
+        refused = λ ne strict lengths. so-far strict lengths ∙ rw (found-some (missing (root ∷ others) numbers) y (sym at ∙ absent));
         accepted = λ z. absurd (omega arith);
       }
 
@@ -129,7 +130,7 @@ module _ (tree : List ℕ) {x : Shape} (shape-is : x ≡ shapeOf tree) (fine-is 
       all-there nothing =
           let there : missing (root ∷ others) numbers ≡ none = found-none (missing (root ∷ others) numbers) (sym nothing ∙ absent) in
           record {
-            refused = λ ne lengths. absurd (ne refl);
+            refused = λ ne strict lengths. absurd (ne refl);
             accepted = λ z. (
               root,
               (
@@ -142,7 +143,7 @@ module _ (tree : List ℕ) {x : Shape} (shape-is : x ≡ shapeOf tree) (fine-is 
                   chosen = chosen;
                   room = rw kept (room (root ∷ others) bundled);
                   there = there;
-                  answers = λ lengths. so-far lengths ∙ rw there;
+                  answers = λ strict lengths. so-far strict lengths ∙ rw there;
                 },
               ),
             );

@@ -3,7 +3,7 @@
 use Prim.Native.Nat.{ℕ, _+_, _/_, _≤_, _<_}
 use mathlib.Core.Path.{_≡_}
 use mathlib.Core.Option.{none}
-use mathlib.Core.Bool.{cond}
+use mathlib.Core.Bool.{Bool, cond}
 use lib.Dec.{eqb}
 use mathlib.Core.List.{List, [], _∷_, _++_}
 use lib.ListN.{length, replicate}
@@ -65,12 +65,12 @@ pub record Accepted (tree set : List ℕ) (root : Document) (others : List Docum
   pub chosen : SetIs set (needed [] root others)
   pub room : Room set (root ∷ others)
   pub there : missing (root ∷ others) (needed [] root others) ≡ none
-  pub answers : (lengths : List ℕ)
-      → answer tree lengths ≡ answerWorked (limitsOf lengths) (compileNeeded (needed [] root others) (root ∷ others) newContext)
+  pub answers : (strict : Bool) (lengths : List ℕ)
+      → answer strict tree lengths ≡ answerWorked (limitsOf lengths) (compileNeeded (needed [] root others) (root ∷ others) (newContext strict))
 
--- `front`: a row of 2 to 6 and its place, or row 0 and the work that is left
+-- `front`: a row of 2 to 6 and its place, in either mode, or row 0 and the work that is left
 pub record Fronts (tree : List ℕ) (row place : ℕ) (set : List ℕ) : Type 0 where
-  pub refused : (row ≡ 0 → ⊥) → (lengths : List ℕ) → answer tree lengths ≡ Refusal row place []
+  pub refused : (row ≡ 0 → ⊥) → (strict : Bool) (lengths : List ℕ) → answer strict tree lengths ≡ Refusal row place []
   pub accepted : row ≡ 0 → (root : Document) × ((others : List Document) × Accepted tree set root others)
 
 -- how the books end, where nothing is full: `rest` is what stands in area 12 behind the books; of a delivery `place` is the number of books
@@ -136,12 +136,12 @@ pub record Cleared (c k f m p t l u n b e o : List ℕ) : Type 0 where
   pub errors : Zero e
 
 -- `work`: all the books of a bundle, into areas of zeros
-pub record Works (tree set : List ℕ) (c k f m p t l u n b e o : List ℕ) (s′ : struct.Book) (c′ k′ f′ m′ p′ t′ l′ u′ n′ b′ e′ o′ : List ℕ)
+pub record Works (strict : Bool) (tree set : List ℕ) (c k f m p t l u n b e o : List ℕ) (s′ : struct.Book) (c′ k′ f′ m′ p′ t′ l′ u′ n′ b′ e′ o′ : List ℕ)
     (row place : ℕ) : Type 0 where
   pub works : (root : Document) (others : List Document) → Accepted tree set root others → Cleared c k f m p t l u n b e o → (κ : Limits)
       → ((s : struct.Book) → Lent κ s c k f m p t l u n b e o)
       → (rest : List ℕ) × (Zero rest × Outcome κ s′ c′ k′ f′ m′ p′ t′ l′ u′ n′ b′ e′ o′ rest row place
-      (compileNeeded (needed [] root others) (root ∷ others) newContext))
+      (compileNeeded (needed [] root others) (root ∷ others) (newContext strict)))
 
 -- `count_marked`: the constants from a place on that are marked, n counted before it
 pub record MarkedFrom (k : List ℕ) (i count n r : ℕ) : Type 0 where
@@ -153,8 +153,8 @@ abbrev pub markOf : ℕ → ℕ
 markOf word = cond (eqb word 1) 1 0
 
 -- `begun`: the counts of the beginning
-abbrev pub begunBook : Taken → ℕ → struct.Book
-begunBook t constants = record {
+abbrev pub begunBook : Bool → Taken → ℕ → struct.Book
+begunBook strict t constants = record {
   full = t .full;
   code = 0;
   constants = constants;
@@ -169,4 +169,5 @@ begunBook t constants = record {
   «first_local» = 0;
   «first_public» = 0;
   «entry_point» = 0;
+  strict = strict;
 }

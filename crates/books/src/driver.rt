@@ -4,7 +4,7 @@ ghost use lib.ListN.{length, replicate};
 ghost use Rattle.building.specs.Taking.{taken};
 ghost use Rattle.books.specs.Driving.{Rings, Fronts, FirstConstants, markOf, MarkedFrom, Emptied, begunBook};
 ghost use Rattle.books.specs.Driving.{Fresh, Drives, Works};
-ghost use Rattle.books.specs.Finishing.{Finishes, Runs};
+ghost use Rattle.books.specs.Finishing.{markRefusal, Finishes, Runs};
 use crate::solver;
 use building::scopes::Found;
 use building::taking;
@@ -246,8 +246,8 @@ fn drive(
 }
 
 // The counts of the beginning.
-fn begun(t: Taken, constants: usize) -> Book
-    ensures { λ r. ⌜ r ≡ begunBook t constants ⌝ }
+fn begun(t: Taken, constants: usize, strict: bool) -> Book
+    ensures { λ r. ⌜ r ≡ begunBook strict t constants ⌝ }
 {
     Book {
         full: t.full,
@@ -264,6 +264,7 @@ fn begun(t: Taken, constants: usize) -> Book
         first_local: 0,
         first_public: 0,
         entry_point: 0,
+        strict,
     }
 }
 
@@ -284,9 +285,10 @@ fn work(
     errors: &mut [u64],
     books: &mut [u64],
     compiled: &mut [u64],
+    strict: bool,
 ) -> Ended
     requires { ⌜ now compiled ≡ replicate (length (now chosen)) 0 ⌝ }
-    ensures { λ r. ⌜ Works (now (tree .entry)) (now (chosen .entry))
+    ensures { λ r. ⌜ Works strict (now (tree .entry)) (now (chosen .entry))
         (now (code .entry)) (now (constants .entry)) (now (functions .entry)) (now (models .entry)) (now (properties .entry)) (now (methods .entry))
         (now (locals .entry)) (now (publics .entry)) (now (names .entry)) (now (breaks .entry)) (now (errors .entry)) (now (books .entry)) (r .book)
         (now (code .exit)) (now (constants .exit)) (now (functions .exit)) (now (models .exit)) (now (properties .exit)) (now (methods .exit))
@@ -296,7 +298,7 @@ fn work(
     let end = tree.len() / 4;
     let x = first_constants(constants);
     if record::MOST_RECORDS < end {
-        let none = begun(x, 0);
+        let none = begun(x, 0, strict);
         return Ended {
             book: none,
             row: 0,
@@ -304,7 +306,7 @@ fn work(
         };
     }
     let t = solver::take_books(tree, end, chosen, x.full, books);
-    let start = begun(t, x.count);
+    let start = begun(t, x.count, strict);
     if t.full != 0 {
         return Ended {
             book: start,
@@ -331,6 +333,16 @@ fn work(
         books,
         compiled,
     )
+}
+
+// The row of a mark: a full area, or an include with a name that is not public.
+fn refused_by(full: u64) -> Reply
+    ensures { λ r. ⌜ r ≡ markRefusal full ⌝ }
+{
+    if full < reply::FIRST_NOT_PUBLIC {
+        return Reply::refused(reply::AREA_FULL, full);
+    }
+    Reply::refused(reply::NAME_NOT_PUBLIC, full - reply::FIRST_NOT_PUBLIC)
 }
 
 // The end of a call: a full area or a row clears the areas, the errors of rows 7 and 8 apart; else the reply says what stands in them.
@@ -371,7 +383,7 @@ fn finish(
             books,
         );
         areas::clear_from(errors, 0);
-        return Reply::refused(reply::AREA_FULL, book.full);
+        return refused_by(book.full);
     }
     if ended.row != 0 {
         clear_program(
@@ -427,9 +439,10 @@ fn run_in(
     breaks: &mut [u64],
     errors: &mut [u64],
     books: &mut [u64],
+    strict: bool,
 ) -> Reply
     requires { ⌜ Fresh (now tree) (now chosen) × (now present ≡ now chosen) × (now next ≡ now chosen) ⌝ }
-    ensures { λ r. ⌜ Runs (now (tree .entry))
+    ensures { λ r. ⌜ Runs strict (now (tree .entry))
         (now (code .entry)) (now (constants .entry)) (now (functions .entry)) (now (models .entry)) (now (properties .entry)) (now (methods .entry))
         (now (locals .entry)) (now (publics .entry)) (now (names .entry)) (now (breaks .entry)) (now (errors .entry)) (now (books .entry))
         (now (code .exit)) (now (constants .exit)) (now (functions .exit)) (now (models .exit)) (now (properties .exit)) (now (methods .exit))
@@ -456,6 +469,7 @@ fn run_in(
         errors,
         books,
         next,
+        strict,
     );
     finish(
         ended,
@@ -490,8 +504,9 @@ pub(crate) fn run(
     breaks: &mut [u64],
     errors: &mut [u64],
     books: &mut [u64],
+    strict: bool,
 ) -> Reply
-    ensures { λ r. ⌜ Runs (now (tree .entry))
+    ensures { λ r. ⌜ Runs strict (now (tree .entry))
         (now (code .entry)) (now (constants .entry)) (now (functions .entry)) (now (models .entry)) (now (properties .entry)) (now (methods .entry))
         (now (locals .entry)) (now (publics .entry)) (now (names .entry)) (now (breaks .entry)) (now (errors .entry)) (now (books .entry))
         (now (code .exit)) (now (constants .exit)) (now (functions .exit)) (now (models .exit)) (now (properties .exit)) (now (methods .exit))
@@ -519,6 +534,7 @@ pub(crate) fn run(
             breaks,
             errors,
             books,
+            strict,
         );
     }
     let mut chosen = [0; 16384];
@@ -541,5 +557,6 @@ pub(crate) fn run(
         breaks,
         errors,
         books,
+        strict,
     )
 }

@@ -7,9 +7,11 @@ mod solver;
 use words::areas;
 use words::reply::Reply;
 
-// Compiles the books that the words of a tree spell, whatever the words are, into the twelve areas.
+// Compiles the books that the words of a tree spell, whatever the words are, into the twelve areas; in strict mode an include with a name that is not
+// public in its file refuses the bundle (2026-07).
 pub fn compile(
     tree: &[u64],
+    strict: bool,
     code: &mut [u64],
     constants: &mut [u64],
     functions: &mut [u64],
@@ -23,7 +25,7 @@ pub fn compile(
     errors: &mut [u64],
     books: &mut [u64],
 ) -> Reply
-    ensures { λ r. ⌜ Compiles (now (tree .entry))
+    ensures { λ r. ⌜ Compiles strict (now (tree .entry))
         (areas (now (code .entry)) (now (constants .entry)) (now (functions .entry)) (now (models .entry)) (now (properties .entry)) (now (methods .entry))
         (now (locals .entry)) (now (publics .entry)) (now (names .entry)) (now (breaks .entry)) (now (errors .entry)) (now (books .entry)))
         (areas (now (code .exit)) (now (constants .exit)) (now (functions .exit)) (now (models .exit)) (now (properties .exit)) (now (methods .exit))
@@ -57,5 +59,6 @@ pub fn compile(
         breaks,
         errors,
         books,
+        strict,
     )
 }

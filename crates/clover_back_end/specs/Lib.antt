@@ -1,3 +1,4 @@
 -- What the exported functions answer where no routine below has it
+pub mod Modes
 pub mod Refusals
 pub mod Versions

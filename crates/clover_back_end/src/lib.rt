@@ -19,12 +19,13 @@ ghost use Rattle.column_files.specs.Convert.{columnsToRecords, recordsToColumns
 ghost use Rattle.constant_tables.specs.Convert.{tableToRecords, recordsToTable, Tables};
 ghost use Rattle.error_lines.specs.Words.{inWords};
 ghost use Rattle.clover_back_end.specs.Refusals.{refusalOf};
+ghost use Rattle.clover_back_end.specs.Modes.{isStrict};
 ghost use Rattle.clover_back_end.specs.Versions.{thisVersion};
 
 // Counts releases of the library: one more whenever an answer may be another than before.
-const VERSION: u64 = 2;
+const VERSION: u64 = 3;
 // Counts forms of what goes in and out (docs/FORMAT.md, 'Version and layout').
-const LAYOUT: u64 = 2;
+const LAYOUT: u64 = 3;
 
 // What the shape check answers: the number of a refusal's row and its place, or 0 and 0.
 #[repr(C)]
@@ -112,10 +113,11 @@ pub extern "C" fn clover_errors_in_words(
     errors_in_words(errors, file, table, bytes, out)
 }
 
-// The compile call.
+// The compile call; a mode of 0 is the present one, anything else is strict (2026-07).
 #[no_mangle]
 pub extern "C" fn clover_compile(
     tree: &[u64],
+    mode: u64,
     code: &mut [u64],
     constants: &mut [u64],
     functions: &mut [u64],
@@ -129,7 +131,7 @@ pub extern "C" fn clover_compile(
     errors: &mut [u64],
     books: &mut [u64],
 ) -> Reply
-    ensures { λ r. ⌜ Compiles (now (tree .entry))
+    ensures { λ r. ⌜ Compiles (isStrict mode) (now (tree .entry))
         (areas (now (code .entry)) (now (constants .entry)) (now (functions .entry)) (now (models .entry)) (now (properties .entry)) (now (methods .entry))
         (now (locals .entry)) (now (publics .entry)) (now (names .entry)) (now (breaks .entry)) (now (errors .entry)) (now (books .entry)))
         (areas (now (code .exit)) (now (constants .exit)) (now (functions .exit)) (now (models .exit)) (now (properties .exit)) (now (methods .exit))
@@ -137,6 +139,7 @@ pub extern "C" fn clover_compile(
 {
     compile(
         tree,
+        mode != 0,
         code,
         constants,
         functions,

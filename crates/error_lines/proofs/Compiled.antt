@@ -34,7 +34,7 @@ use Rattle.tree.proofs.Children.{Children, Child, child}
 use Rattle.tree.proofs.Bundle.{fine-passed, fine-spells, Passed}
 use Rattle.definition.specs.FunctionState as Emission
 use Rattle.definition.specs.FunctionState.{FunctionState, Entry, findName, defineLocal}
-use Rattle.definition.specs.Uses.{Use, firstOver}
+use Rattle.definition.specs.Uses.{Use, firstOver, firstNotPublic}
 use Rattle.definition.specs.Compiler
 use Rattle.definition.specs.Compiler.{Error, Work, Step, Added, doing, emit, pushError, addConstant, emitConstant, emitGlobal, emitName, withFunction}
 use Rattle.definition.specs.Compiler.{InfixKind, Assigning, Plain, Negated, Compound, Unknown, infixKind, compileInfixBy}
@@ -49,7 +49,7 @@ use Rattle.definition.specs.Compiler.{compileIntegerExpression, compileFunction
 use Rattle.definition.specs.Book
 use Rattle.definition.specs.Book.{Context, Placed, Properties, Methods, MaybePlaced, Made, Value, Standing, Adding, NoConstant, working, resumed}
 use Rattle.definition.specs.Book.{addBookConstant}
-use Rattle.definition.specs.Book.{defineContextLocal, setLocalValue, giveValue, compileAlias, compileIncludeDefinition, valueOf, compileValue, compileBinding}
+use Rattle.definition.specs.Book.{defineContextLocal, setLocalValue, giveValue, compileAlias, compileIncludeDefinition, givesValues, compileInclude, valueOf, compileValue, compileBinding}
 use Rattle.definition.specs.Book.{compileLocalDefinition, addProperty, compileProperties, compileModelDefinition, publish, compileBase, addPlainFunction}
 use Rattle.definition.specs.Book.{compileFunctionDefinition, findModelIndexByLocalName, addMethods, compileMethods, compileImplementDefinition, addFunction}
 use Rattle.definition.specs.Book.{compileApplyDefinition, compileDefinition, compileDefinitions, compileDocument, newContext, pushBookError, hasText, opened}
@@ -358,6 +358,12 @@ module _ (w : List ℕ) (here : (i : ℕ) → 0 < spanAt w i → KnownToken (tok
       includes file l (compileAlias file a b) (give (d .place) (Book.includedName file (a .publicName .value) (b .context)) (d .book)
       (local (a .alias .value) b h))
 
+  include-or-row-11 : (index file : ℕ) (l : List Alias) (b : Book.Book) → AllKnown (b .compiler .errors)
+      → AllKnown (compileInclude index file l b .compiler .errors)
+  unfolding compileInclude
+  include-or-row-11 index file l b h =
+      cond-case (λ (x : Book.Book). AllKnown (x .compiler .errors)) (givesValues file l (b .context)) (λ t. includes file l b h) (λ t. h)
+
   value : (x : Value) (t : Token) → KnownToken t → (o : Option ℕ) (b : Book.Book) → AllKnown (b .compiler .errors)
       → AllKnown (compileValue x t o b .compiler .errors)
   value (Standing c) t T o b h = set-value o c b h
@@ -479,7 +485,7 @@ module _ (w : List ℕ) (here : (i : ℕ) → 0 < spanAt w i → KnownToken (tok
       → AllKnown (compileDefinition d b .compiler .errors)
   unfolding compileDefinition DefinitionAt
   definition (LocalDefinition l) i x b h = locals l (i + 1) (x .1) b h
-  definition (IncludeDefinition t l) i x b h = includes (t .value) l b h
+  definition (IncludeDefinition index t l) i x b h = include-or-row-11 index (t .value) l b h
   definition (ModelDefinition t ns) i x b h = model t ns (i + 1) (x .1) b h
   definition (PublicModelDefinition t ns) i x b h = model t ns (i + 1) (x .1) b h
   definition (PlainFunction f) i x b h = function-definition f 14 i x b h
@@ -739,7 +745,7 @@ answer-known c w lengths = shape (shapeOf w) refl
         texts = document-text w q
 
         by : (o : Option ℕ) (e : Ending) → EndKnown w here texts e → AnswerKnown (answerBy o e)
-        by (some a) e k = nil
+        by (some a) e k = cond-case AnswerKnown (ltb a firstNotPublic) (λ t. nil) (λ t. nil)
         by none (Delivered x) k = tt
         by none (Faulty n es) k = k
         by none (Ring l) k = ring-known w here texts l k
@@ -831,6 +837,6 @@ pub standing-compiled-known : (c : Context) (w lengths : List ℕ)
 standing-compiled-known c w lengths = answer-left lengths (answerFrom c w lengths) (answer-known c w lengths)
 
 -- and onto none
-pub compiled-known : (w lengths : List ℕ) → firstUnknown 0 (errorsIn (getD (areasOf lengths (answer w lengths)) errorsArea [])) ≡ none
+pub compiled-known : (strict : Bool) (w lengths : List ℕ) → firstUnknown 0 (errorsIn (getD (areasOf lengths (answer strict w lengths)) errorsArea [])) ≡ none
 unfolding answer
-compiled-known w lengths = standing-compiled-known newContext w lengths
+compiled-known strict w lengths = standing-compiled-known (newContext strict) w lengths

@@ -1,5 +1,5 @@
 // 01's program `listing`: a column file on standard input, the listing of what it compiles to on standard output. The sizes of its buffers stand in
-// docs/FORMAT.md; a longer input answers 9, place 0, and so does a listing that is too long or has a number too wide.
+// docs/FORMAT.md; a longer input answers 9, place 0, and so does a listing that is too long or has a number too wide. It compiles in the present mode.
 use books::compile;
 use column_files::columns_to_records;
 use column_lines::line::LINE_LENGTH;
@@ -95,6 +95,7 @@ fn compile_and_show(tree: &[u64]) {
     let mut books = [0u64; 1000];
     let reply = compile(
         tree,
+        false,
         &mut code,
         &mut constants,
         &mut functions,

@@ -59,7 +59,8 @@ listed : List ℕ → List ℕ → List Fields
 unfolding run tablesOf errorTables replyOf areasOf word unword codeOf propertyIndex entryLine isListed eachFrom insertMethod methodOrder errorsFrom
     deliveryLines refusalLines
 listed w lengths =
-    listingLines (replyBy (replyOf (answer w lengths))) (areasBy (areasOf lengths (answer w lengths))) (getD (areasOf lengths (answer w lengths)) 11 [])
+    listingLines (replyBy (replyOf (answer false w lengths))) (areasBy (areasOf lengths (answer false w lengths)))
+    (getD (areasOf lengths (answer false w lengths)) 11 [])
 
 abbrev l : (section a b c d e f last : ℕ) → Fields
 l section a b c d e f last = line section a b c d e f last false
