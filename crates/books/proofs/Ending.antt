@@ -142,7 +142,8 @@ module _ (strict : Bool) (tree : List ℕ) (before : Areas) where
 
   -- a refusal with these errors and zeros
   refuses : {c k f m p t l u n b e o : List ℕ} {errors : ℕ} (row place : ℕ) (es : List Error) → length (lengthsOf before) ≡ 13
-      → lengthsOf before ≡ lengthsOf (areas c k f m p t l u n b e o) → answering strict tree before ≡ Refusal row place es → Zero c → Zero k → Zero f → Zero m → Zero p
+      → lengthsOf before ≡ lengthsOf (areas c k f m p t l u n b e o) → answering strict tree before ≡ Refusal row place es → Zero c → Zero k → Zero f
+      → Zero m → Zero p
       → Zero t → Zero l → Zero u → Zero n → Zero b → Filled 4 e (entriesFrom errorEntry 0 es) errors → Zero o
       → Compiles strict tree before (areas c k f m p t l u n b e o) (refusal row place)
   refuses {c} {k} {f} {m} {p} {t} {l} {u} {n} {b} {e} {o} row place es thirteen long q zc zk zf zm zp zt zl zu zn zb fe zo =
@@ -157,7 +158,8 @@ module _ (strict : Bool) (tree : List ℕ) (before : Areas) where
   compile-refused {c = c} {k} {f} {m} {p} {t} {l} {u} {n} {b} {e} {o} {row} {place} {r} thirteen long z F ne says =
       let E = z .emptied in
       subst (λ (x : struct.Reply). Compiles strict tree before (areas c k f m p t l u n b e o) x) (sym says)
-      (refuses row place [] thirteen long (F .refused ne strict (lengthsOf before)) (E .code) (E .constants) (E .functions) (E .models) (E .properties) (E .methods)
+      (refuses row place [] thirteen long (F .refused ne strict (lengthsOf before)) (E .code) (E .constants) (E .functions) (E .models) (E .properties)
+      (E .methods)
       (E .locals) (E .publics) (E .names) (E .breaks) (zero-filled (z .errors)) (E .books))
 
   -- the work, and how it ends
@@ -376,7 +378,8 @@ module _ {strict : Bool} {tree c k f m p t l u n b e o : List ℕ} where
         → Compiles strict tree (areas c k f m p t l u n b e o) (areas c″ k″ f″ m″ p″ t″ l″ u″ n″ b″ e″ o″) r
     ended-full z ne =
         let X = E .full ne in
-        compile-full strict tree (areas c k f m p t l u n b e o) refl refl z F went W (same-lengths S) ne (record { emptied = X .0; errors = X .1 .0 }) (X .1 .1)
+        compile-full strict tree (areas c k f m p t l u n b e o) refl refl z F went W (same-lengths S) ne (record { emptied = X .0; errors = X .1 .0 })
+        (X .1 .1)
 
     ended-refused : Cleared c k f m p t l u n b e o → s′ .full ≡ 0 → (row ≡ 0 → ⊥)
         → Compiles strict tree (areas c k f m p t l u n b e o) (areas c″ k″ f″ m″ p″ t″ l″ u″ n″ b″ e″ o″) r
@@ -395,7 +398,8 @@ module _ {strict : Bool} {tree c k f m p t l u n b e o : List ℕ} where
     ended-whole z y h =
         let X = E .whole y h in
         subst (λ (x : Areas). Compiles strict tree (areas c k f m p t l u n b e o) x r) (sym (X .0))
-        (compile-delivered strict tree (areas c k f m p t l u n b e o) refl refl z F went W (same-lengths S ∙ ap lengthsOf (X .0)) y h (X .1 .1 .0) (X .1 .1 .1))
+        (compile-delivered strict tree (areas c k f m p t l u n b e o) refl refl z F went W (same-lengths S
+        ∙ ap lengthsOf (X .0)) y h (X .1 .1 .0) (X .1 .1 .1))
 
     pub run-finished : Runs strict tree c k f m p t l u n b e o c″ k″ f″ m″ p″ t″ l″ u″ n″ b″ e″ o″ r
     run-finished = record { runs = go }
@@ -414,7 +418,8 @@ module _ {strict : Bool} {tree c k f m p t l u n b e o : List ℕ} where
         go z = by-full z (ℕ-discrete (s′ .full) 0)
 
 -- the promise is of the lengths alone
-carried : {strict : Bool} {tree : List ℕ} {before before′ after : Areas} {r : struct.Reply} → lengthsOf before ≡ lengthsOf before′ → Compiles strict tree before′ after r
+carried : {strict : Bool} {tree : List ℕ} {before before′ after : Areas} {r : struct.Reply} → lengthsOf before ≡ lengthsOf before′
+    → Compiles strict tree before′ after r
     → Compiles strict tree before after r
 carried {strict} {tree} {after = after} {r} q C = record {
   reply = C .reply ∙ ap (λ (ls : List ℕ). replyOf (answer strict tree ls)) (sym q);
@@ -425,7 +430,8 @@ carried {strict} {tree} {after = after} {r} q C = record {
 }
 
 -- the way of `compile`
-pub compile-runs : {strict : Bool} {tree c₀ k₀ f₀ m₀ p₀ t₀ l₀ u₀ n₀ b₀ e₀ o₀ c k f m p t l u n b e o c″ k″ f″ m″ p″ t″ l″ u″ n″ b″ e″ o″ : List ℕ} {r : struct.Reply}
+pub compile-runs : {strict : Bool} {tree c₀ k₀ f₀ m₀ p₀ t₀ l₀ u₀ n₀ b₀ e₀ o₀ c k f m p t l u n b e o c″ k″ f″ m″ p″ t″ l″ u″ n″ b″ e″ o″ : List ℕ}
+    {r : struct.Reply}
     → SameLengths c₀ k₀ f₀ m₀ p₀ t₀ l₀ u₀ n₀ b₀ e₀ o₀ c k f m p t l u n b e o → Emptied c k f m p t l u n b o → Zero e
     → Runs strict tree c k f m p t l u n b e o c″ k″ f″ m″ p″ t″ l″ u″ n″ b″ e″ o″ r
     → Compiles strict tree (areas c₀ k₀ f₀ m₀ p₀ t₀ l₀ u₀ n₀ b₀ e₀ o₀) (areas c″ k″ f″ m″ p″ t″ l″ u″ n″ b″ e″ o″) r

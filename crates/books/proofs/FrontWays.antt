@@ -116,7 +116,8 @@ module _ (tree : List ℕ) {x : Shape} (shape-is : x ≡ shapeOf tree) (fine-is 
           M .misses (root ∷ others) numbers (needed-ascends root others) (needed-below root others (bundled .numbers)) chosen
           (finds-again (root ∷ others) bundled .present none-again)
 
-      so-far : (strict : Bool) (lengths : List ℕ) → answer strict tree lengths ≡ answerNeeded (missing (root ∷ others) numbers) numbers (root ∷ others) (limitsOf lengths) (newContext strict)
+      so-far : (strict : Bool) (lengths : List ℕ) → answer strict tree lengths ≡ answerNeeded (missing (root ∷ others) numbers) numbers (root
+          ∷ others) (limitsOf lengths) (newContext strict)
       unfolding answer answerFrom answerBundle
       so-far strict lengths = rw (is-fine, once, documents)
 

@@ -186,6 +186,7 @@ pub standing-keeps : (c₀ : Context) (w lengths : List ℕ) (c : Context) → l
     → OperandsFit c → WordsKeep lengths c
 standing-keeps c₀ w lengths c n q safe fit = program-keeps lengths c n (delivery-safe c₀ w lengths c q safe) fit
 
-pub delivery-keeps : (strict : Bool) (w lengths : List ℕ) (c : Context) → length lengths ≡ 13 → answer strict w lengths ≡ Delivery c → OperandsFit c → WordsKeep lengths c
+pub delivery-keeps : (strict : Bool) (w lengths : List ℕ) (c : Context) → length lengths ≡ 13 → answer strict w lengths ≡ Delivery c → OperandsFit c
+    → WordsKeep lengths c
 unfolding answer
 delivery-keeps strict w lengths c n q fit = standing-keeps (newContext strict) w lengths c n q (fresh-safe strict) fit

@@ -1,5 +1,5 @@
--- What no deed changes of a book, in either mode: what stood before, the books put away and the mode; and notes are only added (`Stays`). And what each deed but
--- an include does to a book in the present mode, it does in strict mode (`alike-…`): nothing else reads the mode. By cases over each deed. Assumes nothing.
+-- What no deed changes of a book, in either mode: what stood before, the books put away and the mode; and notes are only added (`Stays`). And what each deed
+-- but an include does to a book in the present mode, it does in strict mode (`alike-…`): nothing else reads the mode. By cases over each deed. Assumes nothing.
 use Prim.Native.Nat.{ℕ, _+_}
 use mathlib.Core.Path.{_≡_, refl, sym, ap, _∙_}
 use mathlib.Core.Bool.{Bool, true, false, cond}
@@ -14,7 +14,8 @@ use Rattle.definition.specs.FunctionState.{Entry, FunctionState, findNam
 use Rattle.definition.specs.Prior.{bookIndex}
 use Rattle.definition.specs.Book
 use Rattle.definition.specs.Book.{functionCount, modelCount, Context, Deed, Placed, MaybePlaced, working, addBookConstant, defineContextLocal, noted}
-use Rattle.definition.specs.Book.{defineContextLocalBy, setLocalValue, inMode, withConstant, includedFrom, includedNames, onlyOne, withContext, propertyCount}
+use Rattle.definition.specs.Book.{defineContextLocalBy, setLocalValue, inMode, withConstant}
+use Rattle.definition.specs.Book.{includedFrom, includedNames, onlyOne, withContext, propertyCount}
 use Rattle.definition.specs.Book.{includedName, giveValue, compileAlias, compileIncludeDefinition, Value, Standing, Adding, NoConstant, valueOf}
 use Rattle.definition.specs.Book.{compileValue, compileBindingBy, compileBinding, compileLocalDefinition, hasText, Properties, addProperty, pushBookError}
 use Rattle.definition.specs.Book.{compileProperties, addModel, compileModelDefinition, compileBase, addFunction, addPlainFunction, Made, Methods}

@@ -377,7 +377,8 @@ noted-good area n b g = record { parts = g .parts; pool = g .pool; names = g .na
 include-or-row-11 : (index file : ℕ) (l : List Alias) → Fine (compileInclude index file l)
 unfolding compileInclude
 include-or-row-11 index file l = record {
-  before = λ b. cond-case (λ (x : Book.Book). faults x ≡ [] → faults b ≡ []) (givesValues file l (b .context)) (λ t e. include-fine file l .before b e) (λ t e. e);
+  before = λ b. cond-case (λ (x : Book.Book). faults x ≡ [] → faults b ≡ []) (givesValues file l (b .context)) (λ t e. include-fine file l .before b e)
+      (λ t e. e);
   keeps = λ b g. cond-case (λ (x : Book.Book). faults x ≡ [] → BookGood x) (givesValues file l (b .context)) (λ t e. include-fine file l .keeps b g e)
       (λ t e. noted-good _ 1 b g);
 }

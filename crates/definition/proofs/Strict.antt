@@ -1,5 +1,5 @@
--- The two modes of 2026-07. The strict work is the present one up to its first note of row 11 (`Beside`); so where strict is not refused by row 11 both answer the
--- same (`strict-or-row-11`), a delivery too, word for word (`strict-equals-present`). Assumes nothing.
+-- The two modes of 2026-07. The strict work is the present one up to its first note of row 11 (`Beside`); so where strict is not refused by row 11 both answer
+-- the same (`strict-or-row-11`), a delivery too, word for word (`strict-equals-present`). Assumes nothing.
 use Prim.Native.Nat.{ℕ, zero, suc, _+_, _-_, _<_, _≤_}
 use native.Mathlib.Omega.{arith}
 use mathlib.Core.Path.{_≡_, refl, sym, ap, subst, _∙_}
@@ -21,12 +21,14 @@ use Rattle.definition.specs.FunctionState.{orElse}
 use Rattle.definition.specs.Uses.{Use, Limits, using′, limitOf, firstOver, overBy, firstNotPublic, notPublicArea}
 use Rattle.definition.specs.Compiler.{Error}
 use Rattle.definition.specs.Book
-use Rattle.definition.specs.Book.{Context, inMode, Deed, newContext, noted, givesValues, compileInclude, compileIncludeDefinition, compileDefinition, compileDefinitions}
+use Rattle.definition.specs.Book.{Context, inMode, Deed, newContext, noted}
+use Rattle.definition.specs.Book.{givesValues, compileInclude, compileIncludeDefinition, compileDefinition, compileDefinitions}
 use Rattle.definition.specs.Book.{opened, compileDocument, publish, compileModelDefinition, compileFunctionDefinition, withContext, withAssemblies}
 use Rattle.definition.specs.DependencySolver.{Worked, Ending, Delivered, Faulty, Ring, ready, without, afterBook, driveBy, drive, loadedOf, needed}
 use Rattle.definition.specs.DependencySolver.{missing, compileNeeded}
 use Rattle.definition.specs.Program.{tablesOf}
-use Rattle.definition.specs.Answer.{Answer, Delivery, Refusal, answerOver, answerBy, answerEnding, answerWorked, answerNeeded, answerBundle, answerDocuments}
+use Rattle.definition.specs.Answer.{Answer, Delivery, Refusal, answerOver, answerBy}
+use Rattle.definition.specs.Answer.{answerEnding, answerWorked, answerNeeded, answerBundle, answerDocuments}
 use Rattle.definition.specs.Answer.{answerTwice, answerShape, answerFrom, answer, twice, documentPlaces, limitsBy, limitsOf, replyOf, areasOf}
 use Rattle.definition.specs.Strict.{inPresent}
 use Rattle.definition.proofs.Steady.{Longer, same, more, longer-trans}
@@ -97,7 +99,8 @@ unfolding compileDefinition compileInclude
 beside-definition (LocalDefinition bs) b = agree (alike-locals bs b)
 beside-definition (IncludeDefinition index file l) b = go (givesValues (file .value) l (b .context))
   where
-    go : (t : Bool) → Beside (cond t (compileIncludeDefinition (file .value) l b) (noted (notPublicArea index) 1 b)) (compileIncludeDefinition (file .value) l (present b))
+    go : (t : Bool) → Beside (cond t (compileIncludeDefinition (file .value) l b) (noted (notPublicArea index) 1 b)) (compileIncludeDefinition
+        (file .value) l (present b))
     go true = agree (alike-include (file .value) l b)
     go false = parted (b .uses) index same (stays-include (file .value) l (present b) .uses)
 beside-definition (ModelDefinition n ps) b = agree (ap (λ (p : Book.Placed). p .book) (alike-model n ps b))
@@ -147,7 +150,8 @@ drive-longer (suc k) ds done left c us = go (ready ds done left) (λ d c′ us�
     next : Document → Context → List Use → Worked
     next d c′ us′ = drive k ds (d .filename ∷ done) (without (d .filename) left) c′ us′
 
-    go : (o : Option Document) → ((d : Document) (c′ : Context) (us′ : List Use) → Longer us′ (next d c′ us′ .uses)) → Longer us (driveBy o left c us next .uses)
+    go : (o : Option Document) → ((d : Document) (c′ : Context) (us′ : List Use) → Longer us′ (next d c′ us′ .uses))
+        → Longer us (driveBy o left c us next .uses)
     go none h = more same
     go (some d) h =
         let b = compileDocument d c us in
@@ -258,12 +262,14 @@ strict-or-row-11 c w lengths = shape (shapeOf w)
 
 -- 'Strict programs equal the present ones whenever both are delivered': reply and every word; what is delivered in strict mode is delivered in the present one
 pub strict-equals-present : (w lengths : List ℕ) (c : Context) → answer true w lengths ≡ Delivery c
-    → (replyOf (answer true w lengths) ≡ replyOf (answer false w lengths)) × (areasOf lengths (answer true w lengths) ≡ areasOf lengths (answer false w lengths))
+    → (replyOf (answer true w lengths) ≡ replyOf (answer false w lengths)) × (areasOf lengths (answer true w lengths) ≡ areasOf lengths
+    (answer false w lengths))
 unfolding answer replyOf areasOf tablesOf
 strict-equals-present w lengths c e = go (strict-or-row-11 (newContext true) w lengths)
   where
     go : Modes (answer true w lengths) (answer false w lengths)
-        → (replyOf (answer true w lengths) ≡ replyOf (answer false w lengths)) × (areasOf lengths (answer true w lengths) ≡ areasOf lengths (answer false w lengths))
+        → (replyOf (answer true w lengths) ≡ replyOf (answer false w lengths)) × (areasOf lengths (answer true w lengths) ≡ areasOf lengths
+        (answer false w lengths))
     go (equal h) =
         let same′ : answer false w lengths ≡ Delivery (inMode false c) = h ∙ ap inPresent e in
         (ap replyOf e ∙ sym (ap replyOf same′), ap (areasOf lengths) e ∙ sym (ap (areasOf lengths) same′))

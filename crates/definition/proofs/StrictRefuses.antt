@@ -1,5 +1,5 @@
--- A strict delivery has no include in a compiled book with a name that is not public (`strict-refuses`): every include of a compiled book gave its values, for a
--- note of row 11 would have been found; the books before it stay, so its names are public at the end too. Assumes nothing.
+-- A strict delivery has no include in a compiled book with a name that is not public (`strict-refuses`): every include of a compiled book gave its values, for
+-- a note of row 11 would have been found; the books before it stay, so its names are public at the end too. Assumes nothing.
 use Prim.Native.Nat.{ℕ, zero, suc, _+_, _-_}
 use native.Mathlib.Omega.{arith}
 use mathlib.Core.Path.{_≡_, refl, sym, ap, subst, _∙_}
@@ -21,10 +21,13 @@ use Rattle.definition.specs.Uses.{Use, Limits, firstOver, firstNotPublic
 use Rattle.definition.specs.Compiler.{Error}
 use Rattle.definition.specs.Book
 use Rattle.definition.specs.Book.{Assembly, Context, findAssembly, publicOf, includedFrom, withConstant, includedNames, publicNames, isThere, hasText}
-use Rattle.definition.specs.Book.{noted, givesValues, compileInclude, compileIncludeDefinition, compileDefinition, compileDefinitions, opened, compileDocument}
-use Rattle.definition.specs.DependencySolver.{Worked, Ending, Delivered, Faulty, Ring, ready, readyBy, without, afterBook, driveBy, drive, loadedOf, needed}
+use Rattle.definition.specs.Book.{noted, givesValues, compileInclude, compileIncludeDefinition}
+use Rattle.definition.specs.Book.{compileDefinition, compileDefinitions, opened, compileDocument}
+use Rattle.definition.specs.DependencySolver.{Worked, Ending, Delivered, Faulty, Ring, ready}
+use Rattle.definition.specs.DependencySolver.{readyBy, without, afterBook, driveBy, drive, loadedOf, needed}
 use Rattle.definition.specs.DependencySolver.{missing, compileNeeded, findDocument, allIn, dependencies}
-use Rattle.definition.specs.Answer.{Answer, Delivery, Refusal, answerOver, answerBy, answerEnding, answerWorked, answerNeeded, answerBundle, answerDocuments}
+use Rattle.definition.specs.Answer.{Answer, Delivery, Refusal, answerOver, answerBy}
+use Rattle.definition.specs.Answer.{answerEnding, answerWorked, answerNeeded, answerBundle, answerDocuments}
 use Rattle.definition.specs.Answer.{answerTwice, answerShape, answerFrom, twice, documentPlaces, limitsOf}
 use Rattle.definition.specs.Strict.{NamesPublic, BookPublic, BooksPublic, AllPublic}
 use Rattle.definition.specs.Within.{All, nil, _&_}
@@ -74,7 +77,8 @@ names-later file [] L h = refl
 names-later {c} {c′} file (n ∷ ns) L h =
     go (includedFrom (bookIndex file 0 (c .prior .books)) file n c) refl (includedNames file ns c) (names-later file ns L) h
   where
-    after : {i : ℕ} → includedFrom (bookIndex file 0 (c .prior .books)) file n c ≡ some i → includedFrom (bookIndex file 0 (c′ .prior .books)) file n c′ ≡ some i
+    after : {i : ℕ} → includedFrom (bookIndex file 0 (c .prior .books)) file n c ≡ some i
+        → includedFrom (bookIndex file 0 (c′ .prior .books)) file n c′ ≡ some i
     after {i} q =
         ap (λ (p : Prior). includedFrom (bookIndex file 0 (p .books)) file n c′) (L .prior) ∙ from-later (bookIndex file 0 (c .prior .books)) file n i L q
 
@@ -120,7 +124,8 @@ module _ (lengths : List ℕ) where
 
   -- an include that is no refusal, in strict mode
   include-public : (index : ℕ) (file : Token) (l : List Alias) (b : Book.Book) {vs : List Use} → b .context .strict ≡ true
-      → Longer (compileInclude index (file .value) l b .uses) vs → firstOver κ vs ≡ none → isThere (includedNames (file .value) (publicNames l) (b .context)) ≡ true
+      → Longer (compileInclude index (file .value) l b .uses) vs → firstOver κ vs ≡ none
+      → isThere (includedNames (file .value) (publicNames l) (b .context)) ≡ true
   unfolding compileInclude
   include-public index file l b {vs} strict m h = go (givesValues (file .value) l (b .context)) refl m
     where
@@ -269,7 +274,8 @@ Shows lengths ds left r w = w .ending ≡ Delivered r → firstOver (limitsOf le
 drive-public : (lengths : List ℕ) (k : ℕ) (ds : List Document) (done left : List ℕ) (c r : Context) (us : List Use) → c .strict ≡ true → length left ≡ k
     → Shows lengths ds left r (drive k ds done left c us)
 unfolding drive
-drive-public lengths zero ds done [] c r us strict many = λ e h n d among found. absurd (let z : false ≡ true = among in let y : _≡_ {A = ℕ} 0 1 = cc in omega arith)
+drive-public lengths zero ds done [] c r us strict many = λ e h n d among found. absurd
+    (let z : false ≡ true = among in let y : _≡_ {A = ℕ} 0 1 = cc in omega arith)
 drive-public lengths zero ds done (x ∷ left) c r us strict many = absurd (omega arith)
 drive-public lengths (suc k) ds done left c r us strict many =
     go (ready ds done left) (λ d q. chosen ds done left d q) (λ d c′ us′ s m. drive-public lengths k ds _ (without (d .filename) left) c′ r us′ s m)

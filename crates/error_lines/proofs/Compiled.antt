@@ -49,7 +49,8 @@ use Rattle.definition.specs.Compiler.{compileIntegerExpression, compileFunction
 use Rattle.definition.specs.Book
 use Rattle.definition.specs.Book.{Context, Placed, Properties, Methods, MaybePlaced, Made, Value, Standing, Adding, NoConstant, working, resumed}
 use Rattle.definition.specs.Book.{addBookConstant}
-use Rattle.definition.specs.Book.{defineContextLocal, setLocalValue, giveValue, compileAlias, compileIncludeDefinition, givesValues, compileInclude, valueOf, compileValue, compileBinding}
+use Rattle.definition.specs.Book.{defineContextLocal, setLocalValue, giveValue, compileAlias, compileIncludeDefinition}
+use Rattle.definition.specs.Book.{givesValues, compileInclude, valueOf, compileValue, compileBinding}
 use Rattle.definition.specs.Book.{compileLocalDefinition, addProperty, compileProperties, compileModelDefinition, publish, compileBase, addPlainFunction}
 use Rattle.definition.specs.Book.{compileFunctionDefinition, findModelIndexByLocalName, addMethods, compileMethods, compileImplementDefinition, addFunction}
 use Rattle.definition.specs.Book.{compileApplyDefinition, compileDefinition, compileDefinitions, compileDocument, newContext, pushBookError, hasText, opened}
