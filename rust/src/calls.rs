@@ -15,11 +15,12 @@
 //! ```
 
 use crate::areas::AREAS;
+use crate::mode::Mode;
 use crate::reply::{Answer, Checked, Converted, Reply, Tabled, Version};
 use std::sync::Once;
 
 /// The layout that this crate was written for. The first call holds the library's to it.
-pub const LAYOUT: u64 = 2;
+pub const LAYOUT: u64 = 3;
 
 extern "C" {
     fn clover_version() -> Version;
@@ -45,6 +46,7 @@ extern "C" {
 extern "C" {
     fn clover_compile(
         tree: *const u64, tree_words: usize,
+        mode: u64,
         code: *mut u64, code_words: usize,
         constants: *mut u64, constants_words: usize,
         functions: *mut u64, functions_words: usize,
@@ -134,8 +136,13 @@ pub fn errors_in_words(errors: &[u64], file: u64, table: &[u64], bytes: &[u8], o
     reply
 }
 
-/// Compiles a bundle into areas in the order of their numbers. A tail shorter than an entry is zeroed.
+/// Compiles a bundle into areas in the order of their numbers, in the present mode. A tail shorter than an entry is zeroed.
 pub fn compile<'a>(tree: &[u64], areas: [&'a mut [u64]; AREAS]) -> Answer<'a> {
+    compile_in(Mode::Present, tree, areas)
+}
+
+/// The same in a mode.
+pub fn compile_in<'a>(mode: Mode, tree: &[u64], areas: [&'a mut [u64]; AREAS]) -> Answer<'a> {
     hold_to_layout();
     let mut areas = areas;
     let lent = areas.each_mut().map(|words| (words.as_mut_ptr(), words.len()));
@@ -143,7 +150,7 @@ pub fn compile<'a>(tree: &[u64], areas: [&'a mut [u64]; AREAS]) -> Answer<'a> {
     #[rustfmt::skip]
     let reply = unsafe {
         clover_compile(
-            tree.as_ptr(), tree.len(),
+            tree.as_ptr(), tree.len(), mode.word(),
             lent[0].0, lent[0].1, lent[1].0, lent[1].1, lent[2].0, lent[2].1, lent[3].0, lent[3].1,
             lent[4].0, lent[4].1, lent[5].0, lent[5].1, lent[6].0, lent[6].1, lent[7].0, lent[7].1,
             lent[8].0, lent[8].1, lent[9].0, lent[9].1, lent[10].0, lent[10].1, lent[11].0, lent[11].1,

@@ -5,18 +5,35 @@ use crate::areas::Areas;
 use crate::calls;
 use crate::column_file::{words, LineFault, LINE_BYTES};
 use crate::fault::ShapeFault;
+use crate::kind::Kind;
+use crate::mode::Mode;
+use crate::nodes::{documents, Node};
 use crate::program::Program;
 use crate::records::RECORD_WORDS;
 use crate::refusal::Refusal;
 use crate::table::TABLE_LINE_BYTES;
 use crate::texts::Text;
 
-/// The refusal with the rule that a record breaks.
+/// The refusal with the rule that a record breaks, or the name that is not public.
 fn with_reason(refusal: Refusal, tree: &[u64]) -> Refusal {
     match refusal {
         Refusal::BadShape { record, .. } => Refusal::BadShape { record, reason: ShapeFault::of(tree, record) },
+        Refusal::NameNotPublic { record, .. } => Refusal::NameNotPublic { record, name: first_not_public(tree, record) },
         other => other,
     }
+}
+
+/// The first name that the include at a record lists and that no public model or function of its file's document has.
+fn first_not_public(tree: &[u64], record: u64) -> Option<Text> {
+    let definitions = || documents(tree).flat_map(|document| document.children());
+    let include = definitions().find(|definition| definition.index() as u64 == record)?;
+    let book = documents(tree).find(|document| document.value() == include.value())?;
+    let public = |name: u64| {
+        let named = |definition: &Node| definition.value() == name;
+        let kinds = [Some(Kind::PublicModel), Some(Kind::PublicFunction)];
+        book.children().any(|definition| kinds.contains(&definition.kind()) && named(&definition))
+    };
+    include.children().step_by(2).find(|name| !public(name.value()))?.text()
 }
 
 /// The shape check: rows 2 to 4 on any words.
@@ -91,7 +108,12 @@ impl Areas {
     /// assert!(compiled(&[1, 1, 0, 2], &mut Areas::with_entries([0; AREAS])).is_ok());
     /// ```
     pub fn compile(&mut self, tree: &[u64]) -> Result<(), Refusal> {
-        let answer = calls::compile(tree, self.lend());
+        self.compile_in(Mode::Present, tree)
+    }
+
+    /// The same in a mode. In strict mode a refusal by row 11 has the include's place and its first name that is not public.
+    pub fn compile_in(&mut self, mode: Mode, tree: &[u64]) -> Result<(), Refusal> {
+        let answer = calls::compile_in(mode, tree, self.lend());
         let (reply, refusal) = (answer.reply, answer.program().err());
         self.keep(reply);
         refusal.map_or(Ok(()), |refusal| Err(with_reason(refusal, tree)))
@@ -101,7 +123,12 @@ impl Areas {
     /// as long as all areas together have at most `most` words. (A bundle can need more memory than
     /// any machine has.)
     pub fn compile_growing(&mut self, tree: &[u64], most: usize) -> Result<Program<'_>, Refusal> {
-        while let Err(refusal) = self.compile(tree) {
+        self.compile_growing_in(Mode::Present, tree, most)
+    }
+
+    /// The same in a mode.
+    pub fn compile_growing_in(&mut self, mode: Mode, tree: &[u64], most: usize) -> Result<Program<'_>, Refusal> {
+        while let Err(refusal) = self.compile_in(mode, tree) {
             let Refusal::AreaFull { area } = refusal else { return Err(refusal) };
             if self.len_grown(area) > most {
                 return Err(refusal);
@@ -114,6 +141,11 @@ impl Areas {
 
 /// Compiles a bundle into areas that are as long as they are: [`Areas::compile`] and the program.
 pub fn compile<'a>(tree: &[u64], areas: &'a mut Areas) -> Result<Program<'a>, Refusal> {
-    areas.compile(tree)?;
+    compile_in(Mode::Present, tree, areas)
+}
+
+/// The same in a mode.
+pub fn compile_in<'a>(mode: Mode, tree: &[u64], areas: &'a mut Areas) -> Result<Program<'a>, Refusal> {
+    areas.compile_in(mode, tree)?;
     Ok(areas.program().expect("the call delivered"))
 }

@@ -52,6 +52,7 @@ mod error_lines;
 mod fault;
 mod instruction;
 mod kind;
+mod mode;
 pub mod nodes;
 mod numbered;
 mod position;
@@ -65,13 +66,16 @@ mod texts;
 pub use areas::{Area, Areas, AREAS};
 pub use column_file::{LineFault, LINE_BYTES};
 #[cfg(feature = "link")]
-pub use compiling::{check, columns_to_records, compile, records_to_columns, records_to_table, table_to_records};
+pub use compiling::{
+    check, columns_to_records, compile, compile_in, records_to_columns, records_to_table, table_to_records,
+};
 pub use constant::Constant;
 #[cfg(feature = "link")]
 pub use error_lines::errors_in_words;
 pub use fault::ShapeFault;
 pub use instruction::{Instruction, OpCode, Operand, Operation};
 pub use kind::{Infix, Kind, Prefix};
+pub use mode::Mode;
 pub use position::Position;
 pub use program::{ContextLocal, Function, Method, Model, Program, PublicName, Totals};
 pub use refusal::{Error, ErrorKind, Refusal, Token};

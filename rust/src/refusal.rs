@@ -80,6 +80,13 @@ pub enum Refusal {
         /// The first record up to which no table agrees.
         record: u64,
     },
+    /// Row 11: in strict mode, an include lists a name that is not public in its file.
+    NameNotPublic {
+        /// The include.
+        record: u64,
+        /// The first such name, where the records were at hand.
+        name: Option<Text>,
+    },
 }
 
 impl Refusal {
@@ -98,6 +105,7 @@ impl Refusal {
             8 => Refusal::Ring { files: listed.map(|entry| Text::from_number(entry[3])).collect() },
             9 => Area::from_number(place).map_or(Refusal::OutputShort, |area| Refusal::AreaFull { area }),
             10 => Refusal::NotATable { record: place },
+            11 => Refusal::NameNotPublic { record: place, name: None },
             other => unreachable!("no reply of this layout has the number {other}"),
         })
     }
@@ -115,6 +123,7 @@ impl Refusal {
             Refusal::Ring { .. } => 8,
             Refusal::AreaFull { .. } | Refusal::OutputShort | Refusal::LineBufferShort => 9,
             Refusal::NotATable { .. } => 10,
+            Refusal::NameNotPublic { .. } => 11,
         }
     }
 
@@ -126,7 +135,8 @@ impl Refusal {
             Refusal::BadShape { record, .. }
             | Refusal::TooDeep { record }
             | Refusal::BookTwice { record }
-            | Refusal::NotATable { record } => *record,
+            | Refusal::NotATable { record }
+            | Refusal::NameNotPublic { record, .. } => *record,
             Refusal::BookMissing { file } | Refusal::BookFaulty { file, .. } => file.number(),
             Refusal::Ring { files } => files.len() as u64,
             Refusal::AreaFull { area } => area.number(),
@@ -148,6 +158,7 @@ impl Refusal {
             Refusal::Ring { .. } => "ring",
             Refusal::AreaFull { .. } | Refusal::OutputShort | Refusal::LineBufferShort => "area full",
             Refusal::NotATable { .. } => "not a table",
+            Refusal::NameNotPublic { .. } => "name not public",
         }
     }
 
@@ -157,7 +168,8 @@ impl Refusal {
             Refusal::BadShape { record, .. }
             | Refusal::TooDeep { record }
             | Refusal::BookTwice { record }
-            | Refusal::NotATable { record } => Some(*record),
+            | Refusal::NotATable { record }
+            | Refusal::NameNotPublic { record, .. } => Some(*record),
             _ => None,
         }
     }
@@ -199,6 +211,10 @@ impl Refusal {
             }
             Refusal::LineBufferShort => format!("{word}: the buffer for the lines of errors is too short"),
             Refusal::NotATable { record } => format!("{word}: up to record {record} no table agrees"),
+            Refusal::NameNotPublic { record, name } => {
+                let name = name.map_or_else(|| "a name".into(), |name| texts.spelt(name));
+                format!("{word}: record {record}, an include, lists {name}, which is not public in its file")
+            }
         }
     }
 }
@@ -324,13 +340,14 @@ mod tests {
         assert_eq!(spelt(7, 2), "book faulty: text 2 has errors");
         assert_eq!(spelt(9, 7), "area full: area 7, context locals, has no room");
         assert_eq!(spelt(9, 0), "area full: the output is too short");
+        assert_eq!(spelt(11, 4), "name not public: record 4, an include, lists a name, which is not public in its file");
     }
 
     #[test]
     fn rows_and_places_come_back() {
         let ring = ErrorKind::Ring.number();
         let errors = [ring, 0, 0, 5, ring, 0, 0, 6, 0, 0, 0, 0];
-        for (row, place) in [(1, 4), (2, 0), (3, 5), (4, 64), (5, 2), (6, 8), (7, 2), (8, 2), (9, 7), (9, 0)] {
+        for (row, place) in [(1, 4), (2, 0), (3, 5), (4, 64), (5, 2), (6, 8), (7, 2), (8, 2), (9, 7), (9, 0), (11, 4)] {
             let listed = if row == 8 { &errors[..] } else { &[] };
             let refusal = Refusal::of(row, place, listed).expect("a row");
             assert_eq!((refusal.row(), refusal.place()), (row, place));

@@ -2,8 +2,8 @@
 #![cfg(feature = "link")]
 
 use clover_back_end::records::{Definitions, Filled, Function, Records, Slot, MAX_LEVEL};
-use clover_back_end::{columns_to_records, compile, Area, Areas, Constant, ErrorKind, Infix, Instruction};
-use clover_back_end::{OpCode, Position, Prefix, Program, Refusal, Text, AREAS};
+use clover_back_end::{columns_to_records, compile, compile_in, Area, Areas, Constant, ErrorKind, Infix, Instruction};
+use clover_back_end::{Mode, OpCode, Position, Prefix, Program, Refusal, Text, AREAS};
 use std::path::Path;
 
 const NONE: Position = Position::NONE;
@@ -98,6 +98,26 @@ fn rows_7_and_8_list_errors() {
     assert_eq!((file, errors[0].kind), (text(2), ErrorKind::CanNotAssign));
     let itself = refused(document(2, |book| book.include(text(2), |_| {})).words());
     assert_eq!(itself, Refusal::Ring { files: vec![text(2)] });
+}
+
+#[test]
+fn row_11_names_the_include_and_the_name() {
+    let mut tree = document(2, |book| {
+        book.include(text(5), |names| {
+            names.name(text(3), text(6));
+            names.name(text(4), text(7));
+        });
+    });
+    tree.document(text(5), |book| {
+        book.public_function(text(3)).body(|_| {});
+        book.function(text(4)).body(|_| {});
+    });
+    let mut areas = Areas::with_entries([100; AREAS]);
+    compile(tree.words(), &mut areas).expect("the present mode delivers");
+    let refusal = compile_in(Mode::Strict, tree.words(), &mut areas).expect_err("strict mode refuses");
+    assert_eq!(refusal, Refusal::NameNotPublic { record: 1, name: Some(text(4)) });
+    let spelt = "name not public: record 1, an include, lists text 4, which is not public in its file";
+    assert_eq!((refusal.to_string().as_str(), refusal.row(), refusal.place()), (spelt, 11, 1));
 }
 
 #[test]

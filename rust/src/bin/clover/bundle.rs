@@ -9,11 +9,13 @@ use crate::sources::Sources;
 use crate::style::counted;
 use clover_back_end::nodes::documents;
 use clover_back_end::records::RECORD_WORDS;
-use clover_back_end::{Area, Areas, Program, Refusal, Text, Texts};
+use clover_back_end::{Area, Areas, Mode, Program, Refusal, Text, Texts};
 
 /// Options of every command that compiles.
-pub const CHOICES: &[Choice] =
-    &[Choice { name: "--memory", value: Some("MIB"), about: "lends at most so many MiB, 1024 unless this is given" }];
+pub const CHOICES: &[Choice] = &[
+    Choice { name: "--memory", value: Some("MIB"), about: "lends at most so many MiB, 1024 unless this is given" },
+    Choice { name: "--strict", value: None, about: "refuses an include with a name that is not public in its file" },
+];
 
 const MEMORY: usize = 1024;
 const MIB: usize = 1 << 20;
@@ -61,7 +63,8 @@ impl Bundle {
             let least = areas.len() * WORD_BYTES / MIB + 1;
             return Err(Failure::new(format!("{name}: needs some {least} MiB, and `--memory` allows {memory}")));
         }
-        let (areas, refusal) = compile(&tree, areas, most);
+        let mode = if arguments.has("--strict") { Mode::Strict } else { Mode::Present };
+        let (areas, refusal) = compile(mode, &tree, areas, most);
         let held = Held::Compiled(Box::new(areas));
         let bundle = Bundle { name: input.name, tree, texts: input.texts, sources, held };
         Ok(match refusal {
@@ -91,9 +94,9 @@ impl Bundle {
     }
 }
 
-fn compile(tree: &[u64], mut areas: Areas, most: usize) -> (Areas, Option<Refusal>) {
+fn compile(mode: Mode, tree: &[u64], mut areas: Areas, most: usize) -> (Areas, Option<Refusal>) {
     let _progress = Progress::of(format!("compiling {}", counted(tree.len() / RECORD_WORDS, "record")));
-    let refusal = areas.compile_growing(tree, most).err();
+    let refusal = areas.compile_growing_in(mode, tree, most).err();
     (areas, refusal)
 }
 

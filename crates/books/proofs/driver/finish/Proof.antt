@@ -70,7 +70,7 @@ returns c =
     let c39 = c27 .before .before .before .before .before .before .before .before .before .before .before .before in
     let c54 = c39 .before .before .before .before .before .before .before .before .before .before .before .before .before .before .before in
     finish-full (c39 .if1 .taken) (c27 .clear-program .ensures) (cleared-zero (c54 .args .errors .now) (c .before .before .before .clear-from .ensures))
-    (c .refused .ensures)
+    (c .refused-by .ensures)
 
 same-length-13 : tie.Need-same-length-13
 same-length-13 c =
@@ -132,7 +132,7 @@ returns-2 c =
     let c23 = c .before .before .before .before .before .before .before .before .before .before .before .before .before .before .before .before .before .before .before .before .before .before .before in
     let c35 = c23 .before .before .before .before .before .before .before .before .before .before .before .before in
     let c37 = c35 .before .before in
-    finish-row (c37 .if1 .left) (c35 .if2 .taken) (c23 .clear-program2 .ensures) (c .refused2 .ensures)
+    finish-row (c37 .if1 .left) (c35 .if2 .taken) (c23 .clear-program2 .ensures) (c .refused .ensures)
 
 same-length-24 : tie.Need-same-length-24
 same-length-24 c = refl
