@@ -100,15 +100,29 @@ fn copy(words: &[u64], table: &mut [u64]) {
     }
 }
 
-fn lent(words: &[u64], way: u64, kind: u64, value: u64, count: usize, size: usize) {
-    let mut table = [7; 64];
+fn lend(
+    words: &[u64],
+    way: u64,
+    kind: u64,
+    value: u64,
+    count: usize,
+    size: usize,
+    table: &mut [u64],
+) {
     if size <= MOST_SLOTS {
-        if size <= words.len() {
-            let all = size + 2;
-            copy(&words[0..size], &mut table[1..63]);
-            change(way, &words[size..], &mut table[0..all], kind, value, count);
+        let all = size + 2;
+        if all <= table.len() {
+            if size <= words.len() {
+                copy(&words[0..size], &mut table[1..]);
+                change(way, &words[size..], &mut table[0..all], kind, value, count);
+            }
         }
     }
+}
+
+fn lent(words: &[u64], way: u64, kind: u64, value: u64, count: usize, size: usize) {
+    let mut table = [7; 64];
+    lend(words, way, kind, value, count, size, &mut table);
 }
 
 fn case(line: &[u8]) {
@@ -120,25 +134,16 @@ fn case(line: &[u8]) {
     if count < HEADER {
         return;
     }
+    let way = words[0];
+    let kind = words[1];
+    let value = words[2];
+    let entries = words[3] as usize;
     let size = words[4] as usize;
-    if words[0] == 1 {
-        search(
-            &words[HEADER..count],
-            words[1],
-            words[2],
-            words[3] as usize,
-            size,
-        );
+    if way == 1 {
+        search(&words[HEADER..count], kind, value, entries, size);
         return;
     }
-    lent(
-        &words[HEADER..count],
-        words[0],
-        words[1],
-        words[2],
-        words[3] as usize,
-        size,
-    );
+    lent(&words[HEADER..count], way, kind, value, entries, size);
 }
 
 fn cases(text: &[u8]) {
