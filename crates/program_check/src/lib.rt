@@ -1,0 +1,106 @@
+// The program check (02, 2026-01): whether words and totals that somebody lends are a program, and if not, the first area that fails.
+mod areas;
+mod constants;
+mod entries;
+mod functions;
+mod instructions;
+mod keys;
+mod whole;
+
+ghost use mathlib.Core.Path.{_≡_};
+ghost use Rattle.definition.specs.Promise.{areas};
+ghost use Rattle.definition.specs.ProgramCheck.{programFault};
+ghost use Rattle.program_check.specs.Answer.{answerOf};
+ghost use Rattle.program_check.specs.Parts.{lent};
+use crate::areas::entries_fine;
+use crate::whole::books_area;
+use crate::whole::code_area;
+use crate::whole::constants_area;
+use crate::whole::empty_area;
+use crate::whole::functions_area;
+use crate::whole::methods_area;
+use crate::whole::publics_area;
+use tree::Shape;
+use words::areas::BOOKS;
+use words::areas::BREAKS;
+use words::areas::CODE;
+use words::areas::CONSTANTS;
+use words::areas::CONTEXT_LOCALS;
+use words::areas::FUNCTIONS;
+use words::areas::METHODS;
+use words::areas::MODELS;
+use words::areas::PROPERTIES;
+use words::areas::PUBLIC_NAMES;
+use words::areas::SCOPE_NAMES;
+use words::reply::BAD_SHAPE;
+use words::reply::Totals;
+
+// "row 3 with place 1,048,576 plus the area number".
+const PROGRAM_PLACE: usize = 1048576;
+
+// The program check, whatever words and totals are lent; nothing is written. Area 11 is not looked at.
+pub fn check(
+    code: &[u64],
+    constants: &[u64],
+    functions: &[u64],
+    models: &[u64],
+    properties: &[u64],
+    methods: &[u64],
+    locals: &[u64],
+    publics: &[u64],
+    names: &[u64],
+    breaks: &[u64],
+    errors: &[u64],
+    books: &[u64],
+    totals: Totals,
+) -> Shape
+    ensures { λ r. ⌜ r ≡ answerOf (programFault (lent
+        (areas (now (code .entry)) (now (constants .entry)) (now (functions .entry)) (now (models .entry)) (now (properties .entry)) (now (methods .entry))
+        (now (locals .entry)) (now (publics .entry)) (now (names .entry)) (now (breaks .entry)) (now (errors .entry)) (now (books .entry))) totals)) ⌝ }
+{
+    let code_fine = code_area(code, functions, totals);
+    if !code_fine {
+        return Shape::Refused(BAD_SHAPE, PROGRAM_PLACE + CODE as usize);
+    }
+    let constants_fine = constants_area(constants, totals);
+    if !constants_fine {
+        return Shape::Refused(BAD_SHAPE, PROGRAM_PLACE + CONSTANTS as usize);
+    }
+    let functions_fine = functions_area(functions, totals);
+    if !functions_fine {
+        return Shape::Refused(BAD_SHAPE, PROGRAM_PLACE + FUNCTIONS as usize);
+    }
+    let models_fine = entries_fine(MODELS, models, totals);
+    if !models_fine {
+        return Shape::Refused(BAD_SHAPE, PROGRAM_PLACE + MODELS as usize);
+    }
+    let properties_fine = entries_fine(PROPERTIES, properties, totals);
+    if !properties_fine {
+        return Shape::Refused(BAD_SHAPE, PROGRAM_PLACE + PROPERTIES as usize);
+    }
+    let methods_fine = methods_area(methods, totals);
+    if !methods_fine {
+        return Shape::Refused(BAD_SHAPE, PROGRAM_PLACE + METHODS as usize);
+    }
+    let locals_fine = entries_fine(CONTEXT_LOCALS, locals, totals);
+    if !locals_fine {
+        return Shape::Refused(BAD_SHAPE, PROGRAM_PLACE + CONTEXT_LOCALS as usize);
+    }
+    let publics_fine = publics_area(publics, totals);
+    if !publics_fine {
+        return Shape::Refused(BAD_SHAPE, PROGRAM_PLACE + PUBLIC_NAMES as usize);
+    }
+    let names_fine = empty_area(SCOPE_NAMES, names, totals.scope_names);
+    if !names_fine {
+        return Shape::Refused(BAD_SHAPE, PROGRAM_PLACE + SCOPE_NAMES as usize);
+    }
+    let breaks_fine = empty_area(BREAKS, breaks, totals.breaks);
+    if !breaks_fine {
+        return Shape::Refused(BAD_SHAPE, PROGRAM_PLACE + BREAKS as usize);
+    }
+    let books_fine = books_area(books, totals);
+    if !books_fine {
+        return Shape::Refused(BAD_SHAPE, PROGRAM_PLACE + BOOKS as usize);
+    }
+    Shape::Fine
+}
