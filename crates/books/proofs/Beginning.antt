@@ -14,7 +14,7 @@ use Rattle.words.specs.Object.{defaultConstants}
 use Rattle.words.specs.Record.{mostRecords}
 use Rattle.definition.specs.Uses.{Use, using′, Limits, firstOver}
 use Rattle.definition.specs.Book.{newContext, compileDefinition}
-use Rattle.definition.proofs.Limits.{fine-limited}
+use Rattle.definition_laws.proofs.Limits.{fine-limited}
 use Rattle.definition.specs.DependencySolver.{needed, compileNeeded, drive}
 use Rattle.definition.specs.Program.{Entries, entriesFrom, constantEntry}
 use Rattle.definition.specs.Within.{All, nil, _&_}

@@ -24,7 +24,7 @@ use Rattle.definition.specs.DependencySolver.{Ending, Delivered, Faulty, Ring, 
 use Rattle.definition.specs.Program.{bit, constantEntry, flat, filled, errorTables, entriesFrom, errorEntry, bookEntry, bookTable, globalDependencies}
 use Rattle.definition.specs.Answer.{Answer, Delivery, Refusal, ringErrors, answerEnding, answerBy, answerWorked, limitsOf, answer, replyOf, areasOf}
 use Rattle.definition.specs.Within.{All, nil, _&_, Areas, KeepsWithin}
-use Rattle.definition.proofs.Cells.{single-length, single-at}
+use Rattle.definition_laws.proofs.Cells.{single-length, single-at}
 use Rattle.building.proofs.Filling.{flat-append, filled-field}
 use Rattle.building.specs.Held.{Filled, Marks, unmarked, marked}
 use Rattle.documents.specs.declared.book.Book as book
@@ -32,11 +32,11 @@ use Rattle.documents.specs.Shelf.{shelf}
 use Rattle.documents.specs.Documents.{Resting}
 use Rattle.books.specs.Driving.{Zero, Cleared, Lent, Came, came-delivered, came-faulty}
 use Rattle.books.specs.Driving.{came-ring, Outcome, Accepted, Fronts, Works, MarkedFrom, markOf, Emptied}
-use Rattle.definition.proofs.Strict.{none-there}
+use Rattle.definition_laws.proofs.Strict.{none-there}
 use Rattle.definition.specs.Promise.{areas, lengthsOf, saying, answering, logsIn, programOf, Compiles}
 use Rattle.books.specs.Finishing.{totals, markRefusal, Finishes, Runs}
 use Rattle.books.proofs.Whole.{filled-is, delivered-words, delivered-reply}
-use Rattle.definition.proofs.Promise.{compiles}
+use Rattle.definition_laws.proofs.Promise.{compiles}
 use Rattle.books.proofs.Beginning.{zero-filled}
 
 -- an area cleared is zeros

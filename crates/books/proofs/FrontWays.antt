@@ -23,10 +23,10 @@ use Rattle.building.specs.Found.{foundOf}
 use Rattle.books.specs.Sets.{SetIs}
 use Rattle.books.specs.Solving.{InSets, Bundle, Room, Distinct, Twice, FindsTwice, Needs, Misses}
 use Rattle.books.specs.Driving.{Fresh, Accepted, Fronts}
-use Rattle.definition.proofs.Answer.{ShapeRow, fine, refused, shape-row}
+use Rattle.definition_laws.proofs.Answer.{ShapeRow, fine, refused, shape-row}
 use Rattle.books.proofs.BundleRange.{fine-bundle, fine-root}
 use Rattle.books.proofs.StandsLaws.{set-empty, needed-ascends, needed-below}
-use Rattle.definition.proofs.Promise.{no-row}
+use Rattle.definition_laws.proofs.Promise.{no-row}
 
 found-none : (o : Option ℕ) → Nothing ≡ foundOf o → o ≡ none
 found-none none h = refl

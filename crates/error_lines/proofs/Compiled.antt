@@ -61,8 +61,8 @@ use Rattle.definition.specs.Program.{errorEntry, entriesFrom, flat, filled, fil
 use Rattle.definition.specs.Answer.{Answer, Delivery, Refusal, ringErrors, answerEnding, answerBy, answerWorked, answerNeeded, answerBundle, answerDocuments}
 use Rattle.definition.specs.Answer.{answerTwice, answerShape, limitsOf, answerFrom, answer, areasOf, twice, documentPlaces}
 use Rattle.definition.specs.Within.{All, nil, _&_}
-use Rattle.definition.proofs.Lists.{all-append, cond-case}
-use Rattle.definition.proofs.Program.{added-case}
+use Rattle.definition_laws.proofs.Lists.{all-append, cond-case}
+use Rattle.definition_laws.proofs.Program.{added-case}
 use Rattle.error_lines.specs.Known.{standsIn, isKind, knownToken, isText, known}
 use Rattle.error_lines.specs.Lines.{errorAt, isZeros, errorsFrom, errorsIn}
 use Rattle.error_lines.specs.Words.{firstUnknown}

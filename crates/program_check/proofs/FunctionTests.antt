@@ -14,7 +14,7 @@ use Rattle.words.specs.Opcode.{unword}
 use Rattle.words.specs.declared.reply.Totals.{Totals}
 use Rattle.definition.specs.Within.{Program, Class, Position, Slot, Read, Pool, ContextSlot, Other, classOf, instructionAt}
 use Rattle.definition.specs.Within.{startOf, lengthOf, localsOf, has, allBelow, where′, boundByFunction}
-use Rattle.definition.proofs.Tests.{first-of, second-of, below-at}
+use Rattle.definition_laws.proofs.Tests.{first-of, second-of, below-at}
 use Rattle.program_check.specs.Instructions.{jumpBy, localsBy, jumpOf, localsNeeded}
 use Rattle.program_check.specs.Functions.{codeAnd, keepsAt, rangeKeeps, keepsIn, functionKeeps, functionsKeep}
 use Rattle.program_check.proofs.Below.{true-by, and-holds, and-true, same-truth, where-in, where-out, every, below-turn, below-no, below-done}

@@ -16,7 +16,7 @@ use Rattle.definition.specs.Promise.{areas}
 use Rattle.definition.specs.Within.{Areas, Program, Class, Position, Slot, Read, Pool, ContextSlot, Other, classOf, total, present, cell, instructionAt, has}
 use Rattle.definition.specs.Within.{allBelow, where′, marked, boundByTotals, boundByFunction, areaBound, entryBound}
 use Rattle.definition.specs.ProgramCheck.{entryKnown, wholeKnown, zeros, areaFine, firstFault, programFault, sameKey, beginsWell}
-use Rattle.definition.proofs.Tests.{first-of, second-of, below-at}
+use Rattle.definition_laws.proofs.Tests.{first-of, second-of, below-at}
 use Rattle.program_check.specs.Parts.{lent, alone, byTotals, entryFine, entriesFine}
 use Rattle.program_check.specs.Keys.{differsFrom, freshBy, keysBy}
 use Rattle.program_check.specs.Functions.{codeAnd, keepsIn, functionKeeps, functionsKeep}

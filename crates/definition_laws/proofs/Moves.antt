@@ -13,30 +13,30 @@ use Rattle.words.specs.Ast.{Token, Expression, Expressions, Variables, Statemen
 use Rattle.words.specs.Ast.{Identifier, This, Null, Integer, Float, Text, Boolean, Array, Prefix, Infix, If, IfElse, Call, InstanceGet, IndexGet}
 use Rattle.words.specs.Ast.{∅ₑ, _∷ₑ_, ∅ᵥ, Bare, Valued, Local, Return, For, Break, Rescue, Expr, ∅ₛ, _∷ₛ_}
 use Rattle.words.specs.Opcode.{Instruction, toInstruction, nothing}
 use Rattle.definition.specs.FunctionState.{FunctionState, Entry, pushBreaks, innermost, tail, lastOpcode, init, popLast, removePopOrPushNull}
 use Rattle.definition.specs.FunctionState.{emitReturn, emitBreak, exitBreakScope, defineLocal, Defined, findName, getNextInstructionIndex}
 use Rattle.definition.specs.FunctionState.{getLastPosition, withRescue, withDepth, withParameters}
 use Rattle.words.specs.Opcode.{Pop, PushConstant, ReturnOp, LocalSet, LocalGet, LocalInit, ContextSet, ContextGet, GlobalSet, GlobalGet, InstanceSet}
 use Rattle.words.specs.Opcode.{InstanceGetOp, IndexSet, IndexGetOp, Operation, Not, Negative, CallOp, ArrayOp, Jump, JumpIf, ForNext, Iterate}
 use Rattle.definition.specs.FunctionState as Emission
 use Rattle.definition.specs.Compiler
 use Rattle.definition.specs.Compiler.{Work, Step, Error, doing, withFunction, emit, next, Added, addConstant, addConstantNoCheck, findConstant}
 use Rattle.definition.specs.Compiler.{pushError, InfixKind, Assigning, Plain, Negated, Compound, Unknown, infixKind, getOr}
 use Rattle.words.specs.Object.{isShared, Constant, constantOf}
 use Rattle.definition.specs.Compiler.{compileStatement, compileStatements, compileExpression, compileExpressions, compileVariables}
 use Rattle.definition.specs.Compiler.{compileAssignExpressionLeftPart, compileParameters, skip, andThen, deeper, compileRescue, compileBare}
 use Rattle.definition.specs.Compiler.{compileValued, compileExpressionStatement, compileForStatement}
 use Rattle.definition.specs.Compiler.{compileIfExpression, compilePart, compileNoPart, compileArrayExpression, compileCallExpression}
 use Rattle.definition.specs.Compiler.{compilePrefixExpression, compileInfixExpression, compileInfixBy, compileOperation, compileAssignExpression}
 use Rattle.definition.specs.Compiler.{compilePair, compileAssignName}
 use Rattle.definition.specs.Compiler.{compileThisExpression, compileIdentifierExpression, emitName, compileNullExpression, compileBooleanExpression}
 use Rattle.definition.specs.Compiler.{compileStringExpression, compileFloatExpression, compileIntegerExpression, emitGlobal, emitConstant}
 use Rattle.definition.specs.Within.{All, nil, _&_, Among, here, there, Loop, loopsOf, exitsOf, readTrace}
-use Rattle.definition.proofs.Defining.{define-cases}
-use Rattle.definition.proofs.Safe.{at}
-use Rattle.definition.proofs.Lists.{all-map, all-append, Kept, Fresh, kept-refl, kept-trans, fresh-ge, fresh-trans, kept-append, kept-set}
-use Rattle.definition.proofs.Lists.{kept-patch, kept-init, cond-case, ne-of-test, each-snoc, each-set, each-patch, each-init}
-use Rattle.definition.proofs.Sound.{leave-closed}
+use Rattle.definition_laws.proofs.Defining.{define-cases}
+use Rattle.definition_laws.proofs.Safe.{at}
+use Rattle.definition_laws.proofs.Lists.{all-map, all-append, Kept, Fresh, kept-refl, kept-trans, fresh-ge, fresh-trans, kept-append, kept-set}
+use Rattle.definition_laws.proofs.Lists.{kept-patch, kept-init, cond-case, ne-of-test, each-snoc, each-set, each-patch, each-init}
+use Rattle.definition_laws.proofs.Sound.{leave-closed}
 
 abbrev pub code : Work → List Instruction
 code w = w .function .code .instructions

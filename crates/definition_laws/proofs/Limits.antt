@@ -12,8 +12,8 @@ use Rattle.tree.specs.Check.{shapeOf}
 use Rattle.tree.specs.Reading.{documentsOf}
 use Rattle.tree.specs.declared.Shape.the-variants.{Fine}
 use Rattle.tree.proofs.Bundle.{fine-spells}
 use Rattle.definition.specs.Within.{All, nil, _&_}
-use Rattle.definition.proofs.Lists.{all-map}
+use Rattle.definition_laws.proofs.Lists.{all-map}
 
 -- records and levels within the limits
 pub record Limited {A : Type 0} (size depth : A → ℕ) (x : A) : Type 0 where

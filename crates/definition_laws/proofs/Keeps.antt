@@ -17,28 +17,28 @@ use Rattle.words.specs.Areas.{publicNamesArea, booksArea, localsWord, rescueWor
 use Rattle.words.specs.Object.{Constant, modelKind, functionKind}
 use lib.Dec.{T, eqb, ltb, leb, leb→le, ltb→lt, eqb→eq}
 use Rattle.words.specs.Opcode.{Instruction, unword, word, LocalGet}
 use Rattle.definition.specs.Uses.{sumOf}
 use Rattle.definition.specs.FunctionState.{FunctionState, Entry, Log, findName}
 use Rattle.definition.specs.Book.{Function, Context, hasText, codeOf, functionCount, modelCount, bookCount}
 use Rattle.definition.specs.Program.{Entries, bit, entriesFrom, functionCode, constantEntry, functionEntry, functionEntries, modelEntry, propertyEntries}
 use Rattle.definition.specs.Program.{modelProperties, methodEntry, localWords, localEntry, publicEntries, assemblyPublics, bookEntry, tablesOf}
 use Rattle.definition.specs.Program.{globalDependencies, filledAll}
 use Rattle.definition.specs.Answer.{Delivery, replyOf, areasOf}
 use Rattle.definition.specs.Within.{All, nil, _&_, Areas, Totals, Program, totalOf, total, present, cell, field, instructionAt, startOf, lengthOf}
 use Rattle.definition.specs.Within.{localsOf, instructionOf, Class, Position, Slot, Read, Pool, ContextSlot, Other, classOf, boundByTotals}
 use Rattle.definition.specs.Within.{boundByFunction, hasInstruction, where′, allBelow, codeBound, constantBound, functionBound, modelBound}
 use Rattle.definition.specs.Within.{propertyBound, methodBound, localBound, publicBound, entryBound, areaBound, entryPointBound, Among, Loop, Lands}
 use Rattle.definition.specs.Within.{logsOf, FunctionLogged, marked, KeepsWithin}
-use Rattle.definition.proofs.Safe.{at, Landed, Counts, Within, Fits, counts, EntryWithin, FunctionSafe, LooseBy, Loose, standingCounts, StandingSafe}
-use Rattle.definition.proofs.Safe.{PriorSafe, PriorWide, below, ProgramSafe}
-use Rattle.definition.proofs.Tests.{Test, both, or-first, or-second, where-holds, less, at-most, equal, passes, all-below, first-of, second-of}
-use Rattle.definition.proofs.Lists.{all-map, all-append, cond-case}
-use Rattle.definition.proofs.Sound.{find-name}
-use Rattle.definition.proofs.Cells.{Wide, Wides, end, _then_, all-at, table-word, table-whole, entries-all, entries-wide, single-length}
+use Rattle.definition_laws.proofs.Safe.{at, Landed, Counts, Within, Fits, counts, EntryWithin, FunctionSafe, LooseBy, Loose, standingCounts, StandingSafe}
+use Rattle.definition_laws.proofs.Safe.{PriorSafe, PriorWide, below, ProgramSafe}
+use Rattle.definition_laws.proofs.Tests.{Test, both, or-first, or-second, where-holds, less, at-most, equal, passes, all-below, first-of, second-of}
+use Rattle.definition_laws.proofs.Lists.{all-map, all-append, cond-case}
+use Rattle.definition_laws.proofs.Sound.{find-name}
+use Rattle.definition_laws.proofs.Cells.{Wide, Wides, end, _then_, all-at, table-word, table-whole, entries-all, entries-wide, single-length}
 use Rattle.words.proofs.Codes.{unword-word}
-use Rattle.definition.proofs.FunctionCode.{OperandsFit, Sized, functionAt, noFunction, functionsCode-length, functionsCode-at}
-use Rattle.definition.proofs.FunctionCode.{functionsCode-wide, functions-length, functions-wide, functions-at, code-inside, logs-at, code-loose}
-use Rattle.definition.proofs.FunctionCode.{logs-length}
+use Rattle.definition_laws.proofs.FunctionCode.{OperandsFit, Sized, functionAt, noFunction, functionsCode-length, functionsCode-at}
+use Rattle.definition_laws.proofs.FunctionCode.{functionsCode-wide, functions-length, functions-wide, functions-at, code-inside, logs-at, code-loose}
+use Rattle.definition_laws.proofs.FunctionCode.{logs-length}
 
 -- an area holds entries, all of them and whole
 pub record Holds (m : Areas) (t : Totals) (area : ℕ) (es : Entries) : Type 0 where

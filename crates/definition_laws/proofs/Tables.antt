@@ -5,16 +5,16 @@ use native.Mathlib.Nat.{add-zero}
 use mathlib.Core.Path.{_≡_, refl, ap, _∙_}
 use mathlib.Core.List.{List, [], _∷_, _++_, map}
 use lib.ListN.{length, length-append}
 use Rattle.definition.specs.FunctionState.{Entry}
 use Rattle.definition.specs.Book.{Function, Context, publicCount, bookCount}
 use Rattle.definition.specs.Program.{Entries, entriesFrom, functionCode, functionEntries, constantEntry, modelEntry, propertyEntries, modelProperties}
 use Rattle.definition.specs.Program.{methodEntry, localEntry}
 use Rattle.definition.specs.Program.{publicEntries, assemblyPublics, bookEntry, tablesOf}
-use Rattle.definition.proofs.Safe.{ProgramSafe}
-use Rattle.definition.proofs.Lists.{all-map}
-use Rattle.definition.proofs.Cells.{all-any, entries-length, single-length}
-use Rattle.definition.proofs.FunctionCode.{functionsCode-length, functions-length}
-use Rattle.definition.proofs.Counts.{countsOf}
+use Rattle.definition_laws.proofs.Safe.{ProgramSafe}
+use Rattle.definition_laws.proofs.Lists.{all-map}
+use Rattle.definition_laws.proofs.Cells.{all-any, entries-length, single-length}
+use Rattle.definition_laws.proofs.FunctionCode.{functionsCode-length, functions-length}
+use Rattle.definition_laws.proofs.Counts.{countsOf}
 
 properties-length : (i : ℕ) (ns : List ℕ) → length (propertyEntries i ns) ≡ length ns
 properties-length i [] = refl

@@ -11,38 +11,38 @@ use mathlib.Core.List.{List, [], _∷_, _++_}
 use lib.ListN.{length, set, getD, length-append, length-set}
 use lib.Dec.{T, eqb, ltb, eqb→eq}
 use Rattle.words.specs.Ast.{Token, Statements}
 use Rattle.definition.specs.FunctionState.{Entry, FunctionState, newFunctionState, findName}
 use Rattle.definition.specs.Compiler
 use Rattle.definition.specs.Uses.{Use}
 use Rattle.words.specs.Areas.{startWord}
 use Rattle.words.specs.Object.{Constant, constantOf, isShared}
 use Rattle.words.specs.Opcode.{unword}
 use Rattle.definition.specs.Compiler.{Error, CompilerContext, Work, addConstant, addConstantNoCheck, Added, findConstant}
 use Rattle.definition.specs.Compiler.{compileFunctionDefinitionBase}
 use Rattle.definition.specs.Book
 use Rattle.words.specs.Ast.{Binding, Alias, FunctionDefinition, Definition, LocalDefinition, IncludeDefinition, ModelDefinition, PublicModelDefinition}
 use Rattle.words.specs.Ast.{PlainFunction, PublicFunction, ImplementDefinition, ApplyDefinition, Document}
 use Rattle.definition.specs.Prior.{Entries, Prior, bookIndex, hasKey, findPublic}
 use Rattle.definition.specs.Book.{Function, Model, Method, Assembly, Context, functionCount, modelCount, bookCount, includedFrom, includedName}
 use Rattle.definition.specs.Book.{Deed, working, resumed, Placed, addBookConstant, MaybePlaced, defineContextLocal, defineContextLocalBy}
 use Rattle.definition.specs.Book.{withConstant, onlyOne, givesValues, compileInclude}
 use Rattle.definition.specs.Book.{setLocalValue, findAssembly, publicOf, giveValue, compileAlias, compileIncludeDefinition, Value, Standing, Adding}
 use Rattle.definition.specs.Book.{NoConstant, valueOf, compileValue, compileBindingBy, compileBinding, compileLocalDefinition}
 use Rattle.definition.specs.Book.{addProperty, noted, addModel, valueAt, compileProperties, hasText, compileModelDefinition, publish, Made}
 use Rattle.definition.specs.Book.{compileBase, addFunction}
 use Rattle.definition.specs.Book.{addPlainFunction, compileFunctionDefinition, modelOf, constantAt, getLocalValue, findModelBy, findModelIn}
 use Rattle.definition.specs.Book.{findModelIndexByLocalName, insertEntry, sameMethod, insertMethod, insertMethods, addMethods, methodsIn, Methods}
 use Rattle.definition.specs.Book.{compileMethods, compileImplementDefinition, methodsOf, compileApplyDefinition, compileDefinition}
 use Rattle.definition.specs.Book.{compileDefinitions, opened, compileDocument, pushBookError, newContext}
 use Rattle.words.specs.Areas.{propertiesArea}
 use Rattle.definition.specs.DependencySolver.{Worked, Delivered, ready, without, afterBook, driveBy, drive, compileNeeded}
 use Rattle.definition.specs.Within.{All, nil, _&_, Class, Position, Slot, Read, Pool, ContextSlot, Other, classOf}
-use Rattle.definition.proofs.Safe.{EntryWithin, FunctionSafe, Named, LooseBy, Loose, standingCounts, StandingSafe, PriorSafe, PriorWide, Parts, PartsOf}
-use Rattle.definition.proofs.Safe.{ProgramSafe}
-use Rattle.definition.proofs.Lists.{all-map, all-append, all-set, cond-case}
-use Rattle.definition.proofs.Sound.{Wider, fit-mono, fits-mono, find-name}
-use Rattle.definition.proofs.Moves.{Moves}
-use Rattle.definition.proofs.Good.{Good, Ready, find-constant, no-snoc, function-good, function-moves, function-safe}
+use Rattle.definition_laws.proofs.Safe.{EntryWithin, FunctionSafe, Named, LooseBy, Loose, standingCounts, StandingSafe, PriorSafe, PriorWide, Parts, PartsOf}
+use Rattle.definition_laws.proofs.Safe.{ProgramSafe}
+use Rattle.definition_laws.proofs.Lists.{all-map, all-append, all-set, cond-case}
+use Rattle.definition_laws.proofs.Sound.{Wider, fit-mono, fits-mono, find-name}
+use Rattle.definition_laws.proofs.Moves.{Moves}
+use Rattle.definition_laws.proofs.Good.{Good, Ready, find-constant, no-snoc, function-good, function-moves, function-safe}
 
 abbrev faults : Book.Book → List Error
 faults b = b .compiler .errors

@@ -18,26 +18,26 @@ use Rattle.words.specs.Object.{Constant, constantOf, isShared}
 use Rattle.words.specs.Opcode.{Instruction, toInstruction, Pop, PushConstant, ReturnOp, LocalSet, LocalGet, ContextSet, ContextGet, GlobalSet}
 use Rattle.words.specs.Opcode.{GlobalGet, InstanceSet, InstanceGetOp, IndexSet, IndexGetOp, Jump, JumpIf, ForNext, Iterate}
 use Rattle.tree.specs.At.{sizeE, sizeEs, sizeVs, sizeS, sizeSs, depthE, depthEs, depthVs, depthS, depthSs}
 use Rattle.definition.specs.FunctionState.{FunctionState, innermost, removePopOrPushNull, emitReturn, emitBreak, exitBreakScope, defineLocal}
 use Rattle.definition.specs.FunctionState.{findName, lastOpcode, withDepth, withParameters}
 use Rattle.definition.specs.Uses.{Use}
 use Rattle.definition.specs.Compiler.{count, Work, Step, doing, withFunction, emit, Added, addConstant, withConstants, findConstant, pushError}
 use Rattle.definition.specs.Compiler.{InfixKind, Assigning, Plain, Negated, Compound, Unknown, infixKind, getOr, compileStatement}
 use Rattle.definition.specs.Compiler.{compileStatements, compileExpression, compileExpressions, compileVariables}
 use Rattle.definition.specs.Compiler.{compileAssignExpressionLeftPart, compileParameters, skip, andThen, deeper, compileRescue, compileBare}
 use Rattle.definition.specs.Compiler.{compileValued, compileExpressionStatement, compileForStatement, compileIfExpression, compilePart}
 use Rattle.definition.specs.Compiler.{compileNoPart, compileArrayExpression, compileCallExpression, compilePrefixExpression}
 use Rattle.definition.specs.Compiler.{compileInfixExpression, compileInfixBy, compileOperation, compileAssignExpression, compilePair}
 use Rattle.definition.specs.Compiler.{compileAssignName, compileFunctionDefinitionBase, compileThisExpression, compileIdentifierExpression}
 use Rattle.definition.specs.Compiler.{emitName, compileNullExpression, compileBooleanExpression, compileStringExpression}
 use Rattle.definition.specs.Compiler.{compileFloatExpression, compileIntegerExpression, emitGlobal, emitConstant, compileParameter}
 use Rattle.definition.specs.Within.{All, nil, _&_, Class, Position, Slot, Read, Pool, ContextSlot, Other, classOf}
-use Rattle.definition.proofs.Defining.{define-cases}
-use Rattle.definition.proofs.Lists.{all-append, all-set, all-take, all-patch, cond-case}
-use Rattle.definition.proofs.Uses.{Later, Noted, later-same, later-more, noted-here, noted-more}
-use Rattle.definition.proofs.Room.{room, room-deeper, room-two, room-more, room-beside, get-once, get-twice}
+use Rattle.definition_laws.proofs.Defining.{define-cases}
+use Rattle.definition_laws.proofs.Lists.{all-append, all-set, all-take, all-patch, cond-case}
+use Rattle.definition_laws.proofs.Uses.{Later, Noted, later-same, later-more, noted-here, noted-more}
+use Rattle.definition_laws.proofs.Room.{room, room-deeper, room-two, room-more, room-beside, get-once, get-twice}
 use Rattle.definition.specs.FunctionState as Emission
 use Rattle.definition.specs.Compiler
 
 -- an operand that is no position and names nothing
 abbrev pub SmallBy : Class → ℕ → ℕ → Type 0

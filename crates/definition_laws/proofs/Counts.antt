@@ -16,30 +16,30 @@ use Rattle.words.specs.Areas.{booksArea}
 use Rattle.words.specs.Object.{Constant, constantOf}
 use Rattle.words.specs.Record.{mostRecords}
 use Rattle.tree.specs.At.{sizeSs, depthSs}
 use Rattle.definition.specs.FunctionState.{Entry, FunctionState, findName}
 use Rattle.definition.specs.Prior.{Entries, Prior, nothingStands, fileNumbers}
 use Rattle.definition.specs.Uses.{Use, using′, greatestUse, sumOf}
 use Rattle.definition.specs.Compiler.{Error, Work, Added, compileFunctionDefinitionBase}
 use Rattle.definition.specs.Book.{Function, Model, Assembly, Context, codeCount, functionCount, modelCount, propertyCount, publicCount, bookCount}
 use Rattle.definition.specs.Book.{working, resumed, Placed, addBookConstant, defineContextLocal, givesValues, compileInclude}
 use Rattle.definition.specs.Book.{defineContextLocalBy, setLocalValue, includedName, giveValue, compileAlias, compileIncludeDefinition, Value}
 use Rattle.definition.specs.Book.{Standing, Adding, NoConstant, valueOf, compileValue, compileBindingBy, compileBinding, compileLocalDefinition}
 use Rattle.definition.specs.Book.{hasText, Properties, addProperty, compileProperties, addModel, compileModelDefinition}
 use Rattle.definition.specs.Book.{publish, Made, compileBase, addFunction, addPlainFunction, compileFunctionDefinition, modelOf}
 use Rattle.definition.specs.Book.{getLocalValue, findModelBy, findModelIn, findModelIndexByLocalName, addMethods, compileMethods}
 use Rattle.definition.specs.Book.{compileImplementDefinition, methodsOf, compileApplyDefinition, compileDefinition, compileDefinitions, opened}
 use Rattle.definition.specs.Book.{compileDocument, pushBookError, newContext, Deed}
 use Rattle.definition.specs.DependencySolver.{Worked, Delivered, dependencies, allIn, findDocument, readyBy, ready, without, afterBook, driveBy}
 use Rattle.definition.specs.DependencySolver.{drive, filesOf, loadedOf, compileNeeded}
 use Rattle.definition.specs.Within.{All, nil, _&_}
-use Rattle.definition.proofs.Lists.{all-append, cond-case}
-use Rattle.definition.proofs.Limits.{LimitedFunction, LimitedDocument, functionsIn}
-use Rattle.definition.proofs.Room.{room, room-limited}
-use Rattle.definition.proofs.Good.{function-moves}
-use Rattle.definition.proofs.Operands.{Small, Kept, function-kept}
-use Rattle.definition.proofs.Program.{added-case}
-use Rattle.definition.proofs.Uses.{Noted, Counted, noted-here, noted-more, noted-less, counted-later, counted-more, counted-at}
+use Rattle.definition_laws.proofs.Lists.{all-append, cond-case}
+use Rattle.definition_laws.proofs.Limits.{LimitedFunction, LimitedDocument, functionsIn}
+use Rattle.definition_laws.proofs.Room.{room, room-limited}
+use Rattle.definition_laws.proofs.Good.{function-moves}
+use Rattle.definition_laws.proofs.Operands.{Small, Kept, function-kept}
+use Rattle.definition_laws.proofs.Program.{added-case}
+use Rattle.definition_laws.proofs.Uses.{Noted, Counted, noted-here, noted-more, noted-less, counted-later, counted-more, counted-at}
 use Rattle.definition.specs.Book
 
 -- one function
 pub record FunctionKept (s : FunctionState) : Type 0 where

@@ -14,25 +14,25 @@ use Rattle.words.specs.Areas.{widths, codeArea, constantsArea, contextLocalsAre
 use Rattle.words.specs.Opcode.{nothing}
 use Rattle.words.specs.Record.{mostRecords}
 use Rattle.tree.specs.Reading.{documentsOf}
 use Rattle.definition.specs.Uses.{Use, limitOf, firstOver}
 use Rattle.definition.specs.Prior.{Prior, nothingStands}
 use Rattle.definition.specs.Book.{Function, Context, newContext, codeOf, codeCount}
 use Rattle.definition.specs.Program.{Entries, tablesOf}
 use Rattle.definition.specs.Answer.{Delivery, limitsBy, limitsOf, answerFrom, answer}
 use Rattle.definition.specs.Within.{All, nil, _&_, Class, Position, Slot, Read, Pool, ContextSlot, Other, classOf}
 use Rattle.definition.specs.Within.{logsOf, OnePositionEach, KeepsWithin}
-use Rattle.definition.proofs.Safe.{at, Each, counts, Counts, Within, FunctionSafe, ProgramSafe}
-use Rattle.definition.proofs.Lists.{all-map}
-use Rattle.definition.proofs.Cells.{all-at}
-use Rattle.definition.proofs.FunctionCode.{OperandsFit}
-use Rattle.definition.proofs.Keeps.{delivered, WordsKeep}
-use Rattle.definition.proofs.Answer.{delivering, delivery-safe, delivery-keeps, standing-keeps}
-use Rattle.definition.proofs.Limits.{fine-limited}
-use Rattle.definition.proofs.Tables.{totals-counted}
-use Rattle.definition.proofs.Uses.{greatest-fits}
-use Rattle.definition.proofs.Operands.{SmallBy}
-use Rattle.definition.proofs.Counts.{KeptFunctions, ContextKept, standingIn, standing-noted, fresh-noted}
-use Rattle.definition.proofs.Program.{fresh-safe}
+use Rattle.definition_laws.proofs.Safe.{at, Each, counts, Counts, Within, FunctionSafe, ProgramSafe}
+use Rattle.definition_laws.proofs.Lists.{all-map}
+use Rattle.definition_laws.proofs.Cells.{all-at}
+use Rattle.definition_laws.proofs.FunctionCode.{OperandsFit}
+use Rattle.definition_laws.proofs.Keeps.{delivered, WordsKeep}
+use Rattle.definition_laws.proofs.Answer.{delivering, delivery-safe, delivery-keeps, standing-keeps}
+use Rattle.definition_laws.proofs.Limits.{fine-limited}
+use Rattle.definition_laws.proofs.Tables.{totals-counted}
+use Rattle.definition_laws.proofs.Uses.{greatest-fits}
+use Rattle.definition_laws.proofs.Operands.{SmallBy}
+use Rattle.definition_laws.proofs.Counts.{KeptFunctions, ContextKept, standingIn, standing-noted, fresh-noted}
+use Rattle.definition_laws.proofs.Program.{fresh-safe}
 
 -- no area counts as longer than 2 ^ 56 - 1 entries
 limits-capped : (ks ns : List ℕ) (area : ℕ) → limitOf (limitsBy ks ns) area < 2 ^ 56

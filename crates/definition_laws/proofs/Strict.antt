@@ -17,25 +17,25 @@ use Rattle.tree.specs.Check.{shapeOf}
 use Rattle.tree.specs.Reading.{documentsOf}
 use Rattle.tree.specs.declared.Shape.{Shape}
 use Rattle.tree.specs.declared.Shape.the-variants.{Fine, Refused}
 use Rattle.definition.specs.FunctionState.{orElse}
 use Rattle.definition.specs.Uses.{Use, Limits, using′, limitOf, firstOver, overBy, firstNotPublic, notPublicArea}
 use Rattle.definition.specs.Compiler.{Error}
 use Rattle.definition.specs.Book
 use Rattle.definition.specs.Book.{Context, inMode, Deed, newContext, noted}
 use Rattle.definition.specs.Book.{givesValues, compileInclude, compileIncludeDefinition, compileDefinition, compileDefinitions}
 use Rattle.definition.specs.Book.{opened, compileDocument, publish, compileModelDefinition, compileFunctionDefinition, withContext, withAssemblies}
 use Rattle.definition.specs.DependencySolver.{Worked, Ending, Delivered, Faulty, Ring, ready, without, afterBook, driveBy, drive, loadedOf, needed}
 use Rattle.definition.specs.DependencySolver.{missing, compileNeeded}
 use Rattle.definition.specs.Program.{tablesOf}
 use Rattle.definition.specs.Answer.{Answer, Delivery, Refusal, answerOver, answerBy}
 use Rattle.definition.specs.Answer.{answerEnding, answerWorked, answerNeeded, answerBundle, answerDocuments}
 use Rattle.definition.specs.Answer.{answerTwice, answerShape, answerFrom, answer, twice, documentPlaces, limitsBy, limitsOf, replyOf, areasOf}
 use Rattle.definition.specs.Strict.{inPresent}
-use Rattle.definition.proofs.Steady.{Longer, same, more, longer-trans}
-use Rattle.definition.proofs.Modes.{Stays, Staying, stays-refl, stays-trans, stays-noted, stays-include, stays-locals, stays-model, stays-publish}
-use Rattle.definition.proofs.Modes.{stays-function, stays-implement, stays-apply, present, alike-include, alike-locals, alike-model, alike-function}
-use Rattle.definition.proofs.Modes.{alike-implement, alike-apply}
-use Rattle.definition.proofs.Lists.{cond-case}
+use Rattle.definition_laws.proofs.Steady.{Longer, same, more, longer-trans}
+use Rattle.definition_laws.proofs.Modes.{Stays, Staying, stays-refl, stays-trans, stays-noted, stays-include, stays-locals, stays-model, stays-publish}
+use Rattle.definition_laws.proofs.Modes.{stays-function, stays-implement, stays-apply, present, alike-include, alike-locals, alike-model, alike-function}
+use Rattle.definition_laws.proofs.Modes.{alike-implement, alike-apply}
+use Rattle.definition_laws.proofs.Lists.{cond-case}
 
 -- notes
 

@@ -11,10 +11,10 @@ use mathlib.Core.List.{List, [], _∷_}
 use lib.ListN.{length, getD, set}
 use lib.Seq.{getD-set-same, getD-set-other, set-out}
 use lib.Dec.{T, eqb, ltb, eqb→eq, eqb-refl, ltb→lt, nltb→le}
 use Rattle.definition.specs.FunctionState.{orElse}
 use Rattle.definition.specs.Uses.{Use, using′, Limits, limitOf, overBy, firstOver, greatestUse}
 use Rattle.definition.specs.Within.{All, nil, _&_}
-use Rattle.definition.proofs.Lists.{all-map, cond-case}
+use Rattle.definition_laws.proofs.Lists.{all-map, cond-case}
 
 -- a note within its area
 abbrev pub FitsArea : Limits → Use → Type 0

@@ -9,10 +9,10 @@ use mathlib.Core.List.{List, [], _∷_, _++_, append-assoc}
 use lib.ListN.{length, getD, take, replicate, length-append, List·getD-append, List·getD-eq-default}
 use lib.Seq.{getD-append-add}
 use Rattle.words.specs.Areas.{entryWord}
 use Rattle.definition.specs.Uses.{sumOf}
 use Rattle.definition.specs.Program.{Entries, flat, filled, filledAll, entriesFrom}
 use Rattle.definition.specs.Within.{All, nil, _&_}
-use Rattle.definition.proofs.Lists.{all-append}
+use Rattle.definition_laws.proofs.Lists.{all-append}
 
 pub all-at : {A : Type 0} {P : A → Type 0} {l : List A} → All P l → (i : ℕ) (d : A) → i < length l → P (getD l i d)
 all-at nil i d h = absurd (omega arith)

@@ -15,26 +15,26 @@ use Rattle.tree.specs.Check.{shapeOf}
 use Rattle.tree.specs.Reading.{documentsOf}
 use Rattle.tree.specs.declared.Shape.{Shape}
 use Rattle.tree.specs.declared.Shape.the-variants.{Fine, Refused}
 use Rattle.definition.specs.FunctionState.{findName}
 use Rattle.definition.specs.Prior.{Prior, bookIndex, findPublic}
 use Rattle.definition.specs.Uses.{Use, Limits, firstOver, firstNotPublic, notPublicArea}
 use Rattle.definition.specs.Compiler.{Error}
 use Rattle.definition.specs.Book
 use Rattle.definition.specs.Book.{Assembly, Context, findAssembly, publicOf, includedFrom, withConstant, includedNames, publicNames, isThere, hasText}
 use Rattle.definition.specs.Book.{noted, givesValues, compileInclude, compileIncludeDefinition}
 use Rattle.definition.specs.Book.{compileDefinition, compileDefinitions, opened, compileDocument}
 use Rattle.definition.specs.DependencySolver.{Worked, Ending, Delivered, Faulty, Ring, ready}
 use Rattle.definition.specs.DependencySolver.{readyBy, without, afterBook, driveBy, drive, loadedOf, needed}
 use Rattle.definition.specs.DependencySolver.{missing, compileNeeded, findDocument, allIn, dependencies}
 use Rattle.definition.specs.Answer.{Answer, Delivery, Refusal, answerOver, answerBy}
 use Rattle.definition.specs.Answer.{answerEnding, answerWorked, answerNeeded, answerBundle, answerDocuments}
 use Rattle.definition.specs.Answer.{answerTwice, answerShape, answerFrom, twice, documentPlaces, limitsOf}
 use Rattle.definition.specs.Strict.{NamesPublic, BookPublic, BooksPublic, AllPublic}
 use Rattle.definition.specs.Within.{All, nil, _&_}
-use Rattle.definition.proofs.Steady.{Longer, same, more, longer-trans}
-use Rattle.definition.proofs.Modes.{Stays}
-use Rattle.definition.proofs.Strict.{stays-definition, stays-definitions, document-longer, drive-longer, first-longer, noted-first, refusing}
-use Rattle.definition.proofs.Lists.{cond-case, all-map}
+use Rattle.definition_laws.proofs.Steady.{Longer, same, more, longer-trans}
+use Rattle.definition_laws.proofs.Modes.{Stays}
+use Rattle.definition_laws.proofs.Strict.{stays-definition, stays-definitions, document-longer, drive-longer, first-longer, noted-first, refusing}
+use Rattle.definition_laws.proofs.Lists.{cond-case, all-map}
 
 -- public names stay public: what stood stays, and books are put away behind others
 record Later (c c′ : Context) : Type 0 where

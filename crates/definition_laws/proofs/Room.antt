@@ -8,7 +8,7 @@ use lib.ListN.{length}
 use Rattle.words.specs.Ast.{FunctionDefinition}
 use Rattle.words.specs.Record.{mostRecords, mostLevels}
 use Rattle.tree.specs.At.{sizeSs, depthSs}
-use Rattle.definition.proofs.Limits.{LimitedFunction}
+use Rattle.definition_laws.proofs.Limits.{LimitedFunction}
 
 -- 3 · 2 ^ (h / 2)
 unfoldable pub scale : ℕ → ℕ

@@ -7,13 +7,13 @@ use mathlib.Core.Bool.{Bool}
 use mathlib.Core.List.{List, [], _∷_}
 use lib.ListN.{length}
 use Rattle.words.specs.declared.reply.Reply as struct
 use Rattle.definition.specs.Compiler.{Error}
 use Rattle.definition.specs.Book.{Context, newContext}
 use Rattle.definition.specs.Answer.{Answer, Delivery, Refusal, Reply, answer, replyOf, areasOf}
 use Rattle.definition.specs.Within.{Areas, Program, KeepsWithin}
-use Rattle.definition.proofs.Answer.{refusals, Row, row-2, row-3, row-4, row-5, row-6, row-7, row-8, row-9, row-11}
-use Rattle.definition.proofs.Delivery.{answer-keeps}
+use Rattle.definition_laws.proofs.Answer.{refusals, Row, row-2, row-3, row-4, row-5, row-6, row-7, row-8, row-9, row-11}
+use Rattle.definition_laws.proofs.Delivery.{answer-keeps}
 use Rattle.definition.specs.Promise.{lengthsOf, saying, logsIn, answering, programOf, Compiles}
 
 -- every row has a number
 pub no-row : {n : ℕ} {es : List Error} → Row n es → n ≡ 0 → ⊥

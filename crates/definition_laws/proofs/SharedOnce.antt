@@ -14,24 +14,24 @@ use Rattle.words.specs.Ast.{Token, Binding, Alias, FunctionDefinition, Definiti
 use Rattle.words.specs.Ast.{PublicModelDefinition, PlainFunction, PublicFunction, ImplementDefinition, ApplyDefinition, Document}
 use Rattle.tree.specs.Reading.{documentsOf}
 use Rattle.words.specs.Object.{Constant, constantOf, defaultConstants, nullKind, modelKind, functionKind, isShared, sameConstant}
 use Rattle.definition.specs.FunctionState.{Entry, FunctionState, findName}
 use Rattle.definition.specs.Uses.{Use}
 use Rattle.definition.specs.Compiler.{Error, findConstant}
 use Rattle.definition.specs.Book
 use Rattle.definition.specs.Book.{functionCount, modelCount, Context, newContext, Deed, Placed, working, addBookConstant, defineContextLocal}
 use Rattle.definition.specs.Book.{defineContextLocalBy, setLocalValue, givesValues, compileInclude}
 use Rattle.definition.specs.Book.{includedName, giveValue, compileAlias, compileIncludeDefinition, Value, Standing, Adding, NoConstant, valueOf}
 use Rattle.definition.specs.Book.{compileValue, compileBindingBy, compileBinding, compileLocalDefinition, hasText, Properties, addProperty}
 use Rattle.definition.specs.Book.{compileProperties, addModel, compileModelDefinition, compileBase, addFunction, addPlainFunction}
 use Rattle.definition.specs.Book.{compileFunctionDefinition, modelOf, getLocalValue, findModelBy, findModelIn, findModelIndexByLocalName}
 use Rattle.definition.specs.Book.{addMethods, compileMethods, compileImplementDefinition, methodsOf, compileApplyDefinition, compileDefinition}
 use Rattle.definition.specs.Book.{compileDefinitions, opened, compileDocument}
 use Rattle.definition.specs.DependencySolver.{Worked, Delivered, ready, without, afterBook, driveBy, drive, compileNeeded}
 use Rattle.definition.specs.Answer.{Delivery, answerFrom, answer}
 use Rattle.definition.specs.SharedOnce.{numbered, SharedOnce}
-use Rattle.definition.proofs.Lists.{cond-case}
-use Rattle.definition.proofs.Steady.{PoolGrows, same-pool, not-shared, not-found, grows-trans, steady-constant, steady-base}
-use Rattle.definition.proofs.Answer.{delivering}
+use Rattle.definition_laws.proofs.Lists.{cond-case}
+use Rattle.definition_laws.proofs.Steady.{PoolGrows, same-pool, not-shared, not-found, grows-trans, steady-constant, steady-base}
+use Rattle.definition_laws.proofs.Answer.{delivering}
 
 -- a list of constants that grows keeps shared ones apart
 

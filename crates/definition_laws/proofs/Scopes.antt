@@ -9,22 +9,22 @@ use Rattle.words.specs.Ast.{Token, Expression, Expressions, Variables, Statemen
 use Rattle.words.specs.Ast.{Array, Prefix, Infix, If, IfElse, Call, InstanceGet, IndexGet, ∅ₑ, _∷ₑ_, ∅ᵥ, Bare, Valued, Local, Return, For, Break}
 use Rattle.words.specs.Ast.{Rescue, Expr, ∅ₛ, _∷ₛ_}
 use Rattle.words.specs.Opcode.{toInstruction, Pop, PushConstant, LocalSet}
 use Rattle.definition.specs.FunctionState.{FunctionState, Entry, innermost, tail, emitBreak, exitBreakScope, defineLocal, findName}
 use Rattle.definition.specs.Compiler.{Work, Step, doing, withFunction, emit, Added, addConstant, findConstant, InfixKind, Assigning, Plain}
 use Rattle.definition.specs.Compiler.{Negated, Compound, Unknown, infixKind, compileStatement, compileStatements, compileExpression}
 use Rattle.definition.specs.Compiler.{compileExpressions, compileVariables, compileAssignExpressionLeftPart, skip, andThen, deeper}
 use Rattle.definition.specs.Compiler.{compileRescue, compileBare, compileValued, compileExpressionStatement, compileForStatement}
 use Rattle.definition.specs.Compiler.{compileIfExpression, compilePart, compileNoPart, compileArrayExpression, compileCallExpression}
 use Rattle.definition.specs.Compiler.{compilePrefixExpression, compileInfixExpression, compileInfixBy, compileOperation}
 use Rattle.definition.specs.Compiler.{compileAssignExpression, compilePair, compileAssignName, compileThisExpression}
 use Rattle.definition.specs.Compiler.{compileIdentifierExpression, emitName, compileNullExpression, compileBooleanExpression}
 use Rattle.definition.specs.Compiler.{compileStringExpression, compileFloatExpression, compileIntegerExpression, emitGlobal, emitConstant}
 use Rattle.words.specs.Object.{Constant, constantOf, isShared}
-use Rattle.definition.proofs.Defining.{define-cases}
-use Rattle.definition.proofs.Lists.{cond-case}
-use Rattle.definition.proofs.Moves.{close-same, return-same}
+use Rattle.definition_laws.proofs.Defining.{define-cases}
+use Rattle.definition_laws.proofs.Lists.{cond-case}
+use Rattle.definition_laws.proofs.Moves.{close-same, return-same}
 use Rattle.definition.specs.FunctionState as Emission
 use Rattle.definition.specs.Compiler
 
 abbrev names : Work → List (List Entry)
 names w = w .function .scopes

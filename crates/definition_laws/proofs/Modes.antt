@@ -10,19 +10,19 @@ use lib.Dec.{eqb}
 use Rattle.words.specs.Areas.{propertiesArea}
 use Rattle.words.specs.Ast.{Token, Binding, Alias, FunctionDefinition}
 use Rattle.words.specs.Object.{Constant, constantOf, modelKind, functionKind}
 use Rattle.definition.specs.FunctionState.{Entry, FunctionState, findName}
 use Rattle.definition.specs.Prior.{bookIndex}
 use Rattle.definition.specs.Book
 use Rattle.definition.specs.Book.{functionCount, modelCount, Context, Deed, Placed, MaybePlaced, working, addBookConstant, defineContextLocal, noted}
 use Rattle.definition.specs.Book.{defineContextLocalBy, setLocalValue, inMode, withConstant}
 use Rattle.definition.specs.Book.{includedFrom, includedNames, onlyOne, withContext, propertyCount}
 use Rattle.definition.specs.Book.{includedName, giveValue, compileAlias, compileIncludeDefinition, Value, Standing, Adding, NoConstant, valueOf}
 use Rattle.definition.specs.Book.{compileValue, compileBindingBy, compileBinding, compileLocalDefinition, hasText, Properties, addProperty, pushBookError}
 use Rattle.definition.specs.Book.{compileProperties, addModel, compileModelDefinition, compileBase, addFunction, addPlainFunction, Made, Methods}
 use Rattle.definition.specs.Book.{compileFunctionDefinition, modelOf, getLocalValue, findModelBy, findModelIn, findModelIndexByLocalName, publish}
 use Rattle.definition.specs.Book.{addMethods, compileMethods, compileImplementDefinition, methodsOf, compileApplyDefinition, withEntryPoint}
-use Rattle.definition.proofs.Lists.{cond-case}
-use Rattle.definition.proofs.Steady.{Longer, same, more, longer-trans, steady-constant, steady-base}
+use Rattle.definition_laws.proofs.Lists.{cond-case}
+use Rattle.definition_laws.proofs.Steady.{Longer, same, more, longer-trans, steady-constant, steady-base}
 
 -- what stays
 

@@ -8,12 +8,12 @@ use mathlib.Core.List.{List, [], _∷_, _++_, map}
 use lib.ListN.{length, getD, take}
 use Rattle.words.specs.Opcode.{Instruction, word, unword}
 use Rattle.words.proofs.Codes.{unword-word}
 use Rattle.definition.specs.FunctionState.{newFunctionState, noLog}
 use Rattle.definition.specs.Book.{Function, Context, codeOf}
 use Rattle.definition.specs.Program.{Entries, entriesFrom, codeEntries, functionCode, functionEntry, functionEntries}
 use Rattle.definition.specs.Within.{All, nil, _&_, logsOf, Class, Position, Slot, Read, Pool, ContextSlot, Other, classOf}
-use Rattle.definition.proofs.Safe.{at, Each, Counts, counts, Within, LooseBy, Loose, FunctionSafe}
-use Rattle.definition.proofs.Cells.{Wide, all-at, entries-all, entries-wide, entries-length, entries-at, sum-inside}
+use Rattle.definition_laws.proofs.Safe.{at, Each, Counts, counts, Within, LooseBy, Loose, FunctionSafe}
+use Rattle.definition_laws.proofs.Cells.{Wide, all-at, entries-all, entries-wide, entries-length, entries-at, sum-inside}
 
 -- every operand has its 56 bits
 abbrev pub OperandsFit : Context → Type 0

@@ -12,16 +12,16 @@ use lib.ListN.{length, getD, set, length-append, length-set, length-take, List·
 use lib.Seq.{getD-set-same, getD-set-other, getD-take, getD-append-seam}
 use lib.Dec.{T, eqb, eqb→eq}
 use Rattle.words.specs.Opcode.{Instruction, toInstruction, nothing, Pop, PushConstant, ReturnOp, Jump, JumpIf}
 use Rattle.definition.specs.FunctionState.{FunctionState, Entry, pushBreaks, innermost, tail, last, init, lastOpcode, patchAll, removePopOrPushNull}
 use Rattle.definition.specs.FunctionState.{emitReturn, emitBreak, exitBreakScope, defineLocal, findName}
 use Rattle.definition.specs.Within.{Loop}
 use Rattle.definition.specs.FunctionState as Emission
 use Rattle.definition.specs.Within.{All, nil, _&_, Loop, readTrace, loopsOf, breaksOf, Among, here, there, InLoop, first, later, Class, breakIn, leave}
 use Rattle.definition.specs.Within.{Position, Slot, Read, Pool, ContextSlot, Other, classOf}
-use Rattle.definition.proofs.Defining.{define-cases}
-use Rattle.definition.proofs.Safe.{at, Each, counts, Landed, Counts, Within, Fits}
-use Rattle.definition.proofs.Lists.{all-map, all-append, Kept, Fresh, kept-append, kept-init, kept-set, cond-case, ne-of-test, each-map, each-snoc}
-use Rattle.definition.proofs.Lists.{each-set, each-init, each-patch, last-snoc, opcode-set, opcode-patch, patch-other, patch-hits, length-patch}
+use Rattle.definition_laws.proofs.Defining.{define-cases}
+use Rattle.definition_laws.proofs.Safe.{at, Each, counts, Landed, Counts, Within, Fits}
+use Rattle.definition_laws.proofs.Lists.{all-map, all-append, Kept, Fresh, kept-append, kept-init, kept-set, cond-case, ne-of-test, each-map, each-snoc}
+use Rattle.definition_laws.proofs.Lists.{each-set, each-init, each-patch, last-snoc, opcode-set, opcode-patch, patch-other, patch-hits, length-patch}
 
 -- a break that waits for its loop's end
 abbrev pub Pending : List Instruction → ℕ → Type 0

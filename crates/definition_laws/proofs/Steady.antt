@@ -13,24 +13,24 @@ use Rattle.words.specs.Ast.{Identifier, This, Null, Integer, Float, Text, Boole
 use Rattle.words.specs.Ast.{∅ₑ, _∷ₑ_, ∅ᵥ, Bare, Valued, Local, Return, For, Break, Rescue, Expr, ∅ₛ, _∷ₛ_}
 use Rattle.words.specs.Object.{Constant, constantOf, isShared, integerKind}
 use Rattle.words.specs.Opcode.{Instruction, toInstruction, Pop, PushConstant, ReturnOp, Jump, JumpIf, LocalSet, ForNext, Iterate}
 use Rattle.definition.specs.FunctionState as Emission
 use Rattle.definition.specs.FunctionState.{FunctionState, removePopOrPushNull, emitReturn, emitBreak, exitBreakScope, defineLocal, lastOpcode}
 use Rattle.definition.specs.FunctionState.{findName, getNextInstructionIndex, newFunctionState}
 use Rattle.definition.specs.Uses.{Use}
 use Rattle.definition.specs.Compiler
 use Rattle.definition.specs.Compiler.{Work, Step, Added, withFunction, doing, emit, emitOpcode, pushError, addConstant, addConstantNoCheck, findConstant}
 use Rattle.definition.specs.Compiler.{emitConstant, emitGlobal, emitName, InfixKind, Assigning, Plain, Negated, Compound, Unknown, infixKind}
 use Rattle.definition.specs.Compiler.{compileInfixBy}
 use Rattle.definition.specs.Compiler.{compileStatement, compileStatements, compileExpression, compileExpressions, compileVariables}
 use Rattle.definition.specs.Compiler.{compileAssignExpressionLeftPart, compileParameter, compileParameters, skip, andThen, deeper, compileRescue}
 use Rattle.definition.specs.Compiler.{compileBare}
 use Rattle.definition.specs.Compiler.{compileValued, compileExpressionStatement, compileForStatement, compileIfExpression, compilePart, compileNoPart}
 use Rattle.definition.specs.Compiler.{compileArrayExpression, compileCallExpression, compilePrefixExpression, compileInfixExpression, compileOperation}
 use Rattle.definition.specs.Compiler.{compileAssignExpression, compilePair, compileAssignName, compileThisExpression, compileIdentifierExpression}
 use Rattle.definition.specs.Compiler.{compileNullExpression, compileBooleanExpression, compileStringExpression, compileFloatExpression}
 use Rattle.definition.specs.Compiler.{compileIntegerExpression, compileFunctionDefinitionBase}
-use Rattle.definition.proofs.Defining.{define-cases}
-use Rattle.definition.proofs.Lists.{cond-case}
+use Rattle.definition_laws.proofs.Defining.{define-cases}
+use Rattle.definition_laws.proofs.Lists.{cond-case}
 
 -- notes are added in front
 pub data Longer (us : List Use) : List Use → Type 0 where

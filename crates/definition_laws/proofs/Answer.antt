@@ -21,19 +21,19 @@ use Rattle.tree.specs.declared.Shape.{Shape}
 use Rattle.tree.specs.declared.Shape.the-variants.{Fine, Refused}
 use Rattle.tree.specs.declared.Outcome.{Outcome}
 use Rattle.tree.specs.declared.Outcome.the-variants.{Went, Fault}
 use Rattle.definition.specs.Uses.{Limits, firstNotPublic, firstOver}
 use Rattle.definition.specs.Compiler.{Error}
 use Rattle.definition.specs.Book.{Context, newContext}
 use Rattle.definition.specs.DependencySolver.{Ending, Delivered, Faulty, Ring, compileNeeded, missing, needed, loadedOf}
 use Rattle.definition.specs.Program.{entriesFrom, errorEntry, errorTables}
 use Rattle.definition.specs.Answer.{Answer, Delivery, Refusal, answerEnding, answerBy, answerNeeded, answerBundle, answerDocuments, answerTwice}
 use Rattle.definition.specs.Answer.{answerShape, answerFrom, answer, twice, documentPlaces, limitsOf, ringErrors, areasOf}
-use Rattle.definition.proofs.Safe.{ProgramSafe}
-use Rattle.definition.proofs.Lists.{cond-case}
-use Rattle.definition.proofs.Program.{worked-safe, fresh-safe}
-use Rattle.definition.proofs.Cells.{filled-at}
-use Rattle.definition.proofs.FunctionCode.{OperandsFit}
-use Rattle.definition.proofs.Keeps.{WordsKeep, program-keeps}
+use Rattle.definition_laws.proofs.Safe.{ProgramSafe}
+use Rattle.definition_laws.proofs.Lists.{cond-case}
+use Rattle.definition_laws.proofs.Program.{worked-safe, fresh-safe}
+use Rattle.definition_laws.proofs.Cells.{filled-at}
+use Rattle.definition_laws.proofs.FunctionCode.{OperandsFit}
+use Rattle.definition_laws.proofs.Keeps.{WordsKeep, program-keeps}
 
 -- the rows that refuse, with the errors that each may list
 pub data Row : ℕ → List Error → Type 0 where

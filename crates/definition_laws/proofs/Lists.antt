@@ -10,9 +10,9 @@ use lib.ListN.{length, getD, take, set, length-append, length-set, length-take, 
 use lib.Seq.{getD-set-same, getD-set-other, getD-take, getD-append-seam, set-out}
 use lib.Dec.{T, eqb, eqb→eq, eqb-refl}
 use Rattle.words.specs.Opcode.{Instruction, toInstruction, nothing, Jump}
 use Rattle.definition.specs.FunctionState.{patchAll, init, last}
 use Rattle.definition.specs.Within.{All, nil, _&_}
-use Rattle.definition.proofs.Safe.{at, Each}
+use Rattle.definition_laws.proofs.Safe.{at, Each}
 
 module _ {A : Type 0} where
   pub all-map : {P Q : A → Type 0} {l : List A} → ((x : A) → P x → Q x) → All P l → All Q l

@@ -14,38 +14,38 @@ use Rattle.words.specs.Ast.{Token, Expression, Expressions, Variables, Statemen
 use Rattle.words.specs.Ast.{Identifier, This, Null, Integer, Float, Text, Boolean, Array, Prefix, Infix, If, IfElse, Call, InstanceGet, IndexGet}
 use Rattle.words.specs.Ast.{∅ₑ, _∷ₑ_, ∅ᵥ, Bare, Valued, Local, Return, For, Break, Rescue, Expr, ∅ₛ, _∷ₛ_}
 use Rattle.words.specs.Opcode.{Instruction, toInstruction, nothing}
 use Rattle.definition.specs.FunctionState.{FunctionState, Entry, pushBreaks, tail, lastOpcode, init, popLast, removePopOrPushNull}
 use Rattle.definition.specs.FunctionState.{emitReturn, emitBreak, exitBreakScope, defineLocal, Defined, findName, getNextInstructionIndex}
 use Rattle.definition.specs.FunctionState.{getLastPosition, withRescue, withDepth, withParameters}
 use Rattle.definition.specs.Within.{Loop}
 use Rattle.words.specs.Opcode.{Pop, PushConstant, ReturnOp, LocalSet, LocalGet, LocalInit, ContextSet, ContextGet, GlobalSet, GlobalGet, InstanceSet}
 use Rattle.words.specs.Opcode.{InstanceGetOp, IndexSet, IndexGetOp, Operation, Not, Negative, CallOp, ArrayOp, Jump, JumpIf, ForNext, Iterate}
 use Rattle.definition.specs.FunctionState as Emission
 use Rattle.definition.specs.Compiler
 use Rattle.definition.specs.Compiler.{Work, Step, Error, doing, withFunction, emit, next, Added, addConstant, addConstantNoCheck, findConstant}
 use Rattle.definition.specs.Compiler.{pushError, InfixKind, Assigning, Plain, Negated, Compound, Unknown, infixKind, getOr}
 use Rattle.words.specs.Object.{isShared, sameConstant, Constant, constantOf}
 use Rattle.definition.specs.Compiler.{compileStatement, compileStatements, compileExpression, compileExpressions, compileVariables}
 use Rattle.definition.specs.Compiler.{compileAssignExpressionLeftPart, compileParameter, compileParameters, skip, andThen, deeper, compileRescue}
 use Rattle.definition.specs.Compiler.{compileBare}
 use Rattle.definition.specs.Compiler.{compileValued, compileExpressionStatement, compileForStatement}
 use Rattle.definition.specs.Compiler.{compileIfExpression, compilePart, compileNoPart, compileArrayExpression, compileCallExpression}
 use Rattle.definition.specs.Compiler.{compilePrefixExpression, compileInfixExpression, compileInfixBy, compileOperation, compileAssignExpression}
 use Rattle.definition.specs.Compiler.{compilePair, compileAssignName}
 use Rattle.definition.specs.Compiler.{compileThisExpression, compileIdentifierExpression, emitName, compileNullExpression, compileBooleanExpression}
 use Rattle.definition.specs.Compiler.{compileStringExpression, compileFloatExpression, compileIntegerExpression, emitGlobal, emitConstant}
 use Rattle.definition.specs.Within.{All, nil, _&_, loopsOf, breaksOf, exitsOf, readTrace, Among, here, there, InLoop, classOf}
-use Rattle.definition.proofs.Safe.{at, Each, Landed, Safe, countsOf, Counts, Within, Fits}
-use Rattle.definition.proofs.Lists.{all-map, all-append, Kept, Fresh, kept-refl, kept-trans, fresh-ge, fresh-trans, kept-append, kept-set}
-use Rattle.definition.proofs.Lists.{kept-patch, kept-init, cond-case}
+use Rattle.definition_laws.proofs.Safe.{at, Each, Landed, Safe, countsOf, Counts, Within, Fits}
+use Rattle.definition_laws.proofs.Lists.{all-map, all-append, Kept, Fresh, kept-refl, kept-trans, fresh-ge, fresh-trans, kept-append, kept-set}
+use Rattle.definition_laws.proofs.Lists.{kept-patch, kept-init, cond-case}
 use Rattle.definition.specs.Compiler.{compileFunctionDefinitionBase}
-use Rattle.definition.proofs.Moves
-use Rattle.definition.proofs.Moves.{code, errs, MovesBut, Moves, NoNext, Moving, moves-refl, moves-trans, moves-function, emit-moves, set-moves}
-use Rattle.definition.proofs.Moves.{define-moves}
-use Rattle.definition.proofs.Moves.{constant-moves, emit-constant-moves, operation-moves, if-moves, for-moves}
-use Rattle.definition.proofs.Sound.{InSome, own, farther, Sound, Solid, SoundSolid, Pending, Wider, fits-mono, sound-more, sound-emit, solid-emit}
-use Rattle.definition.proofs.Sound.{sound-null, sound-close, sound-return, sound-set, pending-apart, all-push, all-tail, sound-break, sound-exit}
-use Rattle.definition.proofs.Sound.{find-name, find-scopes, sound-scopes, sound-define, define-found, pending-kept}
+use Rattle.definition_laws.proofs.Moves
+use Rattle.definition_laws.proofs.Moves.{code, errs, MovesBut, Moves, NoNext, Moving, moves-refl, moves-trans, moves-function, emit-moves, set-moves}
+use Rattle.definition_laws.proofs.Moves.{define-moves}
+use Rattle.definition_laws.proofs.Moves.{constant-moves, emit-constant-moves, operation-moves, if-moves, for-moves}
+use Rattle.definition_laws.proofs.Sound.{InSome, own, farther, Sound, Solid, SoundSolid, Pending, Wider, fits-mono, sound-more, sound-emit, solid-emit}
+use Rattle.definition_laws.proofs.Sound.{sound-null, sound-close, sound-return, sound-set, pending-apart, all-push, all-tail, sound-break, sound-exit}
+use Rattle.definition_laws.proofs.Sound.{find-name, find-scopes, sound-scopes, sound-define, define-found, pending-kept}
 
 pub record Good (w : Work) : Type 0 where
   pub sound : Sound (length (w .context .constants)) (w .context .localCount) (w .function)
