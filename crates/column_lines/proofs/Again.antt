@@ -13,12 +13,14 @@ use borrow.Author.Tests.{eq-eqb, ne-eqb, eqb-true, eqb-false, lt-ltb, ltb-true, 
 use Rattle.words.specs.Record.{positionBase, packPosition, lineOf, columnOf}
 use Rattle.column_lines.specs.Form.{kindWidth, spanWidth, lineWidth, columnWidth, valueWidth, spanPlace, linePlace, columnPlace, valuePlace}
 use Rattle.column_lines.specs.Form.{newlinePlace, lineLength, newline, signedKind}
-use Rattle.column_lines.specs.Numeral.{wordEnd, leastSize, negativeOf, magnitudeOf, restFits, spellFits, numeral, numeralFits, readNumeral}
+use Rattle.column_lines.specs.Numeral.{wordEnd, leastSize, negativeOf, numeral, numeralFits, readNumeral}
+use Rattle.column_lines.specs.Spelling.{magnitudeOf, restFits, spellFits}
 use Rattle.column_lines.specs.Line.{fieldIn, signedIs, positionIn, recordIn, kindIn, spanIn, placeIn, valueIn, wholeLine, readLine, recordLine}
 use Rattle.column_lines.specs.declared.number.Number.{Number}
 use Rattle.column_lines.specs.declared.number.Number.the-variants.{Word, Off}
 use Rattle.column_lines.specs.declared.line.Line.{Line}
 use Rattle.column_lines.specs.declared.line.Line.the-variants.{Record, Bad}
+use Rattle.column_lines.proofs.Digits.{fits-spelled}
 use Rattle.column_lines.proofs.Numerals.{read-written, written-read, read-below}
 use Rattle.column_lines.proofs.Lines.{numeral-length, position-yes, record-all, line-whole, line-size}
 
@@ -45,12 +47,12 @@ rest-fits-signed (suc w) m h = by (eqb m 0) (rest-fits-signed w (m / 10) (let p 
 pub natural-fits : (w word : ℕ) → 0 < w → word < 10 ^ w → numeralFits w false word ≡ true
 unfolding spellFits
 natural-fits zero word z h = absurd (omega arith)
-natural-fits (suc w) word z h = rest-fits w (word / 10) (let p = pow-suc 10 w in omega (arith, p))
+natural-fits (suc w) word z h = fits-spelled false word (suc w) ∙ rest-fits w (word / 10) (let p = pow-suc 10 w in omega (arith, p))
 
 -- every value fits its field
 pub value-fits : (s : Bool) (word : ℕ) → word < wordEnd → numeralFits valueWidth s word ≡ true
 unfolding spellFits
-value-fits s word h = go (negativeOf s word) refl
+value-fits s word h = fits-spelled s word valueWidth ∙ go (negativeOf s word) refl
   where
     minus : (s : Bool) → negativeOf s word ≡ true → leastSize ≤ word
     minus true e = leb-true leastSize word e

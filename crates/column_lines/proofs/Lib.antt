@@ -1,4 +1,5 @@
 -- Laws of column files, each file by its subject. Assumes nothing.
+pub mod Digits
 pub mod Integers
 pub mod Reading
 pub mod Writing

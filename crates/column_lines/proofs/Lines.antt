@@ -12,7 +12,7 @@ use borrow.Author.Tests.{eq-eqb, ne-eqb}
 use Rattle.words.specs.Record.{packPosition, lineOf, columnOf}
 use Rattle.column_lines.specs.Form.{kindWidth, spanWidth, lineWidth, columnWidth, valueWidth, spanPlace, linePlace, columnPlace, valuePlace}
 use Rattle.column_lines.specs.Form.{newlinePlace, lineLength, newline, signedKind}
-use Rattle.column_lines.specs.Numeral.{blank, digitOf, leadOf, restOf, spelled, numeral, Wrote}
+use Rattle.column_lines.specs.Numeral.{blank, written, rightJustified, numeral, Wrote}
 use Rattle.column_lines.specs.Line.{signedIs, positionIn, recordIn, kindIn, spanIn, placeIn, valueIn, wholeLine, readLine, recordLine, LineWrote}
 use borrow.Rule.Slice.PartMut.{midOf, putMid, post-is, mid-len}
 use Rattle.column_lines.specs.declared.number.Number.{Number}
@@ -58,30 +58,13 @@ line-whole l e n = simp (eq-eqb (length l) lineLength e, eq-eqb (getD l newlineP
 
 -- a field is as long as its width
 
-lead-length : (w : ℕ) (g : Bool) → length (leadOf w g) ≡ w
-unfolding leadOf
-lead-length w false = length-replicate w blank
-lead-length zero true = refl
-lead-length (suc w) true = length-append (replicate w 32) (45 ∷ []) ∙ (let e = length-replicate w blank in omega (arith, e))
-
-rest-length : (w : ℕ) (g : Bool) (m : ℕ) → length (restOf w g m) ≡ w
-unfolding restOf
-rest-length zero g m = refl
-rest-length (suc w) g m = by (eqb m 0) (restOf w g (m / 10)) (digitOf m) (rest-length w g (m / 10))
-  where
-    by : (t : Bool) (l : List ℕ) (b : ℕ) → length l ≡ w → length (cond t (leadOf (suc w) g) (l ++ (b ∷ []))) ≡ suc w
-    by true l b e = lead-length (suc w) g
-    by false l b e = length-append l (b ∷ []) ∙ omega (arith, e)
-
-spelled-length : (w : ℕ) (g : Bool) (m : ℕ) → length (spelled w g m) ≡ w
-unfolding spelled
-spelled-length zero g m = refl
-spelled-length (suc w) g m =
-    let e = rest-length w g (m / 10) in
-    length-append (restOf w g (m / 10)) _ ∙ omega (arith, e)
-
 pub numeral-length : (w : ℕ) (s : Bool) (word : ℕ) → length (numeral w s word) ≡ w
-numeral-length w s word = spelled-length w _ _
+unfolding rightJustified
+numeral-length w s word =
+    let d = length-drop (length (written s word)) (replicate w blank ++ written s word) in
+    let a = length-append (replicate w blank) (written s word) in
+    let r = length-replicate w blank in
+    omega (arith, d, a, r)
 
 -- a number is put into a field
 pub field-put : (a e word : ℕ) (s : Bool) (xs ys : List ℕ) {r : Bool} → a ≤ e → e ≤ length xs → Wrote s word (midOf a (e - a) xs) ys r

@@ -11,7 +11,8 @@ use borrow.Author.Tests.{not-true, not-false, leb-true, leb-false}
 use mir.Syntax.{w64}
 use mir.Val.{Fits, SFits, ofZ, toZ}
 use mir.Facts.{ofZ-toZ}
-use Rattle.column_lines.specs.Numeral.{leastSize, wordEnd, numberFrom, digitsFrom, Spelt, Led}
+use Rattle.column_lines.specs.Numeral.{leastSize, wordEnd, numberFrom, digitsFrom}
+use Rattle.column_lines.specs.Spelling.{Spelt, Led}
 use Rattle.column_lines.specs.declared.number.Number.{Number}
 use Rattle.column_lines.specs.declared.number.Number.the-variants.{Word, Off}
 use Rattle.column_lines.proofs.Integers.{neg, abs-fits, Held, sizeHeld, held-is, held-of, size-of, held-zero, held-word, integer-neg, integer-size}

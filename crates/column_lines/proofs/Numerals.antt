@@ -10,12 +10,13 @@ use lib.ListN.{length, drop, replicate, length-append, length-replicate}
 use lib.Seq.{append-snoc}
 use lib.Dec.{leb, eqb}
 use borrow.Author.Tests.{eq-eqb, ne-eqb, le-leb, lt-leb, leb-true, leb-false, eqb-true, eqb-false}
-use Rattle.column_lines.specs.Numeral.{blank, minusSign, digitOf, isDigit, leastSize, wordEnd, mostOf, negativeOf, magnitudeOf, leadOf, restOf}
-use Rattle.column_lines.specs.Numeral.{spelled, leadFits, restFits, spellFits, numeral, numeralFits, wordOf, digitsFrom, zeroFrom, numberFrom}
-use Rattle.column_lines.specs.Numeral.{signAt, signFrom, readNumeral}
+use Rattle.column_lines.specs.Numeral.{blank, minusSign, digitOf, isDigit, leastSize, wordEnd, mostOf, negativeOf, numeral, numeralFits, wordOf, digitsFrom}
+use Rattle.column_lines.specs.Numeral.{zeroFrom, numberFrom, signAt, signFrom, readNumeral}
+use Rattle.column_lines.specs.Spelling.{magnitudeOf, leadOf, restOf, spelled, leadFits, restFits, spellFits}
 use Rattle.column_lines.specs.declared.number.Number.{Number}
 use Rattle.column_lines.specs.declared.number.Number.the-variants.{Word, Off}
 use Rattle.column_lines.proofs.Reading.{digit-yes}
+use Rattle.column_lines.proofs.Digits.{rest-lead, spelled-rest, snoc-length, numeral-spelled, fits-spelled}
 
 absurd-bool : false ≡ true → ⊥
 absurd-bool e = let z : _≡_ {A = ℕ} 0 1 = cc in omega arith
@@ -78,12 +79,6 @@ lead-fits : (w : ℕ) (g : Bool) (m : ℕ) → m ≡ 0 → restFits w g m ≡ tr
 unfolding restFits leadFits
 lead-fits zero g m z f = simp (eq-eqb m 0 z) at f
 lead-fits (suc w) g m z f = refl
-
-rest-lead : (w : ℕ) (g : Bool) (m : ℕ) → m ≡ 0 → restOf w g m ≡ leadOf w g
-unfolding restOf leadOf
-rest-lead zero true m z = refl
-rest-lead zero false m z = refl
-rest-lead (suc w) g m z = simp (eq-eqb m 0 z)
 
 -- 0 has no sign
 read-zero : (s g : Bool) (m : ℕ) → g ≡ false → m ≡ 0 → numberFrom s g (digitOf m ∷ []) ≡ wordOf s g m
@@ -151,11 +146,11 @@ word-negative s word l h =
     let e : wordEnd - (wordEnd - word) ≡ word = omega arith in
     simp (le-leb (wordEnd - word) leastSize (omega arith)) (ap Word e)
 
-pub read-written : (width : ℕ) (signed : Bool) (word : ℕ) → word < wordEnd → numeralFits width signed word ≡ true
-    → readNumeral signed (numeral width signed word) ≡ Word word
-read-written width false word h f =
+read-word : (width : ℕ) (signed : Bool) (word : ℕ) → word < wordEnd → spellFits width (negativeOf signed word) (magnitudeOf signed word) ≡ true
+    → readNumeral signed (spelled width (negativeOf signed word) (magnitudeOf signed word)) ≡ Word word
+read-word width false word h f =
     read-spelled false false width word (λ e. e) (λ e. absurd (absurd-bool e)) f (omega arith) ∙ word-natural false word (omega arith)
-read-written width true word h f = go (leb leastSize word) refl f
+read-word width true word h f = go (leb leastSize word) refl f
   where
     go : (t : Bool) → leb leastSize word ≡ t → spellFits width t (cond t (wordEnd - word) word) ≡ true
         → readNumeral true (spelled width (leb leastSize word) (cond (leb leastSize word) (wordEnd - word) word)) ≡ Word word
@@ -165,6 +160,11 @@ read-written width true word h f = go (leb leastSize word) refl f
     go false e g =
         let l : word < leastSize = leb-false leastSize word e in
         rw e (read-spelled true false width word (λ x. refl) (λ x. absurd (absurd-bool x)) g (omega arith) ∙ word-natural true word (omega arith))
+
+pub read-written : (width : ℕ) (signed : Bool) (word : ℕ) → word < wordEnd → numeralFits width signed word ≡ true
+    → readNumeral signed (numeral width signed word) ≡ Word word
+read-written width signed word h f =
+    ap (readNumeral signed) (numeral-spelled signed word width) ∙ read-word width signed word h (sym (fits-spelled signed word width) ∙ f)
 
 -- writing a number that was read gives the bytes
 
@@ -210,17 +210,9 @@ word-parts s false m word y p e =
     let u : m ≡ word = same-word (h .1) in
     rw (← u) (natural-parts s m (leb-true m (mostOf s) (h .0)))
 
-spelled-rest : (w : ℕ) (g : Bool) (m : ℕ) → (m ≡ 0 → ⊥) → spelled w g m ≡ restOf w g m
-unfolding spelled restOf
-spelled-rest zero g m n = refl
-spelled-rest (suc w) g m n = simp (ne-eqb m 0 n)
-
 -- what is read of a field, and written again
 abbrev Again : Bool → ℕ → List ℕ → Type 0
 Again s word bs = (numeral (length bs) s word ≡ bs) × (word < wordEnd)
-
-snoc-length : (pre : List ℕ) (b : ℕ) → length (pre ++ (b ∷ [])) ≡ suc (length pre)
-snoc-length pre b = length-append pre (b ∷ []) ∙ omega arith
 
 digit-range : (b : ℕ) → isDigit b ≡ true → (48 ≤ b) × (b ≤ 57)
 digit-range b e = go (leb 48 b) refl e
@@ -239,7 +231,8 @@ grow g pre m b e l h n =
     rw (snoc-length pre b) (simp (ne-eqb (m * 10 + (b - 48)) 0 n, q, r, e))
 
 numeral-parts : (w : ℕ) (s g : Bool) (m word : ℕ) → Parts s g m word → numeral w s word ≡ spelled w g m
-numeral-parts w s g m word p = ap (λ (t : Bool). spelled w t (magnitudeOf s word)) (p .sign) ∙ ap (spelled w g) (p .size)
+numeral-parts w s g m word p =
+    numeral-spelled s word w ∙ ap (λ (t : Bool). spelled w t (magnitudeOf s word)) (p .sign) ∙ ap (spelled w g) (p .size)
 
 from-digits : (s g : Bool) (m : ℕ) (pre bs : List ℕ) (word : ℕ) → MaySign s g → restOf (length pre) g m ≡ pre → (m ≡ 0 → ⊥)
     → digitsFrom s g m bs ≡ Word word → Again s word (pre ++ bs)

@@ -9,8 +9,9 @@ use lib.ListN.{length, take, drop, set, replicate, length-set, drop-of-length-le
 use lib.Seq.{set-split, drop-at, length-take-le, append-snoc}
 use lib.Dec.{leb, eqb}
 use borrow.Author.Tests.{eq-eqb, ne-eqb, le-leb, leb-true}
-use Rattle.column_lines.specs.Numeral.{digitOf, leadOf, restOf, spelled, leadFits, restFits, spellFits, negativeOf, magnitudeOf, wordEnd}
-use Rattle.column_lines.specs.Numeral.{leastSize, Wrote, Spelt, Led}
+use Rattle.column_lines.specs.Numeral.{digitOf, leastSize, wordEnd, negativeOf, Wrote}
+use Rattle.column_lines.specs.Spelling.{magnitudeOf, leadOf, restOf, spelled, leadFits, restFits, spellFits, Spelt, Led}
+use Rattle.column_lines.proofs.Digits.{rest-lead, rest-lead-fits, numeral-spelled, fits-spelled}
 
 pub drop-set : (l : List ℕ) (k d : ℕ) → k < length l → drop k (set l k d) ≡ d ∷ drop (suc k) l
 drop-set l k d h = rw (set-split l k d h) (drop-at (take k l) (d ∷ drop (suc k) l) k (length-take-le k l (omega arith)))
@@ -74,27 +75,12 @@ write-short g number before out k m {x} {width} X W w n e =
     record { bytes = b .0 ∙ rw (X, W); fits = b .1 ∙ rw (X, W) }
 
 -- no digits are left, and the rest of the field is led
-led-none : (g : Bool) → [] ≡ leadOf 0 g
-unfolding leadOf
-led-none true = refl
-led-none false = refl
-
-led-rest : (g : Bool) (k m : ℕ) → m ≡ 0 → restOf k g m ≡ leadOf k g
-unfolding restOf
-led-rest g zero m e = led-none g
-led-rest g (suc k) m e = simp (eq-eqb m 0 e)
-
-led-fits : (g : Bool) (k m : ℕ) → m ≡ 0 → restFits k g m ≡ leadFits k g
-unfolding restFits leadFits
-led-fits g zero m e = simp (eq-eqb m 0 e)
-led-fits g (suc k) m e = simp (eq-eqb m 0 e)
-
 pub write-end : (g : Bool) (number : ℕ) (before out after : List ℕ) (k m : ℕ) {x width : ℕ} {r : Bool} → x ≡ number → width ≡ length before
     → Writing g x width out k m → m ≡ 0 → Led g k out after r → Spelt g number before after r
 write-end g number before out after k m {x} {width} {r} X W w n l =
     record {
-      bytes = l .bytes ∙ ap (λ (y : List ℕ). y ++ drop k out) (sym (led-rest g k m n)) ∙ w .bytes ∙ rw (X, W);
-      fits = l .fits ∙ sym (led-fits g k m n) ∙ w .fits ∙ rw (X, W);
+      bytes = l .bytes ∙ ap (λ (y : List ℕ). y ++ drop k out) (sym (rest-lead k g m n)) ∙ w .bytes ∙ rw (X, W);
+      fits = l .fits ∙ sym (rest-lead-fits k g m n) ∙ w .fits ∙ rw (X, W);
     }
 
 -- a field of no bytes
@@ -130,13 +116,22 @@ lead-sign true (suc w) before after l n z e =
 
 -- a word is written by its sign and magnitude
 
+wrote-spelt : (signed : Bool) (word : ℕ) (before after : List ℕ) {r : Bool}
+    → Spelt (negativeOf signed word) (magnitudeOf signed word) before after r → Wrote signed word before after r
+wrote-spelt signed word before after s =
+    record {
+      bytes = s .bytes ∙ sym (numeral-spelled signed word (length before));
+      fits = s .fits ∙ sym (fits-spelled signed word (length before));
+    }
+
 pub wrote-natural : (signed : Bool) (word : ℕ) (before after : List ℕ) {r : Bool} → false ≡ negativeOf signed word → Spelt false word before after r
     → Wrote signed word before after r
-wrote-natural signed word before after e s = record { bytes = rw (← e) (s .bytes); fits = rw (← e) (s .fits) }
+wrote-natural signed word before after e s = wrote-spelt signed word before after (record { bytes = rw (← e) (s .bytes); fits = rw (← e) (s .fits) })
 
 pub wrote-negative : (signed : Bool) (word m : ℕ) (before after : List ℕ) {r : Bool} → true ≡ negativeOf signed word → m ≡ wordEnd - word
     → Spelt true m before after r → Wrote signed word before after r
-wrote-negative signed word m before after e M s = record { bytes = rw (← e, ← M) (s .bytes); fits = rw (← e, ← M) (s .fits) }
+wrote-negative signed word m before after e M s =
+    wrote-spelt signed word before after (record { bytes = rw (← e, ← M) (s .bytes); fits = rw (← e, ← M) (s .fits) })
 
 pub negative-yes : (signed : Bool) (word : ℕ) → true ≡ negativeOf signed word → leastSize ≤ word
 negative-yes true word e = leb-true leastSize word (sym e)

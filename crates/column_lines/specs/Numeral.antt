@@ -1,10 +1,10 @@
 -- Right-justified numbers, one pair for every width and sign (01, 'Column file': right-justified in widths .., blanks pad; no leading zeros; a value
 -- past its 64 bits and -0 are off the form; signed, from -9,223,372,036,854,775,808 upward). `numeral` writes a word, `readNumeral` reads a field
 use Prim.Native.Nat.{ℕ, zero, suc, _+_, _-_, _*_, _/_, _%_}
-use mathlib.Core.Bool.{Bool, true, false, cond, not, _&&_}
+use mathlib.Core.Bool.{Bool, true, false, cond, _&&_}
 use mathlib.Core.List.{List, [], _∷_, _++_}
 use lib.ListN.{replicate, length, drop}
-use lib.Dec.{eqb, leb}
+use lib.Dec.{eqb, leb, ltb}
 use mathlib.Core.Path.{_≡_}
 use Rattle.column_lines.specs.declared.number.Number.{Number}
 use Rattle.column_lines.specs.declared.number.Number.the-variants.{Word, Off}
@@ -22,7 +22,7 @@ digitOf m = 48 + m % 10
 abbrev pub isDigit : ℕ → Bool
 isDigit b = leb 48 b && leb b 57
 
--- a signed word stands for a negative number from 2^63 on, and its magnitude is what it lacks to 2^64
+-- a signed word stands for a negative number from 2^63 on: minus what it lacks to 2^64
 abbrev pub leastSize : ℕ
 leastSize = 9223372036854775808
 
@@ -32,48 +32,33 @@ wordEnd = 18446744073709551616
 abbrev pub negativeOf : Bool → ℕ → Bool
 negativeOf signed word = signed && leb leastSize word
 
-abbrev pub magnitudeOf : Bool → ℕ → ℕ
-magnitudeOf signed word = cond (negativeOf signed word) (wordEnd - word) word
-
 -- the largest number without a sign
 abbrev pub mostOf : Bool → ℕ
 mostOf signed = cond signed 9223372036854775807 18446744073709551615
 
--- what stands in w bytes before the first digit: blanks, the last of them a sign where the number is negative
-unfoldable pub leadOf : ℕ → Bool → List ℕ
-leadOf w false = replicate w blank
-leadOf zero true = []
-leadOf (suc w) true = replicate w blank ++ (minusSign ∷ [])
+-- the digits of m in base ten: one where m is below ten, which the Bool tells, else those of m / 10 and then one; a number m has at most m + 1
+unfoldable pub digitsBy : ℕ → Bool → ℕ → List ℕ
+digitsBy zero below m = digitOf m ∷ []
+digitsBy (suc more) true m = digitOf m ∷ []
+digitsBy (suc more) false m = digitsBy more (ltb (m / 10) 10) (m / 10) ++ (digitOf m ∷ [])
 
--- w bytes before a digit, where m is left of the number
-unfoldable pub restOf : ℕ → Bool → ℕ → List ℕ
-restOf zero negative m = []
-restOf (suc w) negative m = cond (eqb m 0) (leadOf (suc w) negative) (restOf w negative (m / 10) ++ (digitOf m ∷ []))
+abbrev pub digits : ℕ → List ℕ
+digits m = digitsBy m (ltb m 10) m
 
--- a number in w bytes; of one that is wider, its last w bytes
-unfoldable pub spelled : ℕ → Bool → ℕ → List ℕ
-spelled zero negative m = []
-spelled (suc w) negative m = restOf w negative (m / 10) ++ (digitOf m ∷ [])
+-- a word in base ten: a minus sign where it is negative, then its digits
+unfoldable pub written : Bool → ℕ → List ℕ
+written signed word = cond (negativeOf signed word) (minusSign ∷ digits (wordEnd - word)) (digits word)
 
--- the number is not wider
-unfoldable pub leadFits : ℕ → Bool → Bool
-leadFits zero negative = not negative
-leadFits (suc w) negative = true
+-- 'right-justified', 'blanks pad': the last `width` bytes of as many blanks and the text
+unfoldable pub rightJustified : ℕ → List ℕ → List ℕ
+rightJustified width text = drop (length text) (replicate width blank ++ text)
 
-unfoldable pub restFits : ℕ → Bool → ℕ → Bool
-restFits zero negative m = eqb m 0 && not negative
-restFits (suc w) negative m = cond (eqb m 0) true (restFits w negative (m / 10))
-
-unfoldable pub spellFits : ℕ → Bool → ℕ → Bool
-spellFits zero negative m = false
-spellFits (suc w) negative m = restFits w negative (m / 10)
-
--- a word in a field
+-- a word in a field, and that it is not wider
 abbrev pub numeral : ℕ → Bool → ℕ → List ℕ
-numeral width signed word = spelled width (negativeOf signed word) (magnitudeOf signed word)
+numeral width signed word = rightJustified width (written signed word)
 
 abbrev pub numeralFits : ℕ → Bool → ℕ → Bool
-numeralFits width signed word = spellFits width (negativeOf signed word) (magnitudeOf signed word)
+numeralFits width signed word = leb (length (written signed word)) width
 
 -- the word of a number, if it is one: past its 64 bits it is off the form
 unfoldable pub wordOf : Bool → Bool → ℕ → Number
@@ -112,13 +97,3 @@ readNumeral signed (b ∷ bs) = cond (eqb b blank) (readNumeral signed bs) (sign
 pub record Wrote (signed : Bool) (word : ℕ) (before after : List ℕ) (r : Bool) : Type 0 where
   pub bytes : after ≡ numeral (length before) signed word
   pub fits : r ≡ numeralFits (length before) signed word
-
--- the same of a number by its sign and magnitude
-pub record Spelt (negative : Bool) (m : ℕ) (before after : List ℕ) (r : Bool) : Type 0 where
-  pub bytes : after ≡ spelled (length before) negative m
-  pub fits : r ≡ spellFits (length before) negative m
-
--- and of the bytes before a place, with those from there on kept
-pub record Led (negative : Bool) (at : ℕ) (before after : List ℕ) (r : Bool) : Type 0 where
-  pub bytes : after ≡ leadOf at negative ++ drop at before
-  pub fits : r ≡ leadFits at negative

@@ -9,7 +9,8 @@ ghost use lib.ListN.{drop, length, replicate};
 ghost use mathlib.Core.List.{_++_};
 ghost use lib.IntN.{natAbs, negℤ, pos};
 ghost use lib.Dec.{leb};
-ghost use Rattle.column_lines.specs.Numeral.{mostOf, leastSize, negativeOf, numberFrom, signAt, signFrom, readNumeral, Wrote, Spelt, Led};
+ghost use Rattle.column_lines.specs.Numeral.{mostOf, leastSize, negativeOf, numberFrom, signAt, signFrom, readNumeral, Wrote};
+ghost use Rattle.column_lines.specs.Spelling.{Spelt, Led};
 
 pub const BLANK: u8 = b' ';
 

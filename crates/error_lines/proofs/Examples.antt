@@ -7,7 +7,7 @@ use mathlib.Core.List.{List, [], _∷_, _++_}
 use lib.ListN.{length, replicate}
 use Rattle.words.specs.Record.{packPosition, inPlace}
 use Rattle.tree.specs.Rules.{inRange, mayBeAt}
-use Rattle.column_lines.specs.Numeral.{leadOf, restOf, spelled}
+use Rattle.column_lines.specs.Numeral.{digitsBy, written, rightJustified}
 use Rattle.column_files.specs.Convert.{refuse, success}
 use Rattle.error_lines.specs.Known.{isKind, standsIn, holdsText, known, knownToken}
 use Rattle.error_lines.specs.Messages.{message}
@@ -64,7 +64,7 @@ no-text-0 = refl
 
 least-integer : plain true 9223372036854775808
     ≡ 45 ∷ 57 ∷ 50 ∷ 50 ∷ 51 ∷ 51 ∷ 55 ∷ 50 ∷ 48 ∷ 51 ∷ 54 ∷ 56 ∷ 53 ∷ 52 ∷ 55 ∷ 55 ∷ 53 ∷ 56 ∷ 48 ∷ 56 ∷ []
-unfolding plain afterBlanks spelled restOf leadOf
+unfolding plain afterBlanks digitsBy written rightJustified
 least-integer = refl
 
 -- error 9 at line 12, column 5, the name 2, in file 1: text 1 is `a`, text 2 `"`
@@ -82,13 +82,13 @@ one-line : inWords (9 ∷ packPosition 12 5 ∷ 40 ∷ 2 ∷ 0 ∷ 0 ∷ 0 ∷ 0
     }
 unfolding inWords firstUnknown errorsIn errorsFrom known knownToken isKind standsIn inRange mayBeAt inPlace linesOf errorLine message textField textAt quoted
     escaped
-    escape valueField holdsText plain afterBlanks spelled restOf leadOf delivered
+    escape valueField holdsText plain afterBlanks digitsBy written rightJustified delivered
 one-line = refl
 
 -- a ring under its own file number, which the table lacks
 one-ring : linesOf table bytes 1 (errorsIn (11 ∷ 0 ∷ 0 ∷ 9 ∷ []))
     ≡ 114 ∷ 105 ∷ 110 ∷ 103 ∷ 44 ∷ 32 ∷ 57 ∷ 44 ∷ 32 ∷ 48 ∷ 44 ∷ 32 ∷ 48 ∷ 44 ∷ 32 ∷ 48 ∷ 44 ∷ 32 ∷ 48 ∷ 10 ∷ []
-unfolding errorsIn errorsFrom linesOf errorLine message textField textAt valueField holdsText inRange mayBeAt inPlace plain afterBlanks spelled restOf leadOf
+unfolding errorsIn errorsFrom linesOf errorLine message textField textAt valueField holdsText inRange mayBeAt inPlace plain afterBlanks digitsBy written rightJustified
 one-ring = refl
 
 -- the second error has a kind that no record has: row 3 before row 9

@@ -11,9 +11,11 @@ use lib.ListN.{length, take, drop, getD, replicate, length-take, List·getD-eq-d
 use lib.Seq.{getD-take, getD-drop}
 use lib.Dec.{eqb, leb}
 use borrow.Author.Tests.{eq-eqb, ne-eqb, eqb-false, not-true}
-use Rattle.column_lines.specs.Numeral.{wordEnd, digitOf, negativeOf, magnitudeOf, leadOf, restOf, spelled, numeral, readNumeral, signFrom}
+use Rattle.column_lines.specs.Numeral.{wordEnd, digitOf, negativeOf, numeral, readNumeral, signFrom}
+use Rattle.column_lines.specs.Spelling.{magnitudeOf, leadOf, restOf, spelled}
 use Rattle.column_lines.specs.declared.number.Number.{Number}
 use Rattle.column_lines.specs.declared.number.Number.the-variants.{Word, Off}
+use Rattle.column_lines.proofs.Digits.{numeral-spelled}
 use Rattle.column_lines.proofs.Numerals.{read-written}
 use Rattle.column_lines.proofs.Again.{value-fits}
 use Rattle.error_lines.specs.Texts.{afterBlanks, plain, escape, escaped, quoted, startOf, lengthOf, inTable, textAt, textField, textFieldBy, TextsDiffer}
@@ -87,7 +89,8 @@ module _ (c : ℕ) (A : Apart c) where
 
   pub free-plain : (s : Bool) (word : ℕ) → Free c (plain s word)
   unfolding plain
-  free-plain s word = free-after (numeral 21 s word) (free-spelled 21 (negativeOf s word) (magnitudeOf s word))
+  free-plain s word =
+      free-after (numeral 21 s word) (subst (Free c) (sym (numeral-spelled s word 21)) (free-spelled 21 (negativeOf s word) (magnitudeOf s word)))
 
 -- a plain number has its word
 

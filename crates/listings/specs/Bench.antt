@@ -14,7 +14,7 @@ use Rattle.definition.specs.Answer.{Reply as Answered, answer, replyOf, areasOf
 use Rattle.definition.specs.Bench.{run, r, book, ample, example, exampleLines, exact}
 use Rattle.definition.specs.Program.{tablesOf, errorTables}
 use Rattle.column_files.specs.Convert.{Conversion, success, refusal, answerBy}
-use Rattle.column_lines.specs.Numeral.{leadOf, restOf, spelled, leadFits, restFits, spellFits}
+use Rattle.column_lines.specs.Numeral.{digitsBy, written, rightJustified}
 use Rattle.line_writer.specs.declared.writer.Fields.{Fields}
 use Rattle.listings.specs.Lines.{lineBytes, lineFits, textOf, allFit}
 use Rattle.listings.specs.Sections.{line, propertyIndex, entryLine, isListed, eachFrom, insertMethod, methodOrder, errorsFrom}
@@ -118,16 +118,16 @@ constant-text : textOf (line 4 5 2 0 0 0 0 18446744073709551609 true ∷ []) ≡
     ∷ 32 ∷ 32 ∷ 32 ∷ 32 ∷ 32 ∷ 32 ∷ 32 ∷ 48
     ∷ 32 ∷ 32 ∷ 32 ∷ 32 ∷ 32 ∷ 32 ∷ 32 ∷ 32 ∷ 32 ∷ 32 ∷ 32 ∷ 32 ∷ 32 ∷ 32 ∷ 32 ∷ 32 ∷ 32 ∷ 32 ∷ 32 ∷ 45 ∷ 55
     ∷ 10 ∷ []
-unfolding textOf lineBytes leadOf restOf spelled
+unfolding textOf lineBytes digitsBy written rightJustified
 constant-text = refl
 
 -- a number that is wider than its field
 too-wide : allFit (l 9 100000000 0 0 0 0 0 0 ∷ []) ≡ false
-unfolding allFit lineFits leadFits restFits spellFits
+unfolding allFit lineFits digitsBy written
 too-wide = refl
 
 -- 01's example takes 1,036 bytes, and no fewer
 exactly : map (λ (c : Conversion). c .reply) (printed (listed example exact) 1036 ∷ printed (listed example exact) 1035 ∷ [])
     ≡ success 1036 ∷ refusal 9 0 ∷ []
-unfolding listed printed answerBy textOf lineBytes leadOf restOf spelled allFit lineFits leadFits restFits spellFits
+unfolding listed printed answerBy textOf lineBytes allFit lineFits digitsBy written rightJustified
 exactly = refl
