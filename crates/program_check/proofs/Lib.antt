@@ -7,3 +7,4 @@ pub mod KeyTests
 pub mod FunctionTests
 pub mod ConstantTests
 pub mod WholeTests
+pub mod Cases

@@ -42,14 +42,16 @@ loop-again c =
     let c8 = c6 .before .before in (
       omega arith,
       fine-turn (c8 .args .area) (c8 .args .words .now) (c8 .args .totals) (c6 .total-of .ensures) (c .before .before .before .loop .i)
-          (c .before .before .before .loop .inv .1) (c .before .entry-fine .ensures) (c .if2 .left),
+          (c .before .before .before .loop .inv .1) (c .before .entry-fine .ensures)
+          (c .if2 .left),
     )
 
 returns-3 : tie.Need-returns-3 Inv-loop μ-loop
 returns-3 c =
     let c6 = c .before .before .before .before .before .before in
     fine-all (c6 .args .area) (c6 .args .words .now) (c6 .args .totals) (c .before .before .before .before .total-of .ensures) (c .before .loop .i)
-    (c .before .before .before .lies-in .ensures) (c .before .before .if1 .left) (c .before .loop .inv .0) (c .loop-test .left)
+    (c .before .before .before .lies-in .ensures) (c .before .before .if1 .left) (c .before .loop .inv .0)
+    (c .loop-test .left)
     (c .before .loop .inv .1)
 
 pub entries-fine-spec : {M : Type 1} → statement M

@@ -40,7 +40,8 @@ loop-again c =
 returns-2 : tie.Need-returns-2 Inv-loop μ-loop
 returns-2 c = range-done (c .before .before .before .args .code .now) (c .before .before .before .args .from) (c .before .before .before .args .count)
     (c .before .before .before .args .size) (c .before .before .before .args .locals) (c .before .loop .k) (c .before .loop .inv .0) (c .loop-test .left)
-    (c .before .loop .inv .1)
+    (c .before .loop
+    .inv .1)
 
 pub range-keeps-spec : {M : Type 1} → statement M
 range-keeps-spec =

@@ -36,7 +36,8 @@ loop-again c =
 returns-2 : tie.Need-returns-2 Inv-loop μ-loop
 returns-2 c = keys-done (c .before .before .before .args .width) (c .before .before .before .args .first) (c .before .before .before .args .second)
     (c .before .before .before .args .words .now) (c .before .before .before .args .total) (c .before .loop .i) (c .before .loop .inv .0) (c .loop-test .left)
-    (c .before .loop .inv .1)
+    (c .before .loop
+    .inv .1)
 
 pub keys-differ-spec : {M : Type 1} → statement M
 keys-differ-spec =
