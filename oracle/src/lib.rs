@@ -37,6 +37,7 @@ pub mod standing;
 pub mod standing_calls;
 pub mod stored;
 pub mod strict;
+pub mod strict_calls;
 pub mod table;
 pub mod table_calls;
 pub mod tables;

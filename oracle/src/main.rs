@@ -37,6 +37,9 @@ oracle convert [--seed S] [--count N] [--large] [--limits]
 oracle tables [--seed S] [--count N] [--limits]
     the library's ways between constant tables and documents and the reading over N tables and N
     documents, or over those of the most lines and one more
+oracle strict [--seed S] [--seeds K] [--count N] [--ours]
+    both modes over N bundles of each of the K seeds from S on, with names of includes spoilt: the model against what
+    row 11 must be, and the library against the model, every area exactly full, one short and empty
 oracle table-cases
     writes the stored cases of the program `table_cases` anew
 oracle table-bench [--runs R]
@@ -245,6 +248,36 @@ fn run_table_bench(_: &Arguments) -> ExitCode {
     unreachable!("`needs_library` holds it back");
 }
 
+#[cfg(feature = "link")]
+fn modes() -> Box<dyn oracle::strict_calls::Modes> {
+    Box::new(oracle::ours::Library)
+}
+
+#[cfg(not(feature = "link"))]
+fn modes() -> Box<dyn oracle::strict_calls::Modes> {
+    unreachable!("`needs_library` holds it back");
+}
+
+fn run_strict(arguments: &Arguments) -> ExitCode {
+    use oracle::strict_calls::{compare_modes, Modes};
+    let (seed, count) = (arguments.number("--seed", 1), arguments.number("--count", 1000));
+    let mut ours = arguments.has("--ours").then(modes);
+    let mut code = ExitCode::SUCCESS;
+    for seed in seed..seed + arguments.number("--seeds", 1) {
+        let start = Instant::now();
+        let side = ours.as_mut().map(|side| &mut **side as &mut dyn Modes);
+        println!("seed {seed}");
+        let seen = compare_modes(side, seed, count);
+        seen.print();
+        println!("seconds {:.1}", start.elapsed().as_secs_f64());
+        if let Some(first) = &seen.first {
+            println!("first difference: {first}");
+            code = ExitCode::FAILURE;
+        }
+    }
+    code
+}
+
 fn run_table_cases(_: &Arguments) -> ExitCode {
     let (given, wanted) = oracle::table_calls::stored();
     let files = [("stdin", given), ("stdout", wanted)].map(|(name, text)| (name.to_string(), text.into_bytes()));
@@ -351,7 +384,7 @@ const WRONGLY_CALLED: u8 = 2;
 /// A command, its flags, whether it takes files, and what it does.
 type Command = (&'static str, &'static [Flag], bool, fn(&Arguments) -> ExitCode);
 
-const COMMANDS: [Command; 17] = [
+const COMMANDS: [Command; 18] = [
     (
         "compare",
         &[
@@ -371,6 +404,7 @@ const COMMANDS: [Command; 17] = [
     ("hostile", &[Switch("--ours"), Number("--stack"), Number("--size"), Number("--locals")], false, run_hostile),
     ("convert", &[Number("--seed"), Number("--count"), Switch("--large"), Switch("--limits")], false, run_convert),
     ("tables", &[Number("--seed"), Number("--count"), Switch("--limits")], false, run_tables),
+    ("strict", &[Number("--seed"), Number("--seeds"), Number("--count"), Switch("--ours")], false, run_strict),
     ("table-cases", &[], false, run_table_cases),
     ("table-bench", &[Number("--runs")], false, run_table_bench),
     ("bench", &[Number("--runs")], false, run_bench),
@@ -386,7 +420,7 @@ const COMMANDS: [Command; 17] = [
 
 fn needs_library(command: &str, arguments: &Arguments) -> bool {
     match command {
-        "compare" | "hostile" => arguments.has("--ours"),
+        "compare" | "hostile" | "strict" => arguments.has("--ours"),
         "convert" | "bench" | "speed" | "tables" | "table-bench" | "errors" => true,
         "once" => !arguments.has("--original"),
         _ => false,

@@ -5,9 +5,10 @@ use crate::areas::Lent;
 use crate::compare::Side;
 use crate::convert::Converters;
 use crate::error_calls::ErrorCalls;
+use crate::strict_calls::Modes;
 use crate::table_calls::TableCalls;
 use crate::views::Answered;
-use clover_back_end::{calls, Converted};
+use clover_back_end::{calls, Converted, Mode};
 
 pub struct Library;
 
@@ -18,6 +19,12 @@ impl Side for Library {
 
     fn compile<'a>(&mut self, words: &[u64], areas: Lent<'a>) -> Answered<'a> {
         calls::compile(words, areas)
+    }
+}
+
+impl Modes for Library {
+    fn compile_in<'a>(&mut self, strict: bool, words: &[u64], areas: Lent<'a>) -> Answered<'a> {
+        calls::compile_in(if strict { Mode::Strict } else { Mode::Present }, words, areas)
     }
 }
 

@@ -4,11 +4,11 @@
 use crate::areas::{answer, Lengths, AREAS, ENTRY_WORDS};
 use crate::columns::{column_to_records, damaged, lines, records_to_column, LINE_BYTES};
 use crate::generate::{case, Sizes};
-use crate::model::compile;
-use crate::pieces;
+use crate::model::{compile, compile_by, Rules, Run};
+use crate::pieces::{self, document, function, include, named};
 use crate::random::Random;
 use crate::real::{run, Outcome};
-use crate::records::{kind, records};
+use crate::records::{flatten, kind, records, Node};
 use crate::stored;
 use std::collections::{BTreeMap, BTreeSet};
 
@@ -37,7 +37,10 @@ fn prefix(list: &[u64]) -> String {
 
 /// One bundle with lengths: input, lengths, reply, and the twelve areas.
 fn compile_case(words: &[u64], lengths: &Lengths) -> String {
-    let run = compile(words, lengths);
+    written(words, lengths, &compile(words, lengths))
+}
+
+fn written(words: &[u64], lengths: &Lengths, run: &Run) -> String {
     let mut out = numbers(std::iter::once(words.len() as u64).chain(words.iter().copied())) + "\n";
     out += &(numbers(lengths.iter().map(|&length| length as u64)) + "\n");
     out += &(numbers(run.reply.words()) + "\n");
@@ -169,6 +172,41 @@ fn add_generated(collected: &mut Collected) {
             room -= collected.add(&format!("seed {SEED} case {index}"), &made.words, &lengths) as i64;
         }
     }
+}
+
+/// Strict mode (02, 2026-07) on bundles whose root, book 2, includes book 5: names and texts of the cases, in the form of the others. Each
+/// has exactly what it needs; one entry less of area 7 is row 9 where an earlier definition takes it.
+fn strict_cases() -> (Vec<String>, Vec<String>) {
+    let public = |name| named(kind::PUBLIC_FUNCTION, name, Vec::new());
+    let model = |name| named(kind::MODEL, name, Vec::new());
+    let library = || document(5, vec![public(3), function(4, &[], Vec::new()), named(kind::PUBLIC_MODEL, 8, Vec::new())]);
+    let pieces: [(&str, Vec<Node>); 9] = [
+        ("all names public, one listed twice", vec![include(5, &[(3, 6), (8, 7), (3, 6), (3, 9)])]),
+        ("no names", vec![include(5, &[])]),
+        ("the last name misspelt", vec![include(5, &[(3, 6), (8, 7), (9, 10)])]),
+        ("a name misspelt twice", vec![include(5, &[(9, 6), (9, 6)])]),
+        ("a private name", vec![include(5, &[(4, 7)])]),
+        ("the alias is there already", vec![model(4), include(5, &[(9, 4)])]),
+        ("an error ahead", vec![named(kind::IMPLEMENT, 77, Vec::new()), include(5, &[(9, 7)])]),
+        ("an error below", vec![include(5, &[(9, 7)]), named(kind::IMPLEMENT, 77, Vec::new())]),
+        ("a name of another book", vec![named(kind::PUBLIC_MODEL, 9, Vec::new()), include(5, &[(9, 7)])]),
+    ];
+    let (mut names, mut cases) = (Vec::new(), Vec::new());
+    let mut add = |name: &str, words: &[u64], lengths: &Lengths| {
+        let run = compile_by(Rules { strict: true }, words, lengths);
+        names.push(format!("strict: {name}: row {}, place {}", run.reply.row, run.reply.place));
+        cases.push(written(words, lengths, &run));
+    };
+    for (name, definitions) in pieces {
+        let words = flatten(&[document(2, definitions), library()]);
+        let peaks = compile_by(Rules { strict: true }, &words, &crate::areas::UNLIMITED).peaks();
+        let exact: Lengths = std::array::from_fn(|i| peaks[i] as usize * ENTRY_WORDS[i]);
+        add(&format!("{name}, exactly"), &words, &exact);
+        let mut short = exact;
+        short[6] -= 1;
+        add(&format!("{name}, area 7 one short"), &words, &short);
+    }
+    (names, cases)
 }
 
 /// Cases split over files, each opened by its number of cases. Answers the file of each case.
@@ -310,6 +348,9 @@ pub fn files() -> Files {
     }
     let mut files = Files::new();
     let places = split(&mut files, "compile", &collected.cases);
+    let (strict, cases) = strict_cases();
+    split(&mut files, "strict", &cases);
+    files.insert("strict.txt".to_string(), (strict.join("\n") + "\n").into_bytes());
     split(&mut files, "to-records", &column_cases());
     split(&mut files, "to-column", &line_cases());
     add_listings(&mut files);

@@ -27,7 +27,7 @@ fn cut(memory: &mut [u64], words: usize) -> [&mut [u64]; AREAS] {
 #[test]
 fn the_library_is_of_this_layout() {
     let linked = calls::version();
-    assert_eq!((linked.version, linked.layout), (2, calls::LAYOUT));
+    assert_eq!((linked.version, linked.layout), (3, calls::LAYOUT));
 }
 
 #[test]
