@@ -1,0 +1,12 @@
+pub mod Parts
+pub mod Breaks
+pub mod Steps
+pub mod Laws
+pub mod Leaves
+pub mod ExpressionKinds
+pub mod Infix
+pub mod Ifs
+pub mod StatementKinds
+pub mod BothParts
+pub mod Variables
+pub mod Loops

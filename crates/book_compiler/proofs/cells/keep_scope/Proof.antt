@@ -1,0 +1,29 @@
+-- `book_compiler::cells::keep_scope` meets its contract: field by field. Assumes nothing.
+-- Made from Proof.answers by `answers make`: edit that file, and not this one.
+use Rattle.bodies.specs.Cells.{stateOf}
+use Rattle.book_compiler.proofs.cells.keep_scope.Statement.{statement}
+use Rattle.book_compiler.proofs.cells.keep_scope.Tie as tie
+use borrow.Author.Needs.{needs}
+
+returns : tie.Need-returns
+unfolding stateOf
+returns c = search needs
+
+pub keep-scope-spec : {M : Type 1} → statement M
+keep-scope-spec =
+    tie.close
+    (tie.spec
+    (λ c. search needs)
+    (λ c. search needs)
+    (λ c. search needs)
+    (λ c. search needs)
+    (λ c. search needs)
+    (λ c. search needs)
+    (λ c. search needs)
+    (λ c. search needs)
+    (λ c. search needs)
+    (λ c. search needs)
+    (λ c. search needs)
+    (λ c. search needs)
+    (λ c. search needs)
+    returns)

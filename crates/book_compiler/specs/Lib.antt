@@ -1,0 +1,3 @@
+pub mod Represents
+pub mod Leaves
+pub mod Members

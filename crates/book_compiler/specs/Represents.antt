@@ -1,0 +1,66 @@
+-- One memory under compilation: the view of it as the machine of `building`, and the relation to the definition's `Work`
+use Prim.Native.Nat.{ℕ, _<_}
+use mathlib.Core.Path.{_≡_}
+use mathlib.Core.Bool.{Bool, false, _||_}
+use mathlib.Core.List.{List}
+use lib.ListN.{length}
+use lib.Dec.{eqb}
+use Rattle.memory.specs.Layout.{part, withPart, partCount, Fits}
+use Rattle.words.specs.Areas.{codeArea, constantsArea, contextLocalsArea, scopeNamesArea, breaksArea, errorsArea}
+use Rattle.definition.specs.Uses.{Limits}
+use Rattle.definition.specs.Compiler.{Work, Step}
+use Rattle.definition.specs.Program.{Entries}
+use Rattle.building.specs.declared.function_state.FunctionState.{FunctionState}
+use Rattle.building.specs.Held.{Machine, machine, Held}
+use Rattle.bodies.specs.Meets.{Inside}
+
+-- the state of a function, the table of starts, and the memory's words
+pub record Memory : Type 0 where
+  pub state : FunctionState
+  pub starts : List ℕ
+  pub words : List ℕ
+
+abbrev pub laid : FunctionState → List ℕ → List ℕ → Memory
+laid s a w = record { state = s; starts = a; words = w }
+
+abbrev pub partOf : Memory → ℕ → List ℕ
+partOf m i = part (m .starts) i (m .words)
+
+-- the machine of `building` that a memory is
+abbrev pub view : Memory → Machine
+view m = machine (m .state) (partOf m codeArea) (partOf m constantsArea) (partOf m scopeNamesArea) (partOf m breaksArea) (partOf m errorsArea)
+
+-- the parts that functions are built in
+abbrev pub isBuilt : ℕ → Bool
+isBuilt i = eqb i codeArea || eqb i constantsArea || eqb i scopeNamesArea || eqb i breaksArea || eqb i errorsArea
+
+-- the parts that no function changes are these
+pub record Preserves (others : ℕ → List ℕ) (m : Memory) : Type 0 where
+  pub same : (i : ℕ) → i < partCount → isBuilt i ≡ false → partOf m i ≡ others i
+
+-- within the limits κ, behind the code E of the functions before and beside the other parts, the memory stands for w
+pub record Represents (κ : Limits) (E : Entries) (others : ℕ → List ℕ) (m : Memory) (w : Work) : Type 0 where
+  pub fits : Fits (m .starts) (length (m .words))
+  pub preserves : Preserves others m
+  pub held : Held κ E (view m) w
+
+-- part i has other words, as many as before
+pub record Replaced (i : ℕ) (R : List ℕ → List ℕ → Type 0) (starts before after : List ℕ) : Type 0 where
+  pub words : List ℕ
+  pub does : R (part starts i before) words
+  pub long : length words ≡ length (part starts i before)
+  pub is : after ≡ withPart starts i words before
+
+-- a routine that is lent part i: R is what it does to the part
+pub record On (i : ℕ) (R : List ℕ → List ℕ → Type 0) (m m′ : Memory) : Type 0 where
+  pub same : m′ .starts ≡ m .starts
+  pub on : Fits (m .starts) (length (m .words)) → Replaced i R (m .starts) (m .words) (m′ .words)
+
+-- whatever work the memory stands for before, it stands for the step's work after
+pub record Acts (m m′ : Memory) (step : Step) : Type 0 where
+  pub meets : (κ : Limits) (E : Entries) (others : ℕ → List ℕ) (w : Work) → Represents κ E others m w → Represents κ E others m′ (step w)
+
+-- the same inside a function: a scope is open, and area 7 names the book's context locals
+pub record Does (start count : ℕ) (m m′ : Memory) (step : Step) : Type 0 where
+  pub meets : (κ : Limits) (E : Entries) (others : ℕ → List ℕ) (w : Work) → Inside start count (others contextLocalsArea) w
+      → Represents κ E others m w → Represents κ E others m′ (step w)
