@@ -131,7 +131,7 @@ zero-drop i a z =
     let zs : drop i a ≡ replicate (length a - i) 0 = ap (λ (y : List ℕ). drop i y) z ∙ drop-zeros i (length a) in
     zs ∙ ap (λ (y : ℕ). replicate y 0) (sym (ap (λ (y : List ℕ). length y) zs ∙ length-replicate {A = ℕ} (length a - i) 0))
 
-module _ {strict : Bool} {tree set : List ℕ} {c k f m p t l u n b e o : List ℕ} {x r : Taken} {k₁ o₁ : List ℕ} (C : FirstConstants k x k₁)
+module _ (strict : Bool) {tree set : List ℕ} {c k f m p t l u n b e o : List ℕ} {x r : Taken} {k₁ o₁ : List ℕ} (C : FirstConstants k x k₁)
     (B : TakesBooks tree (length tree / 4) set (x .full) o r o₁) (same : length k₁ ≡ length k) where
   module _ {root : Document} {others : List Document} (A : Accepted tree set root others) (zeros : Cleared c k f m p t l u n b e o) (κ : Limits)
       (lent : (s : struct.Book) → Lent κ s c k f m p t l u n b e o) where

@@ -14,4 +14,4 @@ returns-2 c = refused-name (c .before .if1 .left) (c .refused2 .ensures)
 
 pub refused-by-spec : {M : Type 1} → statement M
 refused-by-spec =
-    tie.close (tie.spec (λ c κs. search needs) returns (λ c. omega arith) (λ c κs. search needs) returns-2)
+    tie.close (tie.spec (λ c κs. search needs) returns (λ c. omega arith) returns-2)

@@ -29,7 +29,7 @@ returns-2 : tie.Need-returns-2
 returns-2 c =
     let c5 = c .before .before .before .before .before in
     let c10 = c5 .before .before .before .before .before in
-    work-full (c10 .first-constants .ensures) (c5 .take-books .ensures) (omega (arith, c10 .first-constants .kept)) calm-definition
+    work-full _ (c10 .first-constants .ensures) (c5 .take-books .ensures) (omega (arith, c10 .first-constants .kept)) calm-definition
     (c .before .before .begun2 .ensures) (c .if2 .taken) 0 0
 
 drive-requires : tie.Need-drive-requires
@@ -113,7 +113,7 @@ returns-3 c =
     let c45 = c42 .before .before .before in
     let c50 = c45 .before .before .before .before .before in
     let c67 = c50 .before .before .before .before .before .before .before .before .before .before .before .before .before .before .before .before .before in
-    work-on (c50 .first-constants .ensures) (c45 .take-books .ensures) (omega (arith, c50 .first-constants .kept)) calm-definition (c42 .begun2 .ensures)
+    work-on _ (c50 .first-constants .ensures) (c45 .take-books .ensures) (omega (arith, c50 .first-constants .kept)) calm-definition (c42 .begun2 .ensures)
     (c40 .if2 .left) (c67 .pre)
     (c26 .drive .ensures)
 
