@@ -20,7 +20,8 @@ use Rattle.definition.specs.Uses.{Limits, total}
 use Rattle.definition.specs.Compiler.{Work, withFunction, doing, emit, emitOpcodeWithoutPosition, replaceInstruction, next, emitConstant, getOr}
 use Rattle.definition.specs.Compiler.{compileExpression, compileStatements, compileForStatement}
 use Rattle.definition.specs.Program.{Entries}
-use Rattle.definition_laws.proofs.Steady.{Steady, Steadily, steady-trans, steady-function, steady-emit-constant, steady-define, steady-expression, steady-statements}
+use Rattle.definition_laws.proofs.Steady.{Steady, Steadily, steady-trans, steady-function}
+use Rattle.definition_laws.proofs.Steady.{steady-emit-constant, steady-define, steady-expression, steady-statements}
 use Rattle.tree.specs.At.{Leaf, ExpressionAt, StatementsAt, sizeE, sizeSs}
 use Rattle.tree.proofs.View.{headE, sizeE-pos}
 use Rattle.building.specs.declared.function_state.FunctionState.{FunctionState}
@@ -144,7 +145,8 @@ pub end-ends : {around : FunctionState} {m m₁ m′ : Memory} {s₂ s₃ : Func
     → LastPosition p m → iterator ≡ (around .«local_count» + 1) % 2 ^ 64 → v ≡ word (toInstruction Iterate iterator) → OnCode (emitC v p) m m₁
     → LastPosition p₁ m₁ → v₁ ≡ word (toInstruction Jump first) → OnCode (emitC v₁ p₁) m₁ (laid s₂ a l₂) → following ≡ nextC s₂
     → v₂ ≡ word (toInstruction JumpIf following) → OnCode (replaceC exit v₂) (laid s₂ a l₂) (laid s₂ a l₃)
-    → OnBoth (exitBreakC (around .«break_base») (around .«in_loop»)) (laid s₂ a l₃) (laid s₃ a l₄) → OnNames (exitScopeC (around .«scope_base»)) (laid s₃ a l₄) m′
+    → OnBoth (exitBreakC (around .«break_base») (around .«in_loop»)) (laid s₂ a l₃) (laid s₃ a l₄)
+    → OnNames (exitScopeC (around .«scope_base»)) (laid s₃ a l₄) m′
     → LoopEnd around first exit m m′
 unfolding method.exitBreakScope
 end-ends {around} position-is more as-word d₁ last as-word₁ d₂ following-is as-word₂ d₃ broken out = record {
