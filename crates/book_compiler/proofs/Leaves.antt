@@ -185,7 +185,7 @@ module _ {start count : ℕ} {m m′ : Memory} {kind position value : ℕ} where
               record {
                 fits = G .fits;
                 preserves = G .preserves;
-                held = put-reads (G .held) (w .function .thisReads ++ (getNextInstructionIndex (w .function) ∷ []));
+                held = put-reads (G .held) (w .function .log .thisReads ++ (getNextInstructionIndex (w .function) ∷ []));
               };
         }
 

@@ -127,7 +127,7 @@ name-names {m} {m₁} {found = found} {text = text} {index = index} D index-is f
       let H₂ = emitted (toInstruction ForNext x) (t .position) d₂ (λ z. as-local ForNext x as-word (agree (mark-before D (H .fits) z))) (λ z. sym pt) H₁ in
       let H₃ = last-emitted JumpIf d₃ H₂ in
       let here : m₁ .state .full ≡ 0 → index ≡ i % 2 ^ 64 =
-      λ z. index-is ∙ ap foundOrZero (defined-found D′ H (mark-before D (H .fits) z)) ∙ found-zero o in
+      λ z. index-is ∙ ap foundOrZero (defined-found D′ H (mark-before D (H .fits) z) op) ∙ found-zero o in
       let S₃ = twice-steady ForNext x (t .position) JumpIf u in
       let H₄ = emitted (toInstruction LocalSet i) (n .position) d₄ (λ z. as-local LocalSet i as-word′ (here (back (S₃ .uses) H₁ H₃ z))) (λ z. sym pn) H₃ in
       let H₅ = last-emitted Pop d₅ H₄ in
@@ -183,7 +183,7 @@ module _ {tree : List ℕ} {at end start count position text place : ℕ} {body 
         let mid : body ≡ at + 1 + sizeE x = skipped ∙ skip-law tree (at + 1) end (headE x hx) (sizeE-pos x) (omega arith) in
         record {
           meets = λ κ E others w I H.
-              let i = w .function .localCount in
+              let i = w .function .header .localCount in
               let w₁ = loopStart w in
               let w₂ = compileExpression x w₁ in
               let w₃ = loopHead i (t .position) w₂ in
