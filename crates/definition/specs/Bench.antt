@@ -109,9 +109,9 @@ unfolding shapeOf walkBy headAt soundAt thisAfter sameThis lacksBy withinOf fiel
     compilePrefixExpression compileCallExpression compileArrayExpression compilePart compileNoPart compileIfExpression compileForStatement
     compileExpressionStatement compileValued compileBare compileRescue deeper skip andThen compileExpression compileParameter compileParameters
     compileFunctionDefinitionBase defineContextLocal compileAlias compileIncludeDefinition compileInclude compileBinding compileLocalDefinition
-    compileProperties compileModelDefinition compileBase addPlainFunction compileFunctionDefinition findModelIndexByLocalName compileMethods compileImplementDefinition
-    compileApplyDefinition compileDefinition compileDefinitions compileDocument neededIn drive compileNeeded answerBundle answerFrom answer tablesOf
-    errorTables replyOf areasOf word
+    compileProperties compileModelDefinition compileBase addPlainFunction compileFunctionDefinition findModelIndexByLocalName compileMethods
+    compileImplementDefinition compileApplyDefinition compileDefinition compileDefinitions compileDocument neededIn drive compileNeeded answerBundle
+    answerFrom answer tablesOf errorTables replyOf areasOf word
 runAs strict lengths w = resultOf (answer strict w lengths)
 
 -- in the present mode, as everything below

@@ -29,7 +29,8 @@ use Rattle.definition.specs.Within.{localsOf, instructionOf, Class, Position, S
 use Rattle.definition.specs.Within.{boundByFunction, hasInstruction, where′, allBelow, codeBound, constantBound, functionBound, modelBound}
 use Rattle.definition.specs.Within.{propertyBound, methodBound, localBound, publicBound, entryBound, areaBound, entryPointBound, Among, Loop, Lands}
 use Rattle.definition.specs.Within.{logsOf, FunctionLogged, marked, KeepsWithin}
-use Rattle.definition_laws.proofs.Safe.{at, Landed, Counts, Within, Fits, counts, EntryWithin, FunctionSafe, LooseBy, Loose, standingCounts, StandingSafe}
+use Rattle.definition_laws.proofs.Safe.{at, Landed, Counts, Within, Fits, counts}
+use Rattle.definition_laws.proofs.Safe.{EntryWithin, FunctionSafe, LooseBy, Loose, standingCounts, StandingSafe}
 use Rattle.definition_laws.proofs.Safe.{PriorSafe, PriorWide, below, ProgramSafe}
 use Rattle.definition_laws.proofs.Tests.{Test, both, or-first, or-second, where-holds, less, at-most, equal, passes, all-below, first-of, second-of}
 use Rattle.definition_laws.proofs.Lists.{all-map, all-append, cond-case}

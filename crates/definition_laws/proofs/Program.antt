@@ -37,7 +37,8 @@ use Rattle.definition.specs.Book.{compileDefinitions, opened, compileDocument, 
 use Rattle.words.specs.Areas.{propertiesArea}
 use Rattle.definition.specs.DependencySolver.{Worked, Delivered, ready, without, afterBook, driveBy, drive, compileNeeded}
 use Rattle.definition.specs.Within.{All, nil, _&_, Class, Position, Slot, Read, Pool, ContextSlot, Other, classOf}
-use Rattle.definition_laws.proofs.Safe.{EntryWithin, FunctionSafe, Named, LooseBy, Loose, standingCounts, StandingSafe, PriorSafe, PriorWide, Parts, PartsOf}
+use Rattle.definition_laws.proofs.Safe.{EntryWithin, FunctionSafe, Named, LooseBy, Loose}
+use Rattle.definition_laws.proofs.Safe.{standingCounts, StandingSafe, PriorSafe, PriorWide, Parts, PartsOf}
 use Rattle.definition_laws.proofs.Safe.{ProgramSafe}
 use Rattle.definition_laws.proofs.Lists.{all-map, all-append, all-set, cond-case}
 use Rattle.definition_laws.proofs.Sound.{Wider, fit-mono, fits-mono, find-name}
