@@ -404,11 +404,11 @@ fn case_in(strict: bool, numbers: &[u64]) -> u64 {
 // The first number is the mode: 0 present, else strict.
 fn case(numbers: &[u64]) -> u64 {
     let end = numbers.len();
-    if end == 0 {
+    if end < 1 {
         say(b"  no case\n");
         return DIFFERS;
     }
-    let strict = numbers[0] != 0;
+    let strict = number_at(numbers, 0) != 0;
     case_in(strict, &numbers[1..end])
 }
 
