@@ -384,7 +384,7 @@ const WRONGLY_CALLED: u8 = 2;
 /// A command, its flags, whether it takes files, and what it does.
 type Command = (&'static str, &'static [Flag], bool, fn(&Arguments) -> ExitCode);
 
-const COMMANDS: [Command; 17] = [
+const COMMANDS: [Command; 18] = [
     (
         "compare",
         &[
@@ -421,7 +421,7 @@ const COMMANDS: [Command; 17] = [
 fn needs_library(command: &str, arguments: &Arguments) -> bool {
     match command {
         "compare" | "hostile" | "strict" => arguments.has("--ours"),
-        "convert" | "bench" | "speed" | "tables" | "table-bench" => true,
+        "convert" | "bench" | "speed" | "tables" | "table-bench" | "errors" => true,
         "once" => !arguments.has("--original"),
         _ => false,
     }

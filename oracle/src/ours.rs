@@ -4,6 +4,7 @@
 use crate::areas::Lent;
 use crate::compare::Side;
 use crate::convert::Converters;
+use crate::error_calls::ErrorCalls;
 use crate::strict_calls::Modes;
 use crate::table_calls::TableCalls;
 use crate::views::Answered;

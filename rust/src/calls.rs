@@ -117,6 +117,25 @@ pub fn records_to_table(tree: &[u64], out: &mut [u8]) -> Tabled {
     unsafe { clover_records_to_table(tree.as_ptr(), tree.len(), out.as_mut_ptr(), out.len()) }
 }
 
+/// The errors of area 11 as lines, with the file number of their book; of text n `table[2n - 2]` is the start and
+/// `table[2n - 1]` the length in `bytes`, whatever these words are. Or row 3 with the index of an error that is not known, or
+/// row 9 with place 13 where the output is too short. [`Converted::line_bytes`] reads the reply.
+pub fn errors_in_words(errors: &[u64], file: u64, table: &[u64], bytes: &[u8], out: &mut [u8]) -> Converted {
+    hold_to_layout();
+    // The slices outlive the call, which writes to the output alone, and the output is another than the rest.
+    #[rustfmt::skip]
+    let reply = unsafe {
+        clover_errors_in_words(
+            errors.as_ptr(), errors.len(),
+            file,
+            table.as_ptr(), table.len(),
+            bytes.as_ptr(), bytes.len(),
+            out.as_mut_ptr(), out.len(),
+        )
+    };
+    reply
+}
+
 /// Compiles a bundle into areas in the order of their numbers, in the present mode. A tail shorter than an entry is zeroed.
 pub fn compile<'a>(tree: &[u64], areas: [&'a mut [u64]; AREAS]) -> Answer<'a> {
     compile_in(Mode::Present, tree, areas)

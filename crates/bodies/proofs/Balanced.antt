@@ -23,8 +23,8 @@ use Rattle.definition.specs.Compiler.{compileArrayExpression, compileCallExpres
 use Rattle.definition.specs.Compiler.{compileAssignExpression, compilePair, compileAssignName, compileThisExpression, compileIdentifierExpression}
 use Rattle.definition.specs.Compiler.{compileNullExpression, compileBooleanExpression, compileStringExpression, compileFloatExpression}
 use Rattle.definition.specs.Compiler.{compileIntegerExpression}
-use Rattle.definition.proofs.Defining.{define-cases}
-use Rattle.definition.proofs.Lists.{cond-case}
+use Rattle.definition_laws.proofs.Defining.{define-cases}
+use Rattle.definition_laws.proofs.Lists.{cond-case}
 use Rattle.building.specs.Held.{isOpen}
 
 pub record Balanced (w w′ : Work) : Type 0 where

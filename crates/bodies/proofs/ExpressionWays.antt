@@ -10,7 +10,7 @@ use Rattle.words.specs.Record.{tokenAt, kindAt, positionAt}
 use Rattle.definition.specs.Compiler.{andThen, skip, compilePair, compilePrefixExpression, compileExpression, compileExpressions}
 use Rattle.definition.specs.Compiler.{compileArrayExpression, compileCallExpression}
 use Rattle.definition.specs.Compiler as definition
-use Rattle.definition.proofs.Steady.{steady-expression}
+use Rattle.definition_laws.proofs.Steady.{steady-expression}
 use Rattle.tree.specs.At.{ExpressionAt, ExpressionsAt, sizeE, sizeEs}
 use Rattle.tree.proofs.View.{ViewE, seeE, headE, sizeE-pos}
 use Rattle.tree.proofs.View.ViewE.{v-Array, v-Prefix, v-Call, v-InstanceGet, v-IndexGet}

@@ -10,7 +10,7 @@ use Rattle.definition.specs.Uses.{Limits}
 use Rattle.definition.specs.Compiler.{Work, Step, emitOpcodeWithoutPosition, replaceInstruction, next, compileExpression}
 use Rattle.definition.specs.Compiler.{compileNoPart, compileIfExpression}
 use Rattle.definition.specs.Program.{Entries}
-use Rattle.definition.proofs.Steady.{Steadily, steady-function, steady-trans, steady-expression, steady-statements, steady-part, steady-no-part}
+use Rattle.definition_laws.proofs.Steady.{Steadily, steady-function, steady-trans, steady-expression, steady-statements, steady-part, steady-no-part}
 use Rattle.tree.specs.At.{Head, ExpressionAt, sizeE, sizeSs}
 use Rattle.tree.proofs.View.{ViewE, viewE, headE, sizeE-pos}
 use Rattle.tree.proofs.View.ViewE.{v-If, v-IfElse}

@@ -13,7 +13,7 @@ use Rattle.words.specs.Record.{tokenAt, kindAt, positionAt, valueAt}
 use Rattle.definition.specs.Compiler.{andThen, pushError, compilePair, compileExpression, compileAssignName, compileAssignExpressionLeftPart}
 use Rattle.definition.specs.Compiler.{InfixKind, Plain, Negated, Compound, Unknown, infixKind, compileInfixBy, compileInfixExpression}
 use Rattle.definition.specs.Compiler.{compileOperation, compileAssignExpression, skip}
-use Rattle.definition.proofs.Steady.{steady-target, steady-expression, steady-operation}
+use Rattle.definition_laws.proofs.Steady.{steady-target, steady-expression, steady-operation}
 use Rattle.tree.specs.At.{ExpressionAt, sizeE}
 use Rattle.tree.proofs.View.{ViewE, seeE, viewE, headE, sizeE-pos}
 use Rattle.tree.proofs.View.ViewE.{v-Identifier, v-Infix, v-InstanceGet, v-IndexGet}

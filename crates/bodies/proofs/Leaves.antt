@@ -12,7 +12,7 @@ use Rattle.definition.specs.FunctionState.{findLocal, findName}
 use Rattle.definition.specs.Uses.{Limits}
 use Rattle.definition.specs.Compiler.{Work, emit, pushError, addConstant, emitConstant, emitGlobal, emitName, emitNameBy, emitNameInContext}
 use Rattle.definition.specs.Program.{Entries}
-use Rattle.definition.proofs.Steady.{steady-name}
+use Rattle.definition_laws.proofs.Steady.{steady-name}
 use Rattle.building.specs.declared.function_state.FunctionState.{FunctionState}
 use Rattle.building.specs.declared.scopes.Found.{Found}
 use Rattle.building.specs.declared.scopes.Found.the-variants.{At, Nothing}

@@ -9,7 +9,7 @@ use Rattle.words.specs.Record.{tokenAt, positionAt}
 use Rattle.definition.specs.FunctionState.{tail, Entry}
 use Rattle.definition.specs.Uses.{total}
 use Rattle.definition.specs.Compiler.{next, compileExpression, compileStatements, compileForStatement}
-use Rattle.definition.proofs.Steady.{steady-trans, steady-expression, steady-statements}
+use Rattle.definition_laws.proofs.Steady.{steady-trans, steady-expression, steady-statements}
 use Rattle.tree.specs.At.{ExpressionAt, StatementAt, StatementsAt, sizeE, sizeS, sizeSs}
 use Rattle.tree.proofs.View.{headE, sizeE-pos}
 use Rattle.building.specs.declared.function_state.FunctionState.{FunctionState}

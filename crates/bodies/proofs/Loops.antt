@@ -15,7 +15,7 @@ use Rattle.definition.specs.FunctionState.{getLastPosition, defineLocal}
 use Rattle.definition.specs.Uses.{Limits}
 use Rattle.definition.specs.Compiler.{Work, withFunction, doing, emit, emitOpcodeWithoutPosition, replaceInstruction, next, emitConstant, getOr}
 use Rattle.definition.specs.Program.{Entries}
-use Rattle.definition.proofs.Steady.{Steady, Steadily, steady-trans, steady-function, steady-emit-constant, steady-define}
+use Rattle.definition_laws.proofs.Steady.{Steady, Steadily, steady-trans, steady-function, steady-emit-constant, steady-define}
 use Rattle.building.specs.declared.function_state.FunctionState.{FunctionState}
 use Rattle.building.specs.declared.scopes.Defined.{Defined}
 use Rattle.building.specs.Emission.{Coded, coded, nextC, lastPositionC, emitC, emitLastC, replaceC, enterBreakC, breaking, exitBreakC}

@@ -10,8 +10,8 @@ use Rattle.words.specs.Record.{tokenAt, kindAt, positionAt}
 use Rattle.definition.specs.FunctionState.{enterScope, tail, Entry, withDepth}
 use Rattle.definition.specs.Uses.{total}
 use Rattle.definition.specs.Compiler.{doing, compilePart, compileStatement, compileStatements, compileExpressionStatement, compileRescue, deeper, skip}
-use Rattle.definition.proofs.Steady.{Steadily, longer-trans, steady-function, steady-trans, steady-statement, steady-statements, steady-expression}
-use Rattle.definition.proofs.Steady.{steady-variables, steady-return, steady-break, steady-rescue, steady-for, steady-expression-statement, same, more}
+use Rattle.definition_laws.proofs.Steady.{Steadily, longer-trans, steady-function, steady-trans, steady-statement, steady-statements, steady-expression}
+use Rattle.definition_laws.proofs.Steady.{steady-variables, steady-return, steady-break, steady-rescue, steady-for, steady-expression-statement, same, more}
 use Rattle.tree.specs.At.{StatementAt, StatementsAt, sizeS, sizeSs}
 use Rattle.tree.proofs.View.{ViewS, seeS, headS, sizeS-pos}
 use Rattle.tree.proofs.View.ViewS.{v-Local, v-Break, v-Rescue, v-For, v-Expr}

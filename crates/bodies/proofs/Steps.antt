@@ -6,7 +6,7 @@ use mathlib.Core.List.{List}
 use Rattle.definition.specs.Uses.{Limits}
 use Rattle.definition.specs.Compiler.{Work, Step, CompilerState, andThen}
 use Rattle.definition.specs.Program.{Entries}
-use Rattle.definition.proofs.Steady.{Longer, Steady, Steadily}
+use Rattle.definition_laws.proofs.Steady.{Longer, Steady, Steadily}
 use Rattle.building.specs.Held.{Machine, LocalsHeld, Held}
 use Rattle.building.proofs.Notes.{marks-same, over-longer, held-longer}
 use Rattle.bodies.specs.Meets.{Acts, Inside, Does}

@@ -15,7 +15,7 @@ use Rattle.definition.specs.FunctionState.{getNextInstructionIndex}
 use Rattle.definition.specs.Compiler.{Step, emit, pushError, emitConstant, emitName, compileExpression, compileAssignName, compilePrefixExpression}
 use Rattle.definition.specs.Compiler.{compileRescue, skip, compileIdentifierExpression, compileThisExpression, compileNullExpression}
 use Rattle.definition.specs.Compiler.{compileIntegerExpression, compileFloatExpression, compileStringExpression, compileBooleanExpression}
-use Rattle.definition.proofs.Steady.{steady-rescue}
+use Rattle.definition_laws.proofs.Steady.{steady-rescue}
 use Rattle.tree.specs.At.{Head, ExpressionAt}
 use Rattle.tree.proofs.View.{ViewE, seeE}
 use Rattle.tree.proofs.View.ViewE.{v-Identifier, v-This, v-Integer, v-Float, v-Text}

@@ -16,7 +16,7 @@ use Rattle.definition.specs.Uses.{Limits}
 use Rattle.definition.specs.Compiler.{Work, Step, withFunction, pushError, skip, bareBy, valuedBy}
 use Rattle.definition.specs.Compiler.{compileBare, compileValued, compileExpression, compileVariables}
 use Rattle.definition.specs.Program.{Entries}
-use Rattle.definition.proofs.Steady.{Steadily, steady-trans, steady-define, steady-error, steady-bare, steady-valued, steady-expression}
+use Rattle.definition_laws.proofs.Steady.{Steadily, steady-trans, steady-define, steady-error, steady-bare, steady-valued, steady-expression}
 use Rattle.tree.specs.At.{VariablesAt, sizeE, sizeVs}
 use Rattle.tree.proofs.View.{headE, sizeE-pos, value-there}
 use Rattle.building.specs.declared.function_state.FunctionState.{FunctionState}

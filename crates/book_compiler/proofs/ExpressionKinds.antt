@@ -10,7 +10,7 @@ use Rattle.words.specs.Record.{tokenAt, kindAt, positionAt, valueAt}
 use Rattle.definition.specs.Compiler.{andThen, skip, compilePair, compilePrefixExpression, compileExpression, compileExpressions}
 use Rattle.definition.specs.Compiler.{compileArrayExpression, compileCallExpression}
 use Rattle.definition.specs.Compiler as definition
-use Rattle.definition.proofs.Steady.{steady-expression}
+use Rattle.definition_laws.proofs.Steady.{steady-expression}
 use Rattle.tree.specs.At.{Head, Headed, ExpressionAt, ExpressionsAt, sizeE, sizeEs}
 use Rattle.tree.proofs.View.{ViewE, seeE, headE, sizeE-pos}
 use Rattle.tree.proofs.View.ViewE.{v-Array, v-Prefix, v-Infix, v-If, v-IfElse, v-Call, v-InstanceGet, v-IndexGet}
@@ -82,7 +82,8 @@ module _ {tree : List ℕ} {at end start count kind position value : ℕ} (kind-
   infix-meets {m′} q M = record { meets = λ e h l. go e (seeE e tree at h kind-is q) h l }
     where
       go : (e : Expression) → ViewE 39 e → ExpressionAt e tree at → at + sizeE e ≡ end → Does start count m m′ (compileExpression e)
-      go (Infix a t b) v-Infix h l = M .meets a b t (as-token tree at kind-is position-is value-is (h .0 .token) ∙ ap (λ (k : ℕ). token position k value) q) (h .1) (h .2) (omega arith)
+      go (Infix a t b) v-Infix h l = M .meets a b t (as-token tree at kind-is position-is value-is (h .0 .token)
+          ∙ ap (λ (k : ℕ). token position k value) q) (h .1) (h .2) (omega arith)
 
   pub if-meets : {m′ : Memory} → kind ≡ 42 → MeetsIf tree (at + 1) end start count m m′ → MeetsE tree at end start count m m′
   unfolding compileExpression ExpressionAt sizeE
@@ -116,7 +117,8 @@ module _ {tree : List ℕ} {at end start count kind position value : ℕ} (kind-
             let many : n ≡ definition.count es = L .counted .counts es (h .1) (omega arith) ∙ omega arith in
             let A = F .array (kind-is ∙ h .0 .head .kind-is) in
             record {
-              meets = λ κ E others w I H. rw (q, ← many) (A .meets κ E others (compileExpressions es w) (L .meets .meets es (h .1) (omega arith) .meets κ E others w I H));
+              meets = λ κ E others w I H. rw (q, ← many) (A .meets κ E others (compileExpressions es w) (L .meets .meets es (h .1)
+                  (omega arith) .meets κ E others w I H));
             }
         go (Prefix t x) h l =
             let q = as-token tree at kind-is position-is value-is (h .0 .token) in

@@ -62,8 +62,8 @@ module _ {κ : Limits} {E : Entries} {others : ℕ → List ℕ} {m m′ : Memor
   defined d o H = on-law (omega arith) refl (d .acts) H (λ n D. scopes.define-law (H .held) D o)
 
   pub defined-found : {name : ℕ} {r : Found} → DefinesLocal name r m m′ → Represents κ E others m w → m .state .full ≡ 0
-      → r ≡ foundOf (wrapped (defineLocal name (w .function) .found))
-  defined-found d H z = scopes.define-found (H .held) (d .acts .on (H .fits) .does) z
+      → isOpen (w .function .scopes) ≡ true → r ≡ foundOf (wrapped (defineLocal name (w .function) .found))
+  defined-found d H z op = scopes.define-found (H .held) (d .acts .on (H .fits) .does) z op
 
   -- the constants and the errors
   pub added : {kind value index : ℕ} → AddsConstant kind value index m m′ → Represents κ E others m w

@@ -22,7 +22,7 @@ use Rattle.definition.specs.Compiler.{emitNameInContext, compileExpression, com
 use Rattle.definition.specs.Compiler.{compileNullExpression, compileIntegerExpression, compileFloatExpression, compileStringExpression}
 use Rattle.definition.specs.Compiler.{compileBooleanExpression, doing}
 use Rattle.definition.specs.Program.{Entries}
-use Rattle.definition.proofs.Steady.{steady-name}
+use Rattle.definition_laws.proofs.Steady.{steady-name}
 use Rattle.tree.specs.At.{ExpressionAt}
 use Rattle.tree.proofs.View.{ViewE, seeE}
 use Rattle.tree.proofs.View.ViewE.{v-Identifier, v-This, v-Integer, v-Float, v-Text}
@@ -185,7 +185,7 @@ module _ {start count : ℕ} {m m′ : Memory} {kind position value : ℕ} where
               record {
                 fits = G .fits;
                 preserves = G .preserves;
-                held = put-reads (G .held) (w .function .thisReads ++ (getNextInstructionIndex (w .function) ∷ []));
+                held = put-reads (G .held) (w .function .log .thisReads ++ (getNextInstructionIndex (w .function) ∷ []));
               };
         }
 

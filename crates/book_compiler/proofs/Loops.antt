@@ -20,7 +20,8 @@ use Rattle.definition.specs.Uses.{Limits, total}
 use Rattle.definition.specs.Compiler.{Work, withFunction, doing, emit, emitOpcodeWithoutPosition, replaceInstruction, next, emitConstant, getOr}
 use Rattle.definition.specs.Compiler.{compileExpression, compileStatements, compileForStatement}
 use Rattle.definition.specs.Program.{Entries}
-use Rattle.definition.proofs.Steady.{Steady, Steadily, steady-trans, steady-function, steady-emit-constant, steady-define, steady-expression, steady-statements}
+use Rattle.definition_laws.proofs.Steady.{Steady, Steadily, steady-trans, steady-function}
+use Rattle.definition_laws.proofs.Steady.{steady-emit-constant, steady-define, steady-expression, steady-statements}
 use Rattle.tree.specs.At.{Leaf, ExpressionAt, StatementsAt, sizeE, sizeSs}
 use Rattle.tree.proofs.View.{headE, sizeE-pos}
 use Rattle.building.specs.declared.function_state.FunctionState.{FunctionState}
@@ -126,7 +127,7 @@ name-names {m} {m₁} {found = found} {text = text} {index = index} D index-is f
       let H₂ = emitted (toInstruction ForNext x) (t .position) d₂ (λ z. as-local ForNext x as-word (agree (mark-before D (H .fits) z))) (λ z. sym pt) H₁ in
       let H₃ = last-emitted JumpIf d₃ H₂ in
       let here : m₁ .state .full ≡ 0 → index ≡ i % 2 ^ 64 =
-      λ z. index-is ∙ ap foundOrZero (defined-found D′ H (mark-before D (H .fits) z)) ∙ found-zero o in
+      λ z. index-is ∙ ap foundOrZero (defined-found D′ H (mark-before D (H .fits) z) op) ∙ found-zero o in
       let S₃ = twice-steady ForNext x (t .position) JumpIf u in
       let H₄ = emitted (toInstruction LocalSet i) (n .position) d₄ (λ z. as-local LocalSet i as-word′ (here (back (S₃ .uses) H₁ H₃ z))) (λ z. sym pn) H₃ in
       let H₅ = last-emitted Pop d₅ H₄ in
@@ -144,7 +145,8 @@ pub end-ends : {around : FunctionState} {m m₁ m′ : Memory} {s₂ s₃ : Func
     → LastPosition p m → iterator ≡ (around .«local_count» + 1) % 2 ^ 64 → v ≡ word (toInstruction Iterate iterator) → OnCode (emitC v p) m m₁
     → LastPosition p₁ m₁ → v₁ ≡ word (toInstruction Jump first) → OnCode (emitC v₁ p₁) m₁ (laid s₂ a l₂) → following ≡ nextC s₂
     → v₂ ≡ word (toInstruction JumpIf following) → OnCode (replaceC exit v₂) (laid s₂ a l₂) (laid s₂ a l₃)
-    → OnBoth (exitBreakC (around .«break_base») (around .«in_loop»)) (laid s₂ a l₃) (laid s₃ a l₄) → OnNames (exitScopeC (around .«scope_base»)) (laid s₃ a l₄) m′
+    → OnBoth (exitBreakC (around .«break_base») (around .«in_loop»)) (laid s₂ a l₃) (laid s₃ a l₄)
+    → OnNames (exitScopeC (around .«scope_base»)) (laid s₃ a l₄) m′
     → LoopEnd around first exit m m′
 unfolding method.exitBreakScope
 end-ends {around} position-is more as-word d₁ last as-word₁ d₂ following-is as-word₂ d₃ broken out = record {
@@ -181,7 +183,7 @@ module _ {tree : List ℕ} {at end start count position text place : ℕ} {body 
         let mid : body ≡ at + 1 + sizeE x = skipped ∙ skip-law tree (at + 1) end (headE x hx) (sizeE-pos x) (omega arith) in
         record {
           meets = λ κ E others w I H.
-              let i = w .function .localCount in
+              let i = w .function .header .localCount in
               let w₁ = loopStart w in
               let w₂ = compileExpression x w₁ in
               let w₃ = loopHead i (t .position) w₂ in

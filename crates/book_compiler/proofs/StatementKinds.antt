@@ -18,9 +18,9 @@ use Rattle.definition.specs.Uses.{Limits, total}
 use Rattle.definition.specs.Compiler.{Work, Step, doing, withFunction, pushError, compilePart, compileStatement, compileStatements, compileExpression}
 use Rattle.definition.specs.Compiler.{compileExpressionStatement, compileRescue, compileVariables, compileBare, compileValued, deeper, skip, compileNoPart}
 use Rattle.definition.specs.Program.{Entries}
-use Rattle.definition.proofs.Steady.{Steadily, longer-trans, steady-function, steady-trans, steady-statement, steady-statements, steady-expression}
-use Rattle.definition.proofs.Steady.{steady-variables, steady-return, steady-break, steady-rescue, steady-for, steady-expression-statement, same, more}
-use Rattle.definition.proofs.Steady.{steady-define, steady-error, steady-bare, steady-valued}
+use Rattle.definition_laws.proofs.Steady.{Steadily, longer-trans, steady-function, steady-trans, steady-statement, steady-statements, steady-expression}
+use Rattle.definition_laws.proofs.Steady.{steady-variables, steady-return, steady-break, steady-rescue, steady-for, steady-expression-statement, same, more}
+use Rattle.definition_laws.proofs.Steady.{steady-define, steady-error, steady-bare, steady-valued}
 use Rattle.tree.specs.At.{Head, Leaf, ExpressionAt, StatementAt, StatementsAt, VariablesAt, sizeE, sizeS, sizeSs, sizeVs}
 use Rattle.tree.proofs.View.{ViewS, seeS, headS, sizeS-pos, headE, sizeE-pos, value-there}
 use Rattle.tree.proofs.View.ViewS.{v-Local, v-Break, v-Rescue, v-For, v-Expr}

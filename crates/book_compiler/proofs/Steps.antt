@@ -6,7 +6,7 @@ use mathlib.Core.List.{List}
 use Rattle.definition.specs.Uses.{Limits}
 use Rattle.definition.specs.Compiler.{Work, Step, andThen}
 use Rattle.definition.specs.Program.{Entries}
-use Rattle.definition.proofs.Steady.{Longer, Steadily}
+use Rattle.definition_laws.proofs.Steady.{Longer, Steadily}
 use Rattle.building.proofs.Notes.{held-longer}
 use Rattle.building.proofs.Notes as notes
 use Rattle.bodies.proofs.Balanced.{Balancing}

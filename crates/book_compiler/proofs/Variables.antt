@@ -19,9 +19,10 @@ use Rattle.definition.specs.Uses.{Limits}
 use Rattle.definition.specs.Compiler.{Work, Step, withFunction, pushError, skip, bareBy, valuedBy}
 use Rattle.definition.specs.Compiler.{compileBare, compileValued, compileExpression, compileVariables}
 use Rattle.definition.specs.Program.{Entries}
-use Rattle.definition.proofs.Steady.{Steadily, steady-trans, steady-define, steady-error, steady-bare, steady-valued, steady-expression}
+use Rattle.definition_laws.proofs.Steady.{Steadily, steady-trans, steady-define, steady-error, steady-bare, steady-valued, steady-expression}
 use Rattle.tree.specs.At.{VariablesAt, sizeE, sizeVs}
 use Rattle.tree.proofs.View.{headE, sizeE-pos, value-there}
+use Rattle.building.specs.Held.{isOpen}
 use Rattle.building.specs.declared.function_state.FunctionState.{FunctionState}
 use Rattle.building.specs.declared.scopes.Found.{Found}
 use Rattle.building.specs.declared.scopes.Found.the-variants.{At, Nothing}
@@ -56,8 +57,8 @@ defined-live {name} {index} {m} {m′} {found} D at f = go (eqb (m .state .full)
 
 -- it is what the definition defines
 here : {κ : Limits} {E : Entries} {others : ℕ → List ℕ} {w : Work} {name index : ℕ} {m m′ : Memory} {found : Found} → DefinesLocal name found m m′
-    → found ≡ At index → Represents κ E others m w → foundOf (wrapped (defineLocal name (w .function) .found)) ≡ At index
-here D new H = sym (defined-found D H (defined-live D new (H .fits))) ∙ new
+    → found ≡ At index → Represents κ E others m w → isOpen (w .function .scopes) ≡ true → foundOf (wrapped (defineLocal name (w .function) .found)) ≡ At index
+here D new H op = sym (defined-found D H (defined-live D new (H .fits)) op) ∙ new
 
 -- a name defined, and then a step by what was found
 abbrev defining : ℕ → (Option ℕ → Step) → Step
@@ -98,7 +99,7 @@ module _ {tree : List ℕ} {at end start count name position : ℕ} (name-is : n
       go by q S κ E others w I H true z =
           let w₁ = withFunction (defineLocal name (w .function) .state) w in
           by-found by q w₁ (pushed 1 u F (laws.defined D (I .is-open) H)) (defineLocal name (w .function) .found)
-          (sym (defined-found D H (eqb-true (m .state .full) 0 z)) ∙ lost)
+          (sym (defined-found D H (eqb-true (m .state .full) 0 z) (I .is-open)) ∙ lost)
       go by q S κ E others w I H false z =
           let w₁ = withFunction (defineLocal name (w .function) .state) w in
           either (steady-trans (steady-define name w) (steady-error 1 u w₁) .uses) (S w .uses) (eqb-false (m .state .full) 0 z) H
@@ -117,7 +118,7 @@ module _ {tree : List ℕ} {at end start count name position : ℕ} (name-is : n
       bare = λ t h h₁ l. subst (λ (x : ℕ). Does start count m m₁ (defining x (λ o. bareBy o 1 t))) (named tree at name-is t (h .token))
           (record {
             meets = λ κ E others w I H. go t (withFunction (defineLocal name (w .function) .state) w) (laws.defined D (I .is-open) H)
-                (defineLocal name (w .function) .found) (here D new H);
+                (defineLocal name (w .function) .found) (here D new H (I .is-open));
           });
       valued = λ t x h h₁ l. absurd (value-there x tree (at + 1) h₁ (sym kind-is ∙ q));
     }
@@ -139,7 +140,7 @@ module _ {tree : List ℕ} {at end start count name position : ℕ} (name-is : n
                 (withFunction (defineLocal name (w .function) .state) w)
                 (M .meets x h₁ l .meets κ E others (withFunction (defineLocal name (w .function) .state) w)
                 (inside-after (steady-define name w) (balanced-define name w) I) (laws.defined D (I .is-open) H))
-                (defineLocal name (w .function) .found) (here D new H);
+                (defineLocal name (w .function) .found) (here D new H (I .is-open));
           });
     }
       where

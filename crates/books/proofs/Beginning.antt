@@ -14,7 +14,7 @@ use Rattle.words.specs.Object.{defaultConstants}
 use Rattle.words.specs.Record.{mostRecords}
 use Rattle.definition.specs.Uses.{Use, using′, Limits, firstOver}
 use Rattle.definition.specs.Book.{newContext, compileDefinition}
-use Rattle.definition.proofs.Limits.{fine-limited}
+use Rattle.definition_laws.proofs.Limits.{fine-limited}
 use Rattle.definition.specs.DependencySolver.{needed, compileNeeded, drive}
 use Rattle.definition.specs.Program.{Entries, entriesFrom, constantEntry}
 use Rattle.definition.specs.Within.{All, nil, _&_}
@@ -141,12 +141,12 @@ module _ (strict : Bool) {tree set : List ℕ} {c k f m p t l u n b e o : List �
     marks : Marks (firstOver κ (begunUses (length numbers))) (r .full)
     marks =
         mark-books B (root ∷ others) numbers (A .bundle) (needed-ascends root others) (needed-below root others (A .bundle .numbers)) (A .chosen) κ
-        (using′ constantsArea 3 ∷ []) (lent (begunBook strict r 0) .books)
-        (mark-constants κ (zeros .emptied .constants) (lent (begunBook strict r 0) .fitted .constants) C)
+        (using′ constantsArea 3 ∷ []) (lent (begunBook strict r 0) .books) (mark-constants κ (zeros .emptied .constants) (lent
+        (begunBook strict r 0) .fitted .constants) C)
 
     -- the definition's work from there
-    as-work : compileNeeded numbers (root ∷ others) (newContext strict) ≡ drive (length numbers) (root ∷ others) [] numbers (newContext strict)
-        (begunUses (length numbers))
+    as-work : compileNeeded numbers (root ∷ others) (newContext strict) ≡ drive (length numbers) (root
+        ∷ others) [] numbers (newContext strict) (begunUses (length numbers))
     unfolding compileNeeded
     as-work = let n : 0 + length numbers ≡ length numbers = omega arith in rw n
 

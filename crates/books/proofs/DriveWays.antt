@@ -13,7 +13,7 @@ use Rattle.words.proofs.Entries.{field-in}
 use Rattle.definition.specs.Compiler.{Error}
 use Rattle.definition.specs.Program.{entriesFrom, errorEntry}
 use Rattle.definition.specs.Answer.{ringErrors}
-use Rattle.definition.proofs.Cells.{single-length}
+use Rattle.definition_laws.proofs.Cells.{single-length}
 use Rattle.building.specs.declared.taking.Taken.{Taken}
 use Rattle.building.specs.Taking.{Took, taken}
 use Rattle.building.specs.Held.{Filled}

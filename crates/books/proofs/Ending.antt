@@ -24,7 +24,7 @@ use Rattle.definition.specs.DependencySolver.{Ending, Delivered, Faulty, Ring, 
 use Rattle.definition.specs.Program.{bit, constantEntry, flat, filled, errorTables, entriesFrom, errorEntry, bookEntry, bookTable, globalDependencies}
 use Rattle.definition.specs.Answer.{Answer, Delivery, Refusal, ringErrors, answerEnding, answerBy, answerWorked, limitsOf, answer, replyOf, areasOf}
 use Rattle.definition.specs.Within.{All, nil, _&_, Areas, KeepsWithin}
-use Rattle.definition.proofs.Cells.{single-length, single-at}
+use Rattle.definition_laws.proofs.Cells.{single-length, single-at}
 use Rattle.building.proofs.Filling.{flat-append, filled-field}
 use Rattle.building.specs.Held.{Filled, Marks, unmarked, marked}
 use Rattle.documents.specs.declared.book.Book as book
@@ -32,11 +32,11 @@ use Rattle.documents.specs.Shelf.{shelf}
 use Rattle.documents.specs.Documents.{Resting}
 use Rattle.books.specs.Driving.{Zero, Cleared, Lent, Came, came-delivered, came-faulty}
 use Rattle.books.specs.Driving.{came-ring, Outcome, Accepted, Fronts, Works, MarkedFrom, markOf, Emptied}
-use Rattle.definition.proofs.Strict.{none-there}
+use Rattle.definition_laws.proofs.Strict.{none-there}
 use Rattle.definition.specs.Promise.{areas, lengthsOf, saying, answering, logsIn, programOf, Compiles}
 use Rattle.books.specs.Finishing.{totals, markRefusal, Finishes, Runs}
 use Rattle.books.proofs.Whole.{filled-is, delivered-words, delivered-reply}
-use Rattle.definition.proofs.Promise.{compiles}
+use Rattle.definition_laws.proofs.Promise.{compiles}
 use Rattle.books.proofs.Beginning.{zero-filled}
 
 -- an area cleared is zeros
@@ -142,8 +142,8 @@ module _ (strict : Bool) (tree : List ℕ) (before : Areas) where
 
   -- a refusal with these errors and zeros
   refuses : {c k f m p t l u n b e o : List ℕ} {errors : ℕ} (row place : ℕ) (es : List Error) → length (lengthsOf before) ≡ 13
-      → lengthsOf before ≡ lengthsOf (areas c k f m p t l u n b e o) → answering strict tree before ≡ Refusal row place es → Zero c → Zero k → Zero f → Zero m
-      → Zero p
+      → lengthsOf before ≡ lengthsOf (areas c k f m p t l u n b e o) → answering strict tree before ≡ Refusal row place es → Zero c → Zero k → Zero f
+      → Zero m → Zero p
       → Zero t → Zero l → Zero u → Zero n → Zero b → Filled 4 e (entriesFrom errorEntry 0 es) errors → Zero o
       → Compiles strict tree before (areas c k f m p t l u n b e o) (refusal row place)
   refuses {c} {k} {f} {m} {p} {t} {l} {u} {n} {b} {e} {o} row place es thirteen long q zc zk zf zm zp zt zl zu zn zb fe zo =
@@ -398,8 +398,8 @@ module _ {strict : Bool} {tree c k f m p t l u n b e o : List ℕ} where
     ended-whole z y h =
         let X = E .whole y h in
         subst (λ (x : Areas). Compiles strict tree (areas c k f m p t l u n b e o) x r) (sym (X .0))
-        (compile-delivered strict tree (areas c k f m p t l u n b e o) refl refl z F went W (same-lengths S ∙ ap lengthsOf (X .0)) y h (X .1 .1 .0)
-        (X .1 .1 .1))
+        (compile-delivered strict tree (areas c k f m p t l u n b e o) refl refl z F went W (same-lengths S
+        ∙ ap lengthsOf (X .0)) y h (X .1 .1 .0) (X .1 .1 .1))
 
     pub run-finished : Runs strict tree c k f m p t l u n b e o c″ k″ f″ m″ p″ t″ l″ u″ n″ b″ e″ o″ r
     run-finished = record { runs = go }
@@ -430,8 +430,8 @@ carried {strict} {tree} {after = after} {r} q C = record {
 }
 
 -- the way of `compile`
-pub compile-runs : {strict : Bool} {tree c₀ k₀ f₀ m₀ p₀ t₀ l₀ u₀ n₀ b₀ e₀ o₀ c k f m p t l u n b e o c″ k″ f″ m″ p″ t″ l″ u″ n″ b″ e″ o″ : List ℕ} {r
-    : struct.Reply}
+pub compile-runs : {strict : Bool} {tree c₀ k₀ f₀ m₀ p₀ t₀ l₀ u₀ n₀ b₀ e₀ o₀ c k f m p t l u n b e o c″ k″ f″ m″ p″ t″ l″ u″ n″ b″ e″ o″ : List ℕ}
+    {r : struct.Reply}
     → SameLengths c₀ k₀ f₀ m₀ p₀ t₀ l₀ u₀ n₀ b₀ e₀ o₀ c k f m p t l u n b e o → Emptied c k f m p t l u n b o → Zero e
     → Runs strict tree c k f m p t l u n b e o c″ k″ f″ m″ p″ t″ l″ u″ n″ b″ e″ o″ r
     → Compiles strict tree (areas c₀ k₀ f₀ m₀ p₀ t₀ l₀ u₀ n₀ b₀ e₀ o₀) (areas c″ k″ f″ m″ p″ t″ l″ u″ n″ b″ e″ o″) r

@@ -23,10 +23,10 @@ use Rattle.building.specs.Found.{foundOf}
 use Rattle.books.specs.Sets.{SetIs}
 use Rattle.books.specs.Solving.{InSets, Bundle, Room, Distinct, Twice, FindsTwice, Needs, Misses}
 use Rattle.books.specs.Driving.{Fresh, Accepted, Fronts}
-use Rattle.definition.proofs.Answer.{ShapeRow, fine, refused, shape-row}
+use Rattle.definition_laws.proofs.Answer.{ShapeRow, fine, refused, shape-row}
 use Rattle.books.proofs.BundleRange.{fine-bundle, fine-root}
 use Rattle.books.proofs.StandsLaws.{set-empty, needed-ascends, needed-below}
-use Rattle.definition.proofs.Promise.{no-row}
+use Rattle.definition_laws.proofs.Promise.{no-row}
 
 found-none : (o : Option ℕ) → Nothing ≡ foundOf o → o ≡ none
 found-none none h = refl
@@ -116,8 +116,8 @@ module _ (tree : List ℕ) {x : Shape} (shape-is : x ≡ shapeOf tree) (fine-is 
           M .misses (root ∷ others) numbers (needed-ascends root others) (needed-below root others (bundled .numbers)) chosen
           (finds-again (root ∷ others) bundled .present none-again)
 
-      so-far : (strict : Bool) (lengths : List ℕ) → answer strict tree lengths ≡ answerNeeded (missing (root ∷ others) numbers) numbers (root ∷ others)
-          (limitsOf lengths) (newContext strict)
+      so-far : (strict : Bool) (lengths : List ℕ) → answer strict tree lengths ≡ answerNeeded (missing (root ∷ others) numbers) numbers (root
+          ∷ others) (limitsOf lengths) (newContext strict)
       unfolding answer answerFrom answerBundle
       so-far strict lengths = rw (is-fine, once, documents)
 

@@ -16,7 +16,7 @@ use Rattle.definition.specs.Prior.{Entries, fileNumbers}
 use Rattle.definition.specs.Book.{Assembly}
 use Rattle.definition.specs.DependencySolver.{findDocument, allIn, dependencies, readyBy, ready, filesOf}
 use Rattle.definition.specs.Within.{All, nil, _&_}
-use Rattle.definition.proofs.Counts.{numbers-length}
+use Rattle.definition_laws.proofs.Counts.{numbers-length}
 use Rattle.books.specs.Solving.{bookUnit, AllWait, Stands}
 use Rattle.books.specs.Driving.{Leaves}
 

@@ -18,8 +18,8 @@ use Rattle.definition.specs.Within.{All, nil, _&_}
 use Rattle.definition.specs.Book.{Context, Book, opened, compileDefinition, compileDefinitions, compileDocument}
 use Rattle.definition.specs.DependencySolver.{Ending, Delivered, Faulty, Ring, Worked, afterBook, driveBy, drive, ready, without, filesOf, loadedOf}
 use Rattle.definition.specs.Answer.{ringErrors}
-use Rattle.definition.proofs.Cells.{single-length}
-use Rattle.definition.proofs.Counts.{loaded-length}
+use Rattle.definition_laws.proofs.Cells.{single-length}
+use Rattle.definition_laws.proofs.Counts.{loaded-length}
 use Rattle.building.specs.declared.taking.Taken.{Taken}
 use Rattle.building.specs.Taking.{taken}
 use Rattle.building.specs.Held.{Filled, Marks}

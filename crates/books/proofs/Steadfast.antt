@@ -9,7 +9,7 @@ use Rattle.definition.specs.Uses.{Use}
 use Rattle.definition.specs.Compiler.{Error}
 use Rattle.definition.specs.Book.{Assembly, Context, Book, opened, compileDefinition, compileDefinitions, compileDocument}
 use Rattle.definition.specs.DependencySolver.{Worked, afterBook, driveBy, drive, ready, without, filesOf, loadedOf}
-use Rattle.definition.proofs.Steady.{Longer, same, more, longer-trans}
+use Rattle.definition_laws.proofs.Steady.{Longer, same, more, longer-trans}
 use Rattle.documents.proofs.Calm.{Calm, Calms, calm-refl, calm-trans}
 use Rattle.documents.proofs.PuttingAway.{putAway}
 

@@ -20,7 +20,7 @@ use Rattle.tree.specs.Reading.{documentsOf}
 use Rattle.tree.specs.declared.Shape.the-variants.{Fine}
 use Rattle.definition.specs.Book.{hasText, newContext, Context, Book, bookCount}
 use Rattle.definition.specs.Within.{All}
-use Rattle.definition.proofs.Limits.{LimitedDocument}
+use Rattle.definition_laws.proofs.Limits.{LimitedDocument}
 use Rattle.building.specs.declared.taking.Taken.{Taken}
 use Rattle.building.specs.Held.{Filled, Marks, Sized}
 use Rattle.documents.specs.declared.book.Book as struct

@@ -18,7 +18,7 @@ use Rattle.definition.specs.Uses.{Limits, limitOf, total}
 use Rattle.definition.specs.Compiler.{Work, withFunction, doing, next}
 use Rattle.definition.specs.Compiler as step
 use Rattle.definition.specs.Program.{Entries, codeEntries}
-use Rattle.definition.proofs.Lists.{length-patch}
+use Rattle.definition_laws.proofs.Lists.{length-patch}
 use Rattle.building.specs.declared.function_state.FunctionState as struct
 use Rattle.building.specs.State.{withCodeCount, withBreaks, withLoop}
 use Rattle.building.specs.Taking.{taken, givenUp}

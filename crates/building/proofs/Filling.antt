@@ -18,8 +18,8 @@ use Rattle.definition.specs.Compiler.{Work, withFunction}
 use Rattle.definition.specs.Program.{Entries, flat, filled, codeEntries, bit}
 use Rattle.definition.specs.Book.{hasText}
 use Rattle.definition.specs.Within.{All, nil, _&_}
-use Rattle.definition.proofs.Lists.{all-append, all-set}
-use Rattle.definition.proofs.Cells.{Wide, all-at, flat-length, filled-word, single-length}
+use Rattle.definition_laws.proofs.Lists.{all-append, all-set}
+use Rattle.definition_laws.proofs.Cells.{Wide, all-at, flat-length, filled-word, single-length}
 use Rattle.words.specs.Opcode.{Instruction}
 use Rattle.building.specs.Taking.{zeroed, givenUp}
 use Rattle.building.specs.Held.{Machine, Filled, nameEntry, oldestFirst, nameEntries, breakEntry, breakEntries, Contents, Marks, unmarked, marked}

@@ -14,7 +14,7 @@ use Rattle.definition.specs.FunctionState.{FunctionState, orElse}
 use Rattle.definition.specs.Uses.{Use, using′, Limits, limitOf, overBy, firstOver, total}
 use Rattle.definition.specs.Compiler.{Work, withFunction}
 use Rattle.definition.specs.Program.{Entries}
-use Rattle.definition.proofs.Steady.{Longer, same, more}
+use Rattle.definition_laws.proofs.Steady.{Longer, same, more}
 use Rattle.building.specs.Held.{Machine, Contents, Marks, unmarked, marked, Held}
 use Rattle.building.proofs.Filling.{Within, over-stays, capped, noted-within}
 

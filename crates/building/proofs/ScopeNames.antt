@@ -15,8 +15,8 @@ use Rattle.definition.specs.FunctionState.{Entry, findName, findScopes, orElse,
 use Rattle.definition.specs.Uses.{total}
 use Rattle.definition.specs.Program.{Entries}
 use Rattle.definition.specs.Within.{nil, _&_}
-use Rattle.definition.proofs.Lists.{all-append}
-use Rattle.definition.proofs.Cells.{Wide}
+use Rattle.definition_laws.proofs.Lists.{all-append}
+use Rattle.definition_laws.proofs.Cells.{Wide}
 use Rattle.building.specs.Found.{findNewest, wrapped}
 use Rattle.building.specs.Held.{Filled, nameEntry, oldestFirst, nameEntries, isOpen}
 use Rattle.building.proofs.Filling.{filled-field, oldest-length, names-length}

@@ -99,6 +99,20 @@ pub extern "C" fn clover_records_to_table(tree: &[u64], out: &mut [u8]) -> Table
     records_to_table(tree, out)
 }
 
+// The errors of area 11 in words: a line each, with the caller's file number and the texts of a lent table.
+#[no_mangle]
+pub extern "C" fn clover_errors_in_words(
+    errors: &[u64],
+    file: u64,
+    table: &[u64],
+    bytes: &[u8],
+    out: &mut [u8],
+) -> Converted
+    ensures { λ r. ⌜ Converts (inWords (now (errors .entry)) file (now (table .entry)) (now (bytes .entry)) (length (now (out .entry)))) (now (out .exit)) r ⌝ }
+{
+    errors_in_words(errors, file, table, bytes, out)
+}
+
 // The compile call; a mode of 0 is the present one, anything else is strict (2026-07).
 #[no_mangle]
 pub extern "C" fn clover_compile(

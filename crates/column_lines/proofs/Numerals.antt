@@ -10,7 +10,8 @@ use lib.ListN.{length, drop, replicate, length-append, length-replicate}
 use lib.Seq.{append-snoc}
 use lib.Dec.{leb, eqb}
 use borrow.Author.Tests.{eq-eqb, ne-eqb, le-leb, lt-leb, leb-true, leb-false, eqb-true, eqb-false}
-use Rattle.column_lines.specs.Numeral.{blank, minusSign, digitOf, isDigit, leastSize, wordEnd, mostOf, negativeOf, numeral, numeralFits, wordOf, digitsFrom}
+use Rattle.column_lines.specs.Numeral.{blank, minusSign, digitOf, isDigit, leastSize, wordEnd}
+use Rattle.column_lines.specs.Numeral.{mostOf, negativeOf, numeral, numeralFits, wordOf, digitsFrom}
 use Rattle.column_lines.specs.Numeral.{zeroFrom, numberFrom, signAt, signFrom, readNumeral}
 use Rattle.column_lines.specs.Spelling.{magnitudeOf, leadOf, restOf, spelled, leadFits, restFits, spellFits}
 use Rattle.column_lines.specs.declared.number.Number.{Number}

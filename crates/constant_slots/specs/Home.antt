@@ -1,5 +1,5 @@
 -- 2026-12: the home slot of a constant among n slots, from which it is looked for and put. 'In n slots, n non-negative integers in a row have different
--- home slots' is `row-of-homes` of proofs/Homes.antt; what else is asked of it is that pools as they are written do not crowd (docs/DECISIONS.md, 'Home slots')
+-- home slots' is `row-of-homes` of proofs/Homes.antt; what else is asked of it is that pools as they are written do not crowd (docs/DECISIONS.md, 89)
 use Prim.Native.Nat.{ℕ, _+_, _*_, _/_, _%_}
 use mathlib.Core.Bool.{cond}
 use lib.Dec.{eqb}

@@ -97,6 +97,7 @@ cases = record {
   twice-over = refl;
   late-include = refl;
   second-late-include = refl;
+  include-chain = refl;
   late-self-include = refl;
   late-include-first = refl;
   include-not-needed = refl;

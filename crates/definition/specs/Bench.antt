@@ -109,10 +109,9 @@ unfolding shapeOf walkBy headAt soundAt thisAfter sameThis lacksBy withinOf fiel
     compilePrefixExpression compileCallExpression compileArrayExpression compilePart compileNoPart compileIfExpression compileForStatement
     compileExpressionStatement compileValued compileBare compileRescue deeper skip andThen compileExpression compileParameter compileParameters
     compileFunctionDefinitionBase defineContextLocal compileAlias compileIncludeDefinition compileInclude compileBinding compileLocalDefinition
-    compileProperties
-    compileModelDefinition compileBase addPlainFunction compileFunctionDefinition findModelIndexByLocalName compileMethods compileImplementDefinition
-    compileApplyDefinition compileDefinition compileDefinitions compileDocument neededIn drive compileNeeded answerBundle answerFrom answer tablesOf
-    errorTables replyOf areasOf word
+    compileProperties compileModelDefinition compileBase addPlainFunction compileFunctionDefinition findModelIndexByLocalName compileMethods
+    compileImplementDefinition compileApplyDefinition compileDefinition compileDefinitions compileDocument neededIn drive compileNeeded answerBundle
+    answerFrom answer tablesOf errorTables replyOf areasOf word
 runAs strict lengths w = resultOf (answer strict w lengths)
 
 -- in the present mode, as everything below
@@ -440,6 +439,8 @@ pub record Cases : Type 0 where
   -- an include below another definition is needed too, and of several each
   pub late-include : run (book (r 12 1 0 7 ∷ r 11 1 0 3 ∷ [])) ≡ refused 6 3 []
   pub second-late-include : run (bundle (r 1 4 0 2 ∷ r 12 1 0 7 ∷ r 11 1 0 3 ∷ r 11 1 0 4 ∷ r 1 1 0 3 ∷ [])) ≡ refused 6 4 []
+  -- a chain of includes: book 2 includes 3, which includes 4, which includes 5, and there is no book 5
+  pub include-chain : run (bundle (r 1 2 0 2 ∷ r 11 1 0 3 ∷ r 1 2 0 3 ∷ r 11 1 0 4 ∷ r 1 2 0 4 ∷ r 11 1 0 5 ∷ [])) ≡ refused 6 5 []
   -- a book that includes itself below another definition is a ring
   pub late-self-include : run (book (r 12 1 0 7 ∷ r 11 1 8 2 ∷ [])) ≡ refused 8 1 (error 11 0 0 2 ∷ [])
   -- its book comes first, whatever its number

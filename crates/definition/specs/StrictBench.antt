@@ -12,8 +12,8 @@ use Rattle.definition.specs.Answer.{Answer, Delivery, Refusal, answerFro
 use Rattle.definition.specs.Bench.{Result, r, bundle, book, ample, runAs, run, refused, error}
 use Rattle.definition.specs.PriorBench.{standing, book7}
 
--- the call in strict mode: its result; an area's entries; the words of all areas; the areas' totals; onto what stands in specs/PriorBench.antt, the row
--- and its place
+-- the call in strict mode: its result; an area's entries; the words of all areas; the areas' totals; onto what stands in specs/PriorBench.antt, the row and its
+-- place
 unfoldable pub strictIn : List ℕ → List ℕ → Result
 unfolding runAs
 strictIn lengths w = runAs true lengths w
@@ -83,8 +83,8 @@ pub record StrictRows : Type 0 where
   pub misspelt : strictly (withBook5 (include (pair 6 7))) ≡ refused 11 1 []
   pub private-name : strictly (withBook5 (include (pair 4 7))) ≡ refused 11 1 []
   pub of-another-book : strictly (withBook5 (r 13 1 0 9 ∷ include (pair 9 7))) ≡ refused 11 2 []
-  pub present-delivers : map (λ (x : Result). x .row) (run (withBook5 (include (pair 6 7))) ∷ run (withBook5 (include (pair 4 7))) ∷ run aliasThere ∷ []) ≡ 0
-      ∷ 0 ∷ 0 ∷ []
+  pub present-delivers : map (λ (x : Result). x .row) (run (withBook5 (include (pair 6 7))) ∷ run (withBook5 (include (pair 4 7))) ∷ run aliasThere
+      ∷ []) ≡ 0 ∷ 0 ∷ 0 ∷ []
   -- one of several, wherever it stands, and a repeated one
   pub last-of-three : strictly (withBook5 (include (pair 3 6 ++ pair 8 7 ++ pair 6 9))) ≡ refused 11 1 []
   pub first-of-two : strictly (withBook5 (include (pair 6 9 ++ pair 3 6))) ≡ refused 11 1 []

@@ -18,7 +18,7 @@ use Rattle.definition.specs.Uses.{Limits}
 use Rattle.definition.specs.Book.{Method, Book, Context, addMethods, insertMethods, methodsIn, methodsOf, modelOf, getLocalValue, findModelBy}
 use Rattle.definition.specs.Book.{findModelIn, findModelIndexByLocalName, compileApplyDefinition}
 use Rattle.definition.specs.Program.{entriesFrom, methodEntry}
-use Rattle.definition.proofs.Steady.{same, more}
+use Rattle.definition_laws.proofs.Steady.{same, more}
 use Rattle.tree.specs.At.{DefinitionAt}
 use Rattle.building.specs.declared.scopes.Found.{Found}
 use Rattle.building.specs.declared.scopes.Found.the-variants.{At, Nothing}

@@ -14,9 +14,9 @@ use Rattle.definition.specs.Book.{Book, Deed, working, pushBookError, addBookCo
 use Rattle.definition.specs.Book.{giveValue, includedName, compileAlias, compileIncludeDefinition, Value, Standing, Adding, NoConstant, valueOf, compileValue}
 use Rattle.definition.specs.Book.{givesValues, compileInclude}
 use Rattle.definition.specs.Book.{compileBindingBy, compileBinding, compileLocalDefinition}
-use Rattle.definition.proofs.Lists.{cond-case}
-use Rattle.definition.proofs.Program.{one-name}
-use Rattle.definition.proofs.Steady.{Longer, same, more, longer-trans, steady-constant}
+use Rattle.definition_laws.proofs.Lists.{cond-case}
+use Rattle.definition_laws.proofs.Program.{one-name}
+use Rattle.definition_laws.proofs.Steady.{Longer, same, more, longer-trans, steady-constant}
 
 pub record Calm (b b′ : Book) : Type 0 where
   pub uses : Longer (b .uses) (b′ .uses)

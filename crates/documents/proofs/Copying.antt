@@ -16,8 +16,8 @@ use Rattle.words.specs.Areas.{methodsArea}
 use Rattle.definition.specs.FunctionState.{Entry, orElse}
 use Rattle.definition.specs.Uses.{Use, using′, Limits, limitOf, overBy, firstOver}
 use Rattle.definition.specs.Book.{Method, Book, sameMethod, insertMethod, insertMethods, addMethods, methodsIn}
-use Rattle.definition.proofs.Steady.{Longer}
-use Rattle.definition.proofs.Cells.{single-length}
+use Rattle.definition_laws.proofs.Steady.{Longer}
+use Rattle.definition_laws.proofs.Cells.{single-length}
 use Rattle.building.proofs.Notes.{marks-same, over-longer}
 use Rattle.documents.specs.Shelf.{Shelf, Keeping}
 use Rattle.documents.specs.Modelling.{noMethod, methodsFrom}

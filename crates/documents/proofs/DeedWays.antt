@@ -16,10 +16,10 @@ use Rattle.definition.specs.Uses.{Limits}
 use Rattle.definition.specs.Compiler.{Added, pushError, addConstant}
 use Rattle.definition.specs.Book.{Book, working, pushBookError, addBookConstant, defineContextLocalBy, defineContextLocal, setLocalValue}
 use Rattle.definition.specs.Program.{Entries, localWords, localEntry, entriesFrom, localTable}
-use Rattle.definition.proofs.Lists.{cond-case}
-use Rattle.definition.proofs.Cells.{single-length}
-use Rattle.definition.proofs.Program.{added-case}
-use Rattle.definition.proofs.Steady.{same, more, steady-constant}
+use Rattle.definition_laws.proofs.Lists.{cond-case}
+use Rattle.definition_laws.proofs.Cells.{single-length}
+use Rattle.definition_laws.proofs.Program.{added-case}
+use Rattle.definition_laws.proofs.Steady.{same, more, steady-constant}
 use Rattle.building.specs.declared.function_state.FunctionState.{FunctionState}
 use Rattle.building.specs.declared.scopes.Found.{Found}
 use Rattle.building.specs.declared.scopes.Found.the-variants.{At, Nothing}

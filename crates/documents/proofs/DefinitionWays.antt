@@ -12,7 +12,7 @@ use Rattle.tree.proofs.View.{v-PlainFunction, v-PublicFunction, v-ImplementDefi
 use Rattle.definition.specs.Uses.{Limits}
 use Rattle.definition.specs.Book.{Book, compileDefinition, compileModelDefinition, compileFunctionDefinition}
 use Rattle.definition.specs.Within.{All, nil, _&_}
-use Rattle.definition.proofs.Limits.{LimitedFunction, functionsIn}
+use Rattle.definition_laws.proofs.Limits.{LimitedFunction, functionsIn}
 use Rattle.documents.specs.declared.book.Book as struct
 use Rattle.documents.specs.Shelf.{Shelf, shelf, Keeping, Shelved}
 use Rattle.documents.specs.Deeds.{DefinesLocals}

@@ -19,7 +19,7 @@ use Rattle.definition.specs.Book as book
 use Rattle.definition.specs.Book.{Book, modelOf, constantAt, getLocalValue, pushBookError, findModelIndexByLocalName}
 use Rattle.definition.specs.Program.{Entries, entriesFrom, localWords, localEntry, constantEntry, bit}
 use Rattle.definition.specs.Within.{All, nil, _&_}
-use Rattle.definition.proofs.Cells.{single-length, single-at}
+use Rattle.definition_laws.proofs.Cells.{single-length, single-at}
 use Rattle.building.specs.declared.scopes.Found.{Found}
 use Rattle.building.specs.declared.scopes.Found.the-variants.{At, Nothing}
 use Rattle.building.specs.Found.{foundOf, firstFrom, findContextLocalC}

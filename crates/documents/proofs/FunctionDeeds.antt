@@ -17,9 +17,9 @@ use Rattle.definition.specs.Uses.{Limits}
 use Rattle.definition.specs.Book.{Book, Placed, MaybePlaced, Made, functionCount, withContext}
 use Rattle.definition.specs.Book.{withEntryPoint, pushBookError, addBookConstant, setLocalValue, defineContextLocal}
 use Rattle.definition.specs.Book.{working, compileBase, addFunction, addPlainFunction, compileFunctionDefinition}
-use Rattle.definition.proofs.Lists.{cond-case}
-use Rattle.definition.proofs.Good.{function-moves}
-use Rattle.definition.proofs.Steady.{same, more, steady-base}
+use Rattle.definition_laws.proofs.Lists.{cond-case}
+use Rattle.definition_laws.proofs.Good.{function-moves}
+use Rattle.definition_laws.proofs.Steady.{same, more, steady-base}
 use Rattle.building.specs.declared.function_state.FunctionState.{FunctionState}
 use Rattle.building.specs.declared.scopes.Found.{Found}
 use Rattle.building.specs.Emission.{Coded, coded, dropC}

@@ -18,7 +18,7 @@ use Rattle.definition.specs.Compiler.{Work, doing, withFunction, pushError, ski
 use Rattle.definition.specs.Compiler.{bareBy, compileBare, compileParameter, compileParameters, compileStatements, andThen}
 use Rattle.definition.specs.Compiler.{compileFunctionDefinitionBase}
 use Rattle.definition.specs.Program.{Entries}
-use Rattle.definition.proofs.Steady.{steady-parameter, steady-parameters}
+use Rattle.definition_laws.proofs.Steady.{steady-parameter, steady-parameters}
 use Rattle.tree.specs.At.{Leaf, ParametersAt, StatementsAt, sizeSs, kindS, isParameter}
 use Rattle.tree.proofs.View.{headS}
 use Rattle.building.specs.declared.function_state.FunctionState.{FunctionState}

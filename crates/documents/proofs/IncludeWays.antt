@@ -225,8 +225,8 @@ module _ (tree : List ℕ) (at end : ℕ) (books u : List ℕ) (s : struct.Book)
   pub gives-past : {r : Bool} → end ≤ at → AsksMode tree at end books u s r
   gives-past past = record { asks = λ as′ there same. absurd (omega arith) }
 
-  module _ (strict : s .strict ≡ true) {file : ℕ} (hf : file ≡ valueAt tree at) {there : Found}
-      (searched : there ≡ foundOf (findBookC (s .file) file books)) where
+  module _ (strict : s .strict ≡ true) {file : ℕ} (hf : file ≡ valueAt tree at) {there : Found} (searched : there ≡ foundOf (findBookC
+      (s .file) file books)) where
     by-names : {r : Bool} → ((as′ : List Alias) → RunAt AliasAt double as′ tree (at + 1) → at + 1 + runSize double as′ ≡ end
         → r ≡ allNamesC (findBookC (s .file) file books) (s .publics) (publicNames as′) u) → AsksMode tree at end books u s r
     by-names names = record {

@@ -17,13 +17,13 @@ use Rattle.definition.specs.Within.{All, nil, _&_}
 use Rattle.definition.specs.Compiler.{Work, withFunction, compileFunctionDefinitionBase}
 use Rattle.definition.specs.Book.{Function, Book, working, codeOf, codeCount, functionCount, compileBase, addFunction}
 use Rattle.definition.specs.Program.{Entries, entriesFrom, codeEntries, functionCode, functionEntry, functionEntries, functionTable}
-use Rattle.definition.proofs.Lists.{all-append, all-map}
-use Rattle.definition.proofs.FunctionCode.{functions-length}
-use Rattle.definition.proofs.Limits.{LimitedFunction}
-use Rattle.definition.proofs.Steady.{Longer, same, more, longer-trans, steady-base}
-use Rattle.definition.proofs.Good.{function-moves}
-use Rattle.definition.proofs.Room.{room, room-limited}
-use Rattle.definition.proofs.Operands.{function-kept}
+use Rattle.definition_laws.proofs.Lists.{all-append, all-map}
+use Rattle.definition_laws.proofs.FunctionCode.{functions-length}
+use Rattle.definition_laws.proofs.Limits.{LimitedFunction}
+use Rattle.definition_laws.proofs.Steady.{Longer, same, more, longer-trans, steady-base}
+use Rattle.definition_laws.proofs.Good.{function-moves}
+use Rattle.definition_laws.proofs.Room.{room, room-limited}
+use Rattle.definition_laws.proofs.Operands.{function-kept}
 use Rattle.building.specs.declared.function_state.FunctionState.{FunctionState}
 use Rattle.building.specs.declared.taking.Taken.{Taken}
 use Rattle.building.specs.State.{begun}

@@ -12,7 +12,7 @@ use Rattle.words.specs.Areas.{methodsArea, Patched}
 use Rattle.definition.specs.Uses.{Limits}
 use Rattle.definition.specs.Book.{Method, Book, sameMethod, insertMethod, addMethods}
 use Rattle.definition.specs.Program.{entriesFrom, methodEntry}
-use Rattle.definition.proofs.Cells.{single-length}
+use Rattle.definition_laws.proofs.Cells.{single-length}
 use Rattle.building.specs.declared.scopes.Found.{Found}
 use Rattle.building.specs.declared.scopes.Found.the-variants.{At, Nothing}
 use Rattle.building.specs.declared.taking.Taken.{Taken}

@@ -12,7 +12,7 @@ use Rattle.definition.specs.FunctionState.{Entry, findName}
 use Rattle.definition.specs.Book.{Placed, hasText, pushBookError, addBookConstant, defineContextLocal, addMethods, publish, addProperty}
 use Rattle.definition.specs.Book.{compileProperties, addModel, compileModelDefinition, modelOf, getLocalValue, findModelBy, findModelIn}
 use Rattle.definition.specs.Book.{findModelIndexByLocalName, methodsOf, compileApplyDefinition, Properties, modelCount, propertyCount, noted}
-use Rattle.definition.proofs.Steady.{same, more}
+use Rattle.definition_laws.proofs.Steady.{same, more}
 use Rattle.documents.specs.Modelling.{placeModel}
 use Rattle.documents.proofs.Calm.{Calm, Calms, calm-refl, calm-trans, calm-error, calm-constant, calm-local, calm-value}
 

@@ -14,7 +14,7 @@ use borrow.Author.Tests.{eq-eqb, ne-eqb, lt-ltb, le-leb}
 use Rattle.words.specs.Areas.{entryField, Patched}
 use Rattle.definition.specs.Program.{Entries, flat, entriesFrom}
 use Rattle.words.proofs.Entries.{field-in}
-use Rattle.definition.proofs.Cells.{single-length, single-at}
+use Rattle.definition_laws.proofs.Cells.{single-length, single-at}
 use Rattle.building.specs.declared.scopes.Found.{Found}
 use Rattle.building.specs.declared.scopes.Found.the-variants.{At, Nothing}
 use Rattle.building.specs.Found.{foundOf, firstFrom}

@@ -14,7 +14,7 @@ use Rattle.words.specs.Areas.{propertiesArea}
 use Rattle.definition.specs.Uses.{Limits}
 use Rattle.definition.specs.Book.{Book, Context, Properties, noted, hasText, modelCount, propertyCount, pushBookError, addProperty, compileProperties}
 use Rattle.definition.specs.Program.{Entries, entriesFrom, propertyEntries, modelProperties, propertyTable}
-use Rattle.definition.proofs.Cells.{all-any, entries-length, single-length}
+use Rattle.definition_laws.proofs.Cells.{all-any, entries-length, single-length}
 use Rattle.tree.specs.At.{RunAt, runSize, NameAt, single}
 use Rattle.building.specs.declared.scopes.Found.{Found}
 use Rattle.building.specs.declared.scopes.Found.the-variants.{At, Nothing}

@@ -14,7 +14,7 @@ use Rattle.words.specs.Areas.{entryField}
 use Rattle.words.proofs.Entries.{field-in}
 use Rattle.definition.specs.FunctionState.{Entry, findName, orElse}
 use Rattle.definition.specs.Book.{Assembly, Book, findAssembly, publicOf, includedFrom, includedName, withConstant, includedNames, isThere}
-use Rattle.definition.proofs.Program.{one-name}
+use Rattle.definition_laws.proofs.Program.{one-name}
 use Rattle.definition.specs.Program.{Entries, entriesFrom, publicEntries, assemblyPublics, publicTable}
 use Rattle.definition.specs.Prior.{bookIndex, hasKey, findPublic}
 use Rattle.definition.specs.Within.{All, nil, _&_}

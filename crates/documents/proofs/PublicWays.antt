@@ -13,7 +13,7 @@ use Rattle.definition.specs.FunctionState.{Entry}
 use Rattle.definition.specs.Uses.{Limits}
 use Rattle.definition.specs.Book.{Context, Book, Placed, insertEntry, publicCount, publish}
 use Rattle.definition.specs.Program.{Entries, entriesFrom, publicEntries, assemblyPublics, publicTable}
-use Rattle.definition.proofs.Cells.{all-any, entries-length}
+use Rattle.definition_laws.proofs.Cells.{all-any, entries-length}
 use Rattle.building.specs.declared.scopes.Found.{Found}
 use Rattle.building.specs.declared.scopes.Found.the-variants.{At, Nothing}
 use Rattle.building.specs.declared.taking.Taken.{Taken}

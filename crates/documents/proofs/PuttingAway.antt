@@ -15,7 +15,7 @@ use Rattle.definition.specs.Compiler.{Error}
 use Rattle.definition.specs.Book.{Assembly, Context, Book, opened, withContext, withAssemblies, compileDefinition, compileDefinitions}
 use Rattle.definition.specs.Program.{Entries, entriesFrom, assemblyPublics, publicEntries, errorEntry, publicTable}
 use Rattle.definition.specs.Within.{All, _&_}
-use Rattle.definition.proofs.Limits.{LimitedDocument, LimitedFunction, functionsIn}
+use Rattle.definition_laws.proofs.Limits.{LimitedDocument, LimitedFunction, functionsIn}
 use Rattle.building.specs.Held.{Filled}
 use Rattle.building.proofs.PoolLaws.{entries-more}
 use Rattle.documents.specs.declared.book.Book as struct

@@ -11,8 +11,8 @@ use Rattle.definition.specs.Compiler.{Work, CompilerState}
 use Rattle.definition.specs.Book.{Function, Context, Book, working, resumed, codeCount}
 use Rattle.definition.specs.Program.{Entries, entriesFrom, functionCode, codeTable}
 use Rattle.definition.specs.Within.{All}
-use Rattle.definition.proofs.Cells.{entries-length}
-use Rattle.definition.proofs.Steady.{Longer}
+use Rattle.definition_laws.proofs.Cells.{entries-length}
+use Rattle.definition_laws.proofs.Steady.{Longer}
 use Rattle.building.specs.declared.function_state.FunctionState.{FunctionState}
 use Rattle.building.specs.State.{begun}
 use Rattle.building.specs.Held.{machine, Filled, LocalsHeld, Marks, Held}

@@ -8,7 +8,7 @@ use mathlib.Core.Path.{refl}
 use borrow.Author.Tests.{eqb-true, eqb-false}
 use Rattle.definition.specs.Uses.{Limits}
 use Rattle.definition.specs.Book.{Book, Deed}
-use Rattle.definition.proofs.Steady.{Longer}
+use Rattle.definition_laws.proofs.Steady.{Longer}
 use Rattle.building.proofs.Notes.{marks-same, over-longer}
 use Rattle.documents.specs.Shelf.{Shelf, Keeping, Shelved, Deeds}
 use Rattle.documents.proofs.Calm.{Calm, Calms}

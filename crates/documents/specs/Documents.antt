@@ -8,7 +8,7 @@ use Rattle.tree.specs.At.{DefinitionAt, sizeD, DocumentAt, sizeDoc, RunAt, runS
 use Rattle.definition.specs.Uses.{Use, Limits}
 use Rattle.definition.specs.Book.{Context, Book, bookCount, opened, compileDefinition, compileDefinitions}
 use Rattle.definition.specs.Within.{All}
-use Rattle.definition.proofs.Limits.{LimitedFunction, LimitedDocument, functionsIn}
+use Rattle.definition_laws.proofs.Limits.{LimitedFunction, LimitedDocument, functionsIn}
 use Rattle.documents.specs.declared.book.Book as struct
 use Rattle.documents.specs.Shelf.{Shelf, shelf, Keeping, Shelved}
 

@@ -1,5 +1,5 @@
-// Runs `emit`, `emit_return` and `define_local` with the state lent, and by value, on the same stored cases. Each case writes its label and two lines, which must
-// be the same: the state's fields, then area 1, then area 9. Three functions follow each other in one state; the second has the first's parameter.
+// Runs `emit`, `emit_return` and `define_local` with the state lent, and by value, on the same stored cases. Each case writes its label and two lines, which
+// must be the same: the state's fields, then area 1, then area 9. Three functions follow each other in one state; the second has the first's parameter.
 ghost use mathlib.Core.Path.{_≡_};
 ghost use Rattle.words.specs.Codes.{codeWord};
 ghost use Rattle.emitters.specs.Function.{function, functionC};

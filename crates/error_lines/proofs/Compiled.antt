@@ -49,8 +49,8 @@ use Rattle.definition.specs.Compiler.{compileIntegerExpression, compileFunction
 use Rattle.definition.specs.Book
 use Rattle.definition.specs.Book.{Context, Placed, Properties, Methods, MaybePlaced, Made, Value, Standing, Adding, NoConstant, working, resumed}
 use Rattle.definition.specs.Book.{addBookConstant}
-use Rattle.definition.specs.Book.{defineContextLocal, setLocalValue, giveValue, compileAlias, compileIncludeDefinition, givesValues, compileInclude}
-use Rattle.definition.specs.Book.{valueOf, compileValue, compileBinding}
+use Rattle.definition.specs.Book.{defineContextLocal, setLocalValue, giveValue, compileAlias, compileIncludeDefinition}
+use Rattle.definition.specs.Book.{givesValues, compileInclude, valueOf, compileValue, compileBinding}
 use Rattle.definition.specs.Book.{compileLocalDefinition, addProperty, compileProperties, compileModelDefinition, publish, compileBase, addPlainFunction}
 use Rattle.definition.specs.Book.{compileFunctionDefinition, findModelIndexByLocalName, addMethods, compileMethods, compileImplementDefinition, addFunction}
 use Rattle.definition.specs.Book.{compileApplyDefinition, compileDefinition, compileDefinitions, compileDocument, newContext, pushBookError, hasText, opened}
@@ -61,8 +61,8 @@ use Rattle.definition.specs.Program.{errorEntry, entriesFrom, flat, filled, fil
 use Rattle.definition.specs.Answer.{Answer, Delivery, Refusal, ringErrors, answerEnding, answerBy, answerWorked, answerNeeded, answerBundle, answerDocuments}
 use Rattle.definition.specs.Answer.{answerTwice, answerShape, limitsOf, answerFrom, answer, areasOf, twice, documentPlaces}
 use Rattle.definition.specs.Within.{All, nil, _&_}
-use Rattle.definition.proofs.Lists.{all-append, cond-case}
-use Rattle.definition.proofs.Program.{added-case}
+use Rattle.definition_laws.proofs.Lists.{all-append, cond-case}
+use Rattle.definition_laws.proofs.Program.{added-case}
 use Rattle.error_lines.specs.Known.{standsIn, isKind, knownToken, isText, known}
 use Rattle.error_lines.specs.Lines.{errorAt, isZeros, errorsFrom, errorsIn}
 use Rattle.error_lines.specs.Words.{firstUnknown}
@@ -731,13 +731,10 @@ document-text w f i l e =
     = subst (λ (k : ℕ). inRange k (positionAt w i) (valueAt w i) ≡ true) e (S .ranges i (inside w i (S .whole) l)) in
     and-right (mayBeAt false (positionAt w i)) _ r
 
-answer-known : (strict : Bool) (w lengths : List ℕ) → AnswerKnown (answer strict w lengths)
-unfolding answer answerFrom answerBundle
-answer-known strict w lengths = shape (shapeOf w) refl
+answer-known : (c : Context) (w lengths : List ℕ) → AnswerKnown (answerFrom c w lengths)
+unfolding answerFrom answerBundle
+answer-known c w lengths = shape (shapeOf w) refl
   where
-    c : Context
-    c = newContext strict
-
     shape : (s : Shape) → shapeOf w ≡ s → AnswerKnown (answerShape s w (limitsOf lengths) c)
     shape (Refused r p) q = nil
     shape Fine q = two (twice [] w (documentPlaces w))
@@ -834,6 +831,13 @@ answer-left lengths (Refusal n p es) k =
     area-known NoneUnknown lengths (errorTables es) errorsArea (listed-known [] nil 0 0 0)
     (λ n. listed-known es k (n - length (flat (entriesFrom errorEntry 0 es))) 0 0)
 
--- over any words and areas of any lengths: the list that the call leaves in area 11 has no error that `errors_in_words` does not know
+-- onto any standing program, over any words and areas of any lengths: the list that the call leaves in area 11 has no error that `errors_in_words`
+-- does not know
+pub standing-compiled-known : (c : Context) (w lengths : List ℕ)
+    → firstUnknown 0 (errorsIn (getD (areasOf lengths (answerFrom c w lengths)) errorsArea [])) ≡ none
+standing-compiled-known c w lengths = answer-left lengths (answerFrom c w lengths) (answer-known c w lengths)
+
+-- and onto none
 pub compiled-known : (strict : Bool) (w lengths : List ℕ) → firstUnknown 0 (errorsIn (getD (areasOf lengths (answer strict w lengths)) errorsArea [])) ≡ none
-compiled-known strict w lengths = answer-left lengths (answer strict w lengths) (answer-known strict w lengths)
+unfolding answer
+compiled-known strict w lengths = standing-compiled-known (newContext strict) w lengths

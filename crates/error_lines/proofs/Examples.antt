@@ -88,7 +88,8 @@ one-line = refl
 -- a ring under its own file number, which the table lacks
 one-ring : linesOf table bytes 1 (errorsIn (11 ∷ 0 ∷ 0 ∷ 9 ∷ []))
     ≡ 114 ∷ 105 ∷ 110 ∷ 103 ∷ 44 ∷ 32 ∷ 57 ∷ 44 ∷ 32 ∷ 48 ∷ 44 ∷ 32 ∷ 48 ∷ 44 ∷ 32 ∷ 48 ∷ 44 ∷ 32 ∷ 48 ∷ 10 ∷ []
-unfolding errorsIn errorsFrom linesOf errorLine message textField textAt valueField holdsText inRange mayBeAt inPlace plain afterBlanks digitsBy written rightJustified
+unfolding errorsIn errorsFrom linesOf errorLine message textField textAt valueField holdsText inRange mayBeAt inPlace plain afterBlanks
+    digitsBy written rightJustified
 one-ring = refl
 
 -- the second error has a kind that no record has: row 3 before row 9

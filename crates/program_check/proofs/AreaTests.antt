@@ -15,7 +15,7 @@ use Rattle.words.specs.Reply.{totalOf}
 use Rattle.words.specs.declared.reply.Totals.{Totals}
 use Rattle.definition.specs.Within.{Program, allBelow}
 use Rattle.definition.specs.ProgramCheck.{zeros}
-use Rattle.definition.proofs.Tests.{first-of, second-of, below-at}
+use Rattle.definition_laws.proofs.Tests.{first-of, second-of, below-at}
 use Rattle.program_check.proofs.Below.{true-by, false-by, holds, fails, and-holds, below-turn}
 use Rattle.program_check.specs.HasEntries.{HasEntries}
 use Rattle.program_check.specs.Parts.{alone, entryFine, entriesFine}

@@ -6,7 +6,7 @@ use mathlib.Core.Path.{_≡_, refl, sym, ap, subst, _∙_}
 use mathlib.Core.Bool.{Bool, true, false, cond, not, _&&_}
 use lib.Dec.{T, leb, leb→le}
 use Rattle.definition.specs.Within.{allBelow, where′}
-use Rattle.definition.proofs.Tests.{below-at, all-below}
+use Rattle.definition_laws.proofs.Tests.{below-at, all-below}
 
 pub true-by : (b : Bool) → T b → true ≡ b
 true-by true t = refl

@@ -37,13 +37,15 @@ unfolding programFault areaFine areaBound unword word inPlace
 totals = refl
 
 -- zeros behind, also fewer than an entry; a word that is not; area 11 is not looked at
-tails : map (λ (p : Program). programFault p) (behind 1 (0 ∷ []) ∷ behind 1 (1 ∷ []) ∷ behind 7 (0 ∷ 0 ∷ 0 ∷ 0 ∷ 5 ∷ []) ∷ behind 9 (1 ∷ []) ∷ behind 11 (1 ∷ []) ∷ [])
+tails : map (λ (p : Program). programFault p) (behind 1 (0 ∷ []) ∷ behind 1 (1 ∷ []) ∷ behind 7 (0 ∷ 0 ∷ 0 ∷ 0 ∷ 5 ∷ []) ∷ behind 9 (1 ∷ []) ∷ behind 11 (1
+    ∷ []) ∷ [])
     ≡ none ∷ some 1 ∷ some 7 ∷ some 9 ∷ none ∷ []
 unfolding programFault areaFine areaBound unword word inPlace
 tails = refl
 
 -- an entry in area 9; the entry point; the count of marks; fewer than three constants
-others : map (λ (p : Program). programFault p) (other 9 (0 ∷ 0 ∷ []) 1 ∷ numbered 2 1 ∷ numbered 3 1 ∷ numbered 0 0 ∷ other 2 (0 ∷ 0 ∷ 0 ∷ 1 ∷ 1 ∷ 1 ∷ []) 2 ∷ [])
+others : map (λ (p : Program). programFault p) (other 9 (0 ∷ 0 ∷ []) 1 ∷ numbered 2 1 ∷ numbered 3 1 ∷ numbered 0 0 ∷ other 2 (0 ∷ 0 ∷ 0 ∷ 1 ∷ 1 ∷ 1 ∷ []) 2
+    ∷ [])
     ≡ some 9 ∷ none ∷ some 3 ∷ some 2 ∷ some 1 ∷ []
 unfolding programFault areaFine areaBound unword word inPlace
 others = refl

@@ -11,7 +11,7 @@ use Rattle.words.specs.Areas.{entriesIn, entryField}
 use Rattle.words.specs.declared.reply.Totals.{Totals}
 use Rattle.definition.specs.Within.{Program, allBelow, marked, present, where′, constantBound}
 use Rattle.definition.specs.ProgramCheck.{zeros, valueKnown, wholeKnown}
-use Rattle.definition.proofs.Tests.{first-of, second-of, below-at}
+use Rattle.definition_laws.proofs.Tests.{first-of, second-of, below-at}
 use Rattle.program_check.specs.Parts.{alone, entryFine, entriesFine}
 use Rattle.program_check.proofs.Below.{holds, min-is}
 

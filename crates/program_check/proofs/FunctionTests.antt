@@ -13,8 +13,8 @@ use Rattle.words.specs.Areas.{widthOf, entriesIn, entryField}
 use Rattle.words.specs.Opcode.{unword}
 use Rattle.words.specs.declared.reply.Totals.{Totals}
 use Rattle.definition.specs.Within.{Program, Class, Position, Slot, Read, Pool, ContextSlot, Other, classOf, instructionAt}
-use Rattle.definition.specs.Within.{startOf, lengthOf, localsOf, has, allBelow, where′, boundByFunction}
-use Rattle.definition.proofs.Tests.{first-of, second-of, below-at}
+use Rattle.definition.specs.Within.{startOf, lengthOf, localsOf, hasInstruction, allBelow, where′, boundByFunction}
+use Rattle.definition_laws.proofs.Tests.{first-of, second-of, below-at}
 use Rattle.program_check.specs.Instructions.{jumpBy, localsBy, jumpOf, localsNeeded}
 use Rattle.program_check.specs.Functions.{codeAnd, keepsAt, rangeKeeps, keepsIn, functionKeeps, functionsKeep}
 use Rattle.program_check.proofs.Below.{true-by, and-holds, and-true, same-truth, where-in, where-out, every, below-turn, below-no, below-done}
@@ -82,10 +82,11 @@ module _ (code functions : List ℕ) (t : Totals) (j : ℕ) where
 
   pub function-past : {start : ℕ} → start ≡ entryField 8 j 4 functions → t .code < start → true ≡ functionKeeps program j
   unfolding functionKeeps entryField
-  function-past e h = true-by (functionKeeps program j) (every (t .code) (keepsIn program j) (λ i l. where-in (has program j i) (bound i) (λ x. absurd (go
+  function-past e h = true-by (functionKeeps program j) (every (t .code) (keepsIn program j) (λ i l. where-in (hasInstruction program j i) (bound i)
+      (λ x. absurd (go
       i l x))))
     where
-      go : (i : ℕ) → i < t .code → T (has program j i) → ⊥
+      go : (i : ℕ) → i < t .code → T (hasInstruction program j i) → ⊥
       go i l x =
           let q : startOf program j ≤ i = leb→le (startOf program j) i (first-of (leb (startOf program j) i) (ltb i (startOf program j + lengthOf program
           j)) x) in
@@ -101,9 +102,9 @@ module _ (code functions : List ℕ) (t : Totals) (j : ℕ) where
       test k = keepsAt code (lengthOf program j) (localsOf program j) (startOf program j + k)
 
       there : T (allBelow count test) → T (allBelow (t .code) (keepsIn program j))
-      there x = every (t .code) (keepsIn program j) (λ i l. where-in (has program j i) (bound i) (λ y. one i l y))
+      there x = every (t .code) (keepsIn program j) (λ i l. where-in (hasInstruction program j i) (bound i) (λ y. one i l y))
         where
-          one : (i : ℕ) → i < t .code → T (has program j i) → T (bound i)
+          one : (i : ℕ) → i < t .code → T (hasInstruction program j i) → T (bound i)
           one i l y =
               let a : startOf program j ≤ i = leb→le (startOf program j) i
               (first-of (leb (startOf program j) i) (ltb i (startOf program j + lengthOf program j)) y) in
@@ -120,7 +121,7 @@ module _ (code functions : List ℕ) (t : Totals) (j : ℕ) where
           one k l =
               let y : startOf program j + k < t .code = omega arith in
               subst T (sym (at-is (startOf program j + k)))
-              (where-out (has program j (startOf program j + k)) (bound (startOf program j + k)) (below-at (t .code) (keepsIn program j) x (startOf
+              (where-out (hasInstruction program j (startOf program j + k)) (bound (startOf program j + k)) (below-at (t .code) (keepsIn program j) x (startOf
               program j + k) y)
               (and-holds (leb (startOf program j) (startOf program j + k)) (ltb (startOf program j + k) (startOf program j + lengthOf program j))
               (le→leb (startOf program j) (startOf program j + k) (omega arith))

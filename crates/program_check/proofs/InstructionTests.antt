@@ -14,7 +14,7 @@ use Rattle.words.specs.declared.reply.Totals.{Totals}
 use Rattle.definition.specs.Book.{hasText}
 use Rattle.definition.specs.Within.{Program, Class, Position, Slot, Read, Pool, ContextSlot, Other, classOf, allBelow, where′, boundByTotals}
 use Rattle.definition.specs.ProgramCheck.{opcodes, isOperation}
-use Rattle.definition.proofs.Tests.{first-of, second-of, below-at}
+use Rattle.definition_laws.proofs.Tests.{first-of, second-of, below-at}
 use Rattle.program_check.specs.Instructions.{classNumber, jumpBy, localsBy, jumpOf, localsNeeded}
 use Rattle.program_check.specs.Parts.{alone, entryFine}
 

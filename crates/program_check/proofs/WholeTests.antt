@@ -13,10 +13,11 @@ use Rattle.words.specs.declared.reply.Totals.{Totals}
 use Rattle.tree.specs.declared.Shape.{Shape}
 use Rattle.tree.specs.declared.Shape.the-variants.{Fine, Refused}
 use Rattle.definition.specs.Promise.{areas}
-use Rattle.definition.specs.Within.{Areas, Program, Class, Position, Slot, Read, Pool, ContextSlot, Other, classOf, total, present, cell, instructionAt, has}
+use Rattle.definition.specs.Within.{Areas, Program, Class, Position, Slot, Read, Pool}
+use Rattle.definition.specs.Within.{ContextSlot, Other, classOf, total, present, cell, instructionAt, hasInstruction}
 use Rattle.definition.specs.Within.{allBelow, where′, marked, boundByTotals, boundByFunction, areaBound, entryBound}
 use Rattle.definition.specs.ProgramCheck.{entryKnown, wholeKnown, zeros, areaFine, firstFault, programFault, sameKey, beginsWell}
-use Rattle.definition.proofs.Tests.{first-of, second-of, below-at}
+use Rattle.definition_laws.proofs.Tests.{first-of, second-of, below-at}
 use Rattle.program_check.specs.Parts.{lent, alone, byTotals, entryFine, entriesFine}
 use Rattle.program_check.specs.Keys.{differsFrom, freshBy, keysBy}
 use Rattle.program_check.specs.Functions.{codeAnd, keepsIn, functionKeeps, functionsKeep}
@@ -169,7 +170,7 @@ unfolding functionsKeep functionKeeps
 functions-same c d f x t =
     below-same (present (codeAnd c f t) 3) (functionKeeps (codeAnd c f t)) (functionKeeps (lent ([] ∷ c ∷ d ∷ f ∷ x) t)) (λ j.
     below-same (t .code) (keepsIn (codeAnd c f t) j) (keepsIn (lent ([] ∷ c ∷ d ∷ f ∷ x) t) j) (λ i.
-    ap (λ (b : Bool). where′ (has (codeAnd c f t) j i) b)
+    ap (λ (b : Bool). where′ (hasInstruction (codeAnd c f t) j i) b)
     (bounds-same (classOf (instructionAt ([] ∷ c ∷ []) i .opcode)) c d f x t j (instructionAt ([] ∷ c ∷ []) i .operand))))
 
 marked-same : (x y : Areas) (n : ℕ) → getD x 2 [] ≡ getD y 2 [] → marked x n ≡ marked y n

@@ -5,7 +5,7 @@ use mathlib.Core.List.{List, [], _∷_}
 use lib.Dec.{leb}
 use Rattle.words.specs.Areas.{codeArea, functionsArea, entryField}
 use Rattle.words.specs.declared.reply.Totals.{Totals}
-use Rattle.definition.specs.Within.{Program, total, present, instructionAt, classOf, has, allBelow, where′, boundByFunction}
+use Rattle.definition.specs.Within.{Program, total, present, instructionAt, classOf, hasInstruction, allBelow, where′, boundByFunction}
 use Rattle.program_check.specs.Instructions.{jumpOf, localsNeeded}
 use Rattle.program_check.specs.Parts.{lent}
 
@@ -23,7 +23,7 @@ rangeKeeps code from count length locals = allBelow count (λ k. keepsAt code le
 -- instruction i keeps the bounds of function j, where that has it
 abbrev pub keepsIn : Program → ℕ → ℕ → Bool
 keepsIn p j i =
-    where′ (has p j i) (boundByFunction (classOf (instructionAt (p .areas) i .opcode)) p j (instructionAt (p .areas) i .operand))
+    where′ (hasInstruction p j i) (boundByFunction (classOf (instructionAt (p .areas) i .opcode)) p j (instructionAt (p .areas) i .operand))
 
 unfoldable pub functionKeeps : Program → ℕ → Bool
 functionKeeps p j = allBelow (total p codeArea) (keepsIn p j)

@@ -9,7 +9,7 @@ use crate::sources::Sources;
 use crate::style::counted;
 use clover_back_end::nodes::documents;
 use clover_back_end::records::RECORD_WORDS;
-use clover_back_end::{Areas, Mode, Program, Refusal, Text, Texts};
+use clover_back_end::{Area, Areas, Mode, Program, Refusal, Text, Texts};
 
 /// Options of every command that compiles.
 pub const CHOICES: &[Choice] = &[
