@@ -1,3 +1,4 @@
 pub mod Represents
 pub mod Leaves
 pub mod Members
+pub mod RepresentsBook
