@@ -49,9 +49,19 @@ fn show(name: &[u8], form: &[u8], buffer: &[u8], place: Place) {
 // Both forms over buffers of the same length.
 fn both(name: &[u8], buffer: &mut [u8], buffer_too: &mut [u8], offset: usize, line: Fields) {
     let place = writer::write_line(buffer, offset, line);
-    show(name, b", the writer with its buffer: offset ", buffer, place);
+    show(
+        name,
+        b", the writer with its buffer: offset ",
+        buffer,
+        place,
+    );
     let place_too = write_line(buffer_too, offset, line);
-    show(name, b", on slice and offset: offset ", buffer_too, place_too);
+    show(
+        name,
+        b", on slice and offset: offset ",
+        buffer_too,
+        place_too,
+    );
 }
 
 // A line in a buffer of its own length.
@@ -91,20 +101,29 @@ fn line_of(section: u64, each: u64, last: u64, signed: bool) -> Fields {
 }
 
 fn main() {
-    whole(b"an instruction", Fields {
-        section: 3,
-        first: 1,
-        second: 20,
-        third: 300,
-        fourth: 4000,
-        fifth: 50000,
-        sixth: 0,
-        last: 72057594037927935,
-        signed: false,
-    });
-    whole(b"the smallest integer", line_of(4, 0, 9223372036854775808, true));
+    whole(
+        b"an instruction",
+        Fields {
+            section: 3,
+            first: 1,
+            second: 20,
+            third: 300,
+            fourth: 4000,
+            fifth: 50000,
+            sixth: 0,
+            last: 72057594037927935,
+            signed: false,
+        },
+    );
+    whole(
+        b"the smallest integer",
+        line_of(4, 0, 9223372036854775808, true),
+    );
     whole(b"minus one", line_of(4, 0, 18446744073709551615, true));
-    whole(b"the widest numbers", line_of(4, 99999999, 18446744073709551615, false));
+    whole(
+        b"the widest numbers",
+        line_of(4, 99999999, 18446744073709551615, false),
+    );
     short(b"a byte short", line_of(9999, 7, 7, true));
     inside(b"in the midst", 3, line_of(10, 7, 42, false));
     inside(b"up to the end", 6, line_of(11, 7, 42, false));
