@@ -28,6 +28,8 @@ pub struct Seen {
     pub bundles: u64,
     /// Bundles that need more code than is tried.
     pub left_out: u64,
+    /// Lengths that were tried, and calls of the library: both modes with each.
+    pub lengths: u64,
     pub calls: u64,
     /// Strict answers by row.
     pub rows: [u64; 12],
@@ -40,12 +42,19 @@ pub struct Seen {
 
 impl Seen {
     pub fn print(&self) {
-        println!("bundles {} ({} left out), calls {}", self.bundles, self.left_out, self.calls);
+        println!(
+            "bundles {} ({} left out), lengths {}, calls of the library {}",
+            self.bundles, self.left_out, self.lengths, self.calls
+        );
         let rows = self.rows.iter().enumerate().filter(|row| *row.1 > 0);
-        println!("strict answers by row: {}", rows.map(|(row, n)| format!("{row}: {n}")).collect::<Vec<_>>().join(", "));
+        println!(
+            "strict answers by row: {}",
+            rows.map(|(row, n)| format!("{row}: {n}")).collect::<Vec<_>>().join(", ")
+        );
         println!("row 9 ahead of such an include {}", self.full_before);
         let [misspelt, private, repeated, missing] = self.changed;
         println!("includes misspelt {misspelt}, private {private}, repeated {repeated}, missing {missing}");
+        println!("differences {}", u64::from(self.first.is_some()));
     }
 }
 
@@ -74,15 +83,19 @@ fn spoilt(words: &[u64], random: &mut Random, changed: &mut [u64; 4]) -> Vec<u64
             if mend {
                 include.children.iter_mut().step_by(2).for_each(|name| name.value = random.pick(&public));
             }
-            if include.children.is_empty() || random.below(6) > 0 {
+            // A damaged include may have half a pair.
+            if include.children.len() < 2 || random.below(6) > 0 {
                 continue;
             }
             let at = 2 * random.index(include.children.len() / 2);
-            let way = random.index(4);
-            changed[way] += 1;
             let private = names(&as_they_are, include.value, false);
+            let way = match random.index(4) {
+                1 if private.is_empty() => 0,
+                way => way,
+            };
+            changed[way] += 1;
             match way {
-                1 if !private.is_empty() => include.children[at].value = random.pick(&private),
+                1 => include.children[at].value = random.pick(&private),
                 2 => {
                     let pair = [include.children[at].clone(), include.children[at + 1].clone()];
                     include.children.extend(pair);
@@ -166,7 +179,7 @@ fn one(words: &[u64], side: &mut Option<&mut dyn Modes>, seen: &mut Seen) -> Res
     let free_row = must(words, &present, &present, &UNLIMITED);
     for lengths in tried(&present, &strict) {
         let (tight, run) = (compile(words, &lengths), compile_by(STRICT, words, &lengths));
-        seen.calls += 1;
+        seen.lengths += 1;
         if tight.reply.row == NAME_NOT_PUBLIC {
             return Err(format!("lengths {lengths:?}: the present mode answers row 11"));
         }
@@ -187,6 +200,7 @@ fn one(words: &[u64], side: &mut Option<&mut dyn Modes>, seen: &mut Seen) -> Res
         if let Some(side) = side {
             judge(*side, false, words, &lengths, &tight)?;
             judge(*side, true, words, &lengths, &run)?;
+            seen.calls += 2;
         }
     }
     Ok(())
