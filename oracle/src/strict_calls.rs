@@ -223,6 +223,58 @@ pub fn compare_modes(mut side: Option<&mut dyn Modes>, seed: u64, count: u64) ->
 mod tests {
     use super::*;
 
+    /// A way in which a side is wrong.
+    #[derive(Clone, Copy, Debug)]
+    enum Fault {
+        ModeUnread,
+        AlwaysStrict,
+        PlaceOfTheBook,
+        RowSevenFirst,
+        StaleAfterRow11,
+    }
+
+    /// The model with a fault, or without.
+    struct Wrong(Option<Fault>);
+
+    impl Modes for Wrong {
+        fn compile_in<'a>(&mut self, strict: bool, words: &[u64], mut areas: Lent<'a>) -> Answered<'a> {
+            let lengths = areas.each_ref().map(|area| area.len());
+            let strict = match self.0 {
+                Some(Fault::ModeUnread) => false,
+                Some(Fault::AlwaysStrict) => true,
+                _ => strict,
+            };
+            let mut run = compile_by(Rules { strict }, words, &lengths);
+            let mut stale = false;
+            if run.reply.row == NAME_NOT_PUBLIC {
+                match self.0 {
+                    Some(Fault::PlaceOfTheBook) => run.reply.place -= 1,
+                    Some(Fault::RowSevenFirst) => {
+                        let present = compile(words, &lengths);
+                        run = if present.reply.row == 7 { present } else { run };
+                    }
+                    Some(Fault::StaleAfterRow11) => stale = true,
+                    _ => {}
+                }
+            }
+            for (i, (area, made)) in areas.iter_mut().zip(&run.areas).enumerate() {
+                area[..made.len()].copy_from_slice(made);
+                let kept = usize::from(stale && i == 6 && !area.is_empty());
+                area[made.len() + kept..].fill(0);
+            }
+            Answered { reply: run.reply.into(), areas: areas.map(|area| &*area) }
+        }
+    }
+
+    #[test]
+    fn planted_faults_are_seen() {
+        use Fault::*;
+        assert_eq!(compare_modes(Some(&mut Wrong(None)), 5, 300).first, None);
+        for fault in [ModeUnread, AlwaysStrict, PlaceOfTheBook, RowSevenFirst, StaleAfterRow11] {
+            assert!(compare_modes(Some(&mut Wrong(Some(fault))), 5, 300).first.is_some(), "{fault:?}");
+        }
+    }
+
     #[test]
     fn both_modes_of_the_model() {
         let seen = compare_modes(None, 5, 400);
