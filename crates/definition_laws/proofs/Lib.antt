@@ -26,3 +26,6 @@ pub mod SharedOnce
 pub mod Modes
 pub mod Strict
 pub mod StrictRefuses
+pub mod PassingAreas
+pub mod ReadBack
+pub mod ReadSafe
