@@ -29,3 +29,6 @@ pub mod StrictRefuses
 pub mod PassingAreas
 pub mod ReadBack
 pub mod ReadSafe
+pub mod OntoStays
+pub mod OntoGrows
+pub mod OntoLeast
