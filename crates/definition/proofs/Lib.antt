@@ -4,3 +4,4 @@ pub mod AllOntoRows
 pub mod AllStrictRows
 pub mod WithinBench
 pub mod PromiseBench
+pub mod LaysOnBench

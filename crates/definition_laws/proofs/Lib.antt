@@ -32,3 +32,4 @@ pub mod ReadSafe
 pub mod OntoStays
 pub mod OntoGrows
 pub mod OntoLeast
+pub mod LaysOn
