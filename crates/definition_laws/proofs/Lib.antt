@@ -33,3 +33,4 @@ pub mod OntoStays
 pub mod OntoGrows
 pub mod OntoLeast
 pub mod LaysOn
+pub mod CommitAsTrial
