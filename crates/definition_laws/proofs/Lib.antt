@@ -34,3 +34,5 @@ pub mod OntoGrows
 pub mod OntoLeast
 pub mod LaysOn
 pub mod CommitAsTrial
+pub mod StandingWords
+pub mod StandingRoot
