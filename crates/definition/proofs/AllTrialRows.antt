@@ -1,10 +1,12 @@
 -- All rows of specs/TrialBench.antt, each by computing. Assumes nothing.
 use mathlib.Core.Path.{refl}
-use Rattle.definition.specs.TrialBench.{called, committing, TrialRows}
+use Rattle.definition.specs.TrialBench.{called, committing, freshly, TrialRows}
 
 pub trial-rows : TrialRows
-unfolding called committing
+unfolding called committing freshly
 trial-rows = record {
+  fresh-counts = refl;
+  fresh-refused = refl;
   trial-delivers = refl;
   lay-counts = refl;
   commit-delivers = refl;

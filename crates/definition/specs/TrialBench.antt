@@ -7,8 +7,10 @@ use mathlib.Core.List.{List, [], _∷_, _++_}
 use lib.ListN.{set}
 use Rattle.words.specs.Object.{functionKind}
 use Rattle.words.specs.Opcode.{ReturnOp, GlobalGet}
+use Rattle.definition.specs.Answer.{answer}
 use Rattle.definition.specs.Within.{Areas, Program}
-use Rattle.definition.specs.Trial.{CountedProgram, CountedReply, Order, Lay, Trial, Commit, countedFault, judged, ordered, replyOrdered, areasOrdered}
+use Rattle.definition.specs.Trial.{CountedProgram, CountedReply, freshBundles, Order, Lay, Trial, Commit}
+use Rattle.definition.specs.Trial.{countedFault, judged, ordered, replyOrdered, areasOrdered}
 use Rattle.definition.specs.Bench.{r, bundle, ample}
 use Rattle.definition.specs.PriorBench.{code}
 use Rattle.definition.specs.OntoBench.{After, laid, refused, standing, withOldErrors, wrongEntryPoint, wordSet, lentIn, listing, grown, standingConstants}
@@ -71,7 +73,15 @@ returnsOnce = book7 (r 14 2 0 12 ∷ r 21 1 0 0 ∷ [])
 abbrev pub twoStatements : List ℕ
 twoStatements = book7 (r 14 5 0 12 ∷ r 25 2 0 0 ∷ r 32 1 0 0 ∷ r 25 2 0 0 ∷ r 32 1 0 0 ∷ [])
 
+-- the count after a fresh call
+unfoldable pub freshly : List ℕ → ℕ
+unfolding called
+freshly w = freshBundles (answer false w ample)
+
 pub record TrialRows : Type 0 where
+  -- "1 when fresh", and 0 with all totals of a refusal
+  pub fresh-counts : freshly (book7 []) ≡ 1
+  pub fresh-refused : freshly (book7 faulty) ≡ 0
   -- a trial answers the totals that the program would have; the program is unchanged, old errors go, and the count is handed on
   pub trial-delivers : called Trial readsGlobal (counted 1 withOldErrors) ≡ deliveredWith 1 (numbersOf grownByGlobal standing)
   -- laying on and the commit of that trial: the words, and a count of one more
