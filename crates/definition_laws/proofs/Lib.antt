@@ -33,3 +33,6 @@ pub mod OntoStays
 pub mod OntoGrows
 pub mod OntoLeast
 pub mod LaysOn
+pub mod CommitAsTrial
+pub mod StandingWords
+pub mod StandingRoot

@@ -137,7 +137,7 @@ entriesOf-wide width (suc n) m h =
     & entriesOf-wide width n (drop width m) (omega (arith, suc-mul n width, length-drop width m))
 
 -- the words of the first n entries, and the words after them
-entriesOf-split : (width n : ℕ) (m : List ℕ) → flat (entriesOf width n m) ++ drop (n * width) m ≡ m
+pub entriesOf-split : (width n : ℕ) (m : List ℕ) → flat (entriesOf width n m) ++ drop (n * width) m ≡ m
 entriesOf-split width zero m = rw (zero-mul width) refl
 entriesOf-split width (suc n) m =
     append-assoc (take width m) (flat (entriesOf width n (drop width m))) (drop (suc n * width) m)

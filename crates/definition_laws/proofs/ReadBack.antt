@@ -143,7 +143,7 @@ module _ (strict : Bool) (p : Program) (s : ProgramPasses p) where
   no-entries : (area : ℕ) → T (eqb (total p area) 0) → [] ≡ lentEntries p area
   no-entries area t = ap (λ n. entriesOf (widthOf area) n (getD (p .areas) area [])) (sym (eqb→eq (total p area) 0 t))
 
-  lent-table : (area : ℕ) → 0 < area → area < 13 → area ≢ errorsArea → getD (lentTables p) area [] ≡ lentEntries p area
+  pub lent-table : (area : ℕ) → 0 < area → area < 13 → area ≢ errorsArea → getD (lentTables p) area [] ≡ lentEntries p area
   lent-table zero h k o = absurd (omega arith)
   lent-table (suc zero) h k o = refl
   lent-table (suc (suc zero)) h k o = refl
