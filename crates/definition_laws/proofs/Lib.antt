@@ -26,3 +26,5 @@ pub mod SharedOnce
 pub mod Modes
 pub mod Strict
 pub mod StrictRefuses
+pub mod Ranges
+pub mod KnownSteps
