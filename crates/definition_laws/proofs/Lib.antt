@@ -28,3 +28,5 @@ pub mod Strict
 pub mod StrictRefuses
 pub mod Ranges
 pub mod KnownSteps
+pub mod DistinctKeys
+pub mod KnownBooks
