@@ -133,7 +133,7 @@ pub one-position-each : (strict : Bool) (w lengths : List ℕ) (c : Context) →
 one-position-each strict w lengths c e = all-map (λ f s. s .0 .sized) (answer-stands strict w lengths c e .safe .parts .functions)
 
 -- the entries of each area are within what was lent
-stands-area : (lengths : List ℕ) (c : Context) → Stands lengths c → (area : ℕ) → length (getD (tablesOf c) area []) ≤ limitOf (limitsOf lengths) area
+pub stands-area : (lengths : List ℕ) (c : Context) → Stands lengths c → (area : ℕ) → length (getD (tablesOf c) area []) ≤ limitOf (limitsOf lengths) area
 stands-area lengths c s area =
     let x = List·getD-map (λ (es : Entries). length es) (tablesOf c) area [] in
     let y = ap (λ l. getD l area 0) (totals-counted c (s .safe)) in

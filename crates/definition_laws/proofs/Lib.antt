@@ -29,4 +29,6 @@ pub mod StrictRefuses
 pub mod Ranges
 pub mod KnownSteps
 pub mod DistinctKeys
+pub mod NeededOnce
 pub mod KnownBooks
+pub mod KnownContext
