@@ -89,7 +89,6 @@ all-errors [] = nil
 all-errors (e ∷ es) = tt & all-errors es
 
 module _ (n : ℕ) where
-
   known-constant : (c : Constant) (b : Book.Book) → KnownConstant c → KnownBook n b → KnownBook n (addBookConstant c b .book)
   known-constant c b h k =
       added-case (λ (a : Added). KnownBook n (resumed (a .work) b)) c (working b)

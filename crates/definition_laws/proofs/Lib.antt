@@ -32,3 +32,4 @@ pub mod DistinctKeys
 pub mod NeededOnce
 pub mod KnownBooks
 pub mod KnownContext
+pub mod Passes
