@@ -1,5 +1,6 @@
 pub mod AllRows
 pub mod AllStandingRows
+pub mod AllOntoRows
 pub mod AllStrictRows
 pub mod WithinBench
 pub mod PromiseBench

@@ -10,10 +10,12 @@ pub mod Answer
 pub mod HeadIncludes
 pub mod Within
 pub mod ProgramCheck
+pub mod Onto
 pub mod Promise
 pub mod SharedOnce
 pub mod Strict
 pub mod Bench
 pub mod WithinBench
 pub mod PriorBench
+pub mod OntoBench
 pub mod StrictBench

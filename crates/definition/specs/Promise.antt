@@ -2,20 +2,17 @@
 use Prim.Native.Nat.{ℕ}
 use mathlib.Core.Path.{_≡_}
 use mathlib.Core.Bool.{Bool}
-use mathlib.Core.List.{List, [], _∷_, map}
-use lib.ListN.{length}
+use mathlib.Core.List.{List, [], _∷_}
 use Rattle.words.specs.declared.reply.Reply as struct
 use Rattle.words.specs.Reply.{areaTotals}
 use Rattle.definition.specs.Answer.{Answer, Delivery, Refusal, Reply, answer, replyOf, areasOf}
 use Rattle.definition.specs.FunctionState.{Log}
+pub use Rattle.definition.specs.Within.{lengthsOf}
 use Rattle.definition.specs.Within.{Areas, Program, logsOf, KeepsWithin}
 
 -- the areas by number; no area has number 0
 abbrev pub areas : (c k f m p t l u n b e o : List ℕ) → Areas
 areas c k f m p t l u n b e o = [] ∷ c ∷ k ∷ f ∷ m ∷ p ∷ t ∷ l ∷ u ∷ n ∷ b ∷ e ∷ o ∷ []
-
-abbrev pub lengthsOf : Areas → List ℕ
-lengthsOf m = map (λ (l : List ℕ). length l) m
 
 -- the reply's numbers
 abbrev pub saying : struct.Reply → Reply
