@@ -493,8 +493,9 @@ module _ {E : Error → Type 0} {C : Constant → Type 0} (w : List ℕ) (here :
   unfolding compileFunctionDefinitionBase
   function-known f k i x v cs es =
       let v₁ = compileParameters (f .parameters) (withFunction newFunctionState v) in
-      let k₁ : KnownWork E C v₁ =
-      parameters (f .parameters) (i + 1) (x .parameters) .keeps _ (record { code = record { instructions = nil; positions = nil }; constants = cs; errors = es }) in
+      let k₀ : KnownWork E C (withFunction newFunctionState v) =
+      record { code = record { instructions = nil; positions = nil }; constants = cs; errors = es } in
+      let k₁ : KnownWork E C v₁ = parameters (f .parameters) (i + 1) (x .parameters) .keeps (withFunction newFunctionState v) k₀ in
       let v₂ = doing (λ g. withParameters (g .header .isInstance) (length (f .parameters)) g) v₁ in
       let v₃ = compileStatements (f .body) v₂ in
       let k₃ : KnownWork E C v₃ =

@@ -70,8 +70,8 @@ code-entries (x ∷ xs) [] (k & ks) nil fit = nil
 code-entries (x ∷ xs) (p ∷ ps) (k & ks) (q & qs) fit =
     (subst KnownInstruction (sym (unword-word x (fit 0 (omega arith)))) k, q) & code-entries xs ps ks qs (λ i h. fit (suc i) (omega arith))
 
-functions-code : (i : ℕ) (fs : List Function) → All KnownFunction fs → All (λ (f : Function). Each (λ j x. x .operand < 2 ^ 56) (f .state .code .instructions)) fs
-    → All CodeKnown (entriesFrom functionCode i fs)
+functions-code : (i : ℕ) (fs : List Function) → All KnownFunction fs
+    → All (λ (f : Function). Each (λ j x. x .operand < 2 ^ 56) (f .state .code .instructions)) fs → All CodeKnown (entriesFrom functionCode i fs)
 functions-code i [] nil nil = nil
 functions-code i (f ∷ fs) (k & ks) (h & hs) =
     all-append (code-entries (f .state .code .instructions) (f .state .code .positions) (k .code .instructions) (k .code .positions) h)
@@ -190,8 +190,10 @@ module _ (p : Program) (c : Context) (k : ContextKnown c) (operands : OperandsFi
   pair-differs : (area : ℕ) (es : Entries) → Holds (p .areas) (p .totals) area es → 1 < widthOf area → (i j : ℕ) → i < length es → j < length es
       → OtherKey (getD es j []) (getD es i []) → T (eqb (field p area i 0) (field p area j 0) && eqb (field p area i 1) (field p area j 1)) → ⊥
   pair-differs area es H wide i j a b d t =
-      let x = eqb→eq (field p area i 0) (field p area j 0) (first-of (eqb (field p area i 0) (field p area j 0)) (eqb (field p area i 1) (field p area j 1)) t) in
-      let y = eqb→eq (field p area i 1) (field p area j 1) (second-of (eqb (field p area i 0) (field p area j 0)) (eqb (field p area i 1) (field p area j 1)) t) in
+      let u = eqb (field p area i 0) (field p area j 0) in
+      let v = eqb (field p area i 1) (field p area j 1) in
+      let x = eqb→eq (field p area i 0) (field p area j 0) (first-of u v t) in
+      let y = eqb→eq (field p area i 1) (field p area j 1) (second-of u v t) in
       d .differ (sym (H .cells j 0 b (omega arith)) ∙ sym x ∙ H .cells i 0 a (omega arith)) (sym (H .cells j 1 b wide) ∙ sym y ∙ H .cells i 1 a wide)
 
   code-fine : Test (areaFine p codeArea)
@@ -378,8 +380,8 @@ context-passes lengths c n s k =
     beyond : (area : ℕ) → area < 13
         → Test (zeros (drop (getD (map (λ (es : Entries). length es) (tablesOf c)) area 0 * widthOf area) (getD (filledAll lengths (tablesOf c)) area [])))
     beyond area h =
-        rw (total-is area, area-is area h, ← flat-is area, drop-append-seam (flat (tables area)) (replicate (getD lengths area 0 - length (flat (tables area))) 0))
-        (zeros-only (getD lengths area 0 - length (flat (tables area))))
+        let n = getD lengths area 0 - length (flat (tables area)) in
+        rw (total-is area, area-is area h, ← flat-is area, drop-append-seam (flat (tables area)) (replicate n 0)) (zeros-only n)
 
 -- onto a context that stands and in which everything is known, and that is so again
 pub standing-answer-passes : (w lengths : List ℕ) (c r : Context) → length lengths ≡ 13 → Stands lengths c → ContextKnown c
