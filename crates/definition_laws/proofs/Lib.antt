@@ -33,3 +33,4 @@ pub mod NeededOnce
 pub mod KnownBooks
 pub mod KnownContext
 pub mod Passes
+pub mod PassesBench
