@@ -3,13 +3,12 @@
 use Prim.Native.Nat.{ℕ, zero, suc, _+_, _≤_, _<_}
 use native.Mathlib.Omega.{arith}
 use native.Mathlib.Decide.{decLt}
-use mathlib.Core.Path.{_≡_, refl, sym, subst, _∙_}
+use mathlib.Core.Path.{_≡_, sym, subst, _∙_}
 use mathlib.Core.Bool.{Bool, true, false, cond, not}
 use mathlib.Core.List.{List, [], _∷_, _++_}
 use lib.ListN.{length, getD}
 use lib.Dec.{T, eqb, ltb, eqb→eq, ltb→lt, nltb→le}
 use Rattle.definition.specs.FunctionState.{Entry}
-use Rattle.definition.specs.Prior.{Entries}
 use Rattle.definition.specs.Book.{Method, insertEntry, sameMethod, insertMethod, insertMethods}
 use Rattle.definition.specs.Program.{entriesFrom}
 use Rattle.definition.specs.DependencySolver.{insertNumber, without}

@@ -1,23 +1,21 @@
 -- What a book adds is known to 2026-01's check (`document-known`): its functions' code, every name and text, every constant; a book's methods and public names
 -- have distinct keys. By the invariant `KnownBook` over the deeds of a book. Assumes nothing.
-use Prim.Native.Nat.{ℕ, _+_, _≤_, _<_}
+use Prim.Native.Nat.{ℕ, _+_, _<_}
 use native.Mathlib.Omega.{arith}
-use mathlib.Core.Path.{_≡_, refl, sym, ap, subst, _∙_}
-use mathlib.Core.Bool.{Bool, true, false, cond}
+use mathlib.Core.Path.{_≡_, refl, sym, subst}
 use mathlib.Core.Option.{Option, none, some}
-use mathlib.Core.List.{List, [], _∷_, _++_}
-use lib.ListN.{length}
-use lib.Dec.{T, eqb}
+use mathlib.Core.List.{List, [], _∷_}
+use lib.Dec.{eqb}
 use Rattle.words.specs.Ast.{Token, Binding, Alias, FunctionDefinition, Definition, LocalDefinition, IncludeDefinition, ModelDefinition}
 use Rattle.words.specs.Ast.{PublicModelDefinition, PlainFunction, PublicFunction, ImplementDefinition, ApplyDefinition, Document}
 use Rattle.words.specs.Record.{spanAt, tokenAt}
-use Rattle.words.specs.Object.{Constant, constantOf, integerKind, floatKind, modelKind, functionKind}
-use Rattle.tree.specs.At.{Leaf, Headed, RunAt, NameAt, single, double, ValueAt, BindingAt, AliasAt, sizeF, FunctionAt, sizeD, DefinitionAt, DocumentAt}
+use Rattle.words.specs.Object.{Constant, constantOf, modelKind, functionKind}
+use Rattle.tree.specs.At.{Leaf, Headed, RunAt, NameAt, single, double, BindingAt, AliasAt, sizeF, FunctionAt, sizeD, DefinitionAt, DocumentAt}
 use Rattle.definition.specs.FunctionState.{Entry, FunctionState, findName}
 use Rattle.definition.specs.Uses.{Use}
-use Rattle.definition.specs.Compiler.{Error, Work, Added, compileFunctionDefinitionBase}
+use Rattle.definition.specs.Compiler.{Error, Added, compileFunctionDefinitionBase}
 use Rattle.definition.specs.Book
-use Rattle.definition.specs.Book.{Function, Model, Method, Assembly, Context, Placed, Properties, Methods, Made, Value, Standing, Adding, NoConstant}
+use Rattle.definition.specs.Book.{Function, Model, Method, Context, Placed, Properties, Methods, Made, Value, Standing, Adding, NoConstant}
 use Rattle.definition.specs.Book.{working, resumed, addBookConstant, defineContextLocal, defineContextLocalBy, setLocalValue, includedName, giveValue}
 use Rattle.definition.specs.Book.{compileAlias, compileIncludeDefinition, givesValues, compileInclude, valueOf, compileValue, compileBindingBy}
 use Rattle.definition.specs.Book.{compileBinding, compileLocalDefinition, hasText, addProperty, compileProperties, addModel, compileModelDefinition}

@@ -11,7 +11,7 @@ use lib.ListN.{length, getD, length-append, List·getD-append}
 use lib.Dec.{T, eqb, eqb→eq, eqb-refl}
 use Rattle.words.specs.Ast.{Document}
 use Rattle.words.specs.Areas.{instanceWord, functionNameWord}
-use Rattle.words.specs.Object.{Constant, constantOf, nullKind, booleanKind, defaultConstants}
+use Rattle.words.specs.Object.{Constant, constantOf, nullKind, booleanKind}
 use Rattle.words.specs.Opcode.{unword}
 use Rattle.words.specs.Record.{spanAt, tokenAt}
 use Rattle.tree.specs.At.{RunAt, DocumentAt, sizeDoc}
@@ -24,7 +24,7 @@ use Rattle.definition.specs.Compiler.{Error}
 use Rattle.definition.specs.Book.{Assembly, Context, newContext, bookCount, hasText, opened, compileDefinitions, compileDocument}
 use Rattle.definition.specs.Program.{entriesFrom, publicEntries, assemblyPublics, bookEntry, publicTable, bookTable}
 use Rattle.definition.specs.DependencySolver.{Worked, Delivered, findDocument, dependencies, allIn, ready, readyBy, without, afterBook, driveBy, drive}
-use Rattle.definition.specs.DependencySolver.{filesOf, loadedOf, compileNeeded}
+use Rattle.definition.specs.DependencySolver.{filesOf, compileNeeded}
 use Rattle.definition.specs.Answer.{Delivery, answerFrom}
 use Rattle.definition.specs.SharedOnce.{numbered}
 use Rattle.definition.specs.Within.{All, nil, _&_}
@@ -39,8 +39,7 @@ use Rattle.definition_laws.proofs.Strict.{stays-definitions}
 use Rattle.definition_laws.proofs.Counts.{ready-among}
 use Rattle.definition_laws.proofs.Answer.{delivering}
 use Rattle.definition_laws.proofs.Ranges.{IsText, IsPosition, Ranged, fine-ranged}
-use Rattle.definition_laws.proofs.KnownBooks.{TextNames, KnownPartsOf, KnownPublics, KnownBook, document-known, document-text}
-use Rattle.definition_laws.proofs.NeededOnce.{NeededOnce}
+use Rattle.definition_laws.proofs.KnownBooks.{TextNames, KnownPartsOf, document-known, document-text}
 use Rattle.definition_laws.proofs.DistinctKeys.{Distinct, none-left, _before_, distinct-append, OtherKey, OtherFile, OtherName, OtherNumber}
 use Rattle.definition_laws.proofs.DistinctKeys.{ascending-distinct, all-without, distinct-without, none-without}
 

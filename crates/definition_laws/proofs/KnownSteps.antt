@@ -4,11 +4,10 @@
 use Prim.Native.Nat.{ℕ, zero, suc, _+_, _-_, _≤_, _<_}
 use native.Mathlib.Omega.{arith}
 use mathlib.Core.Path.{_≡_, refl, sym, subst}
-use mathlib.Core.Bool.{Bool, true, false, not}
 use mathlib.Core.Option.{Option, none, some}
-use mathlib.Core.List.{List, [], _∷_, _++_}
+use mathlib.Core.List.{List, [], _∷_}
 use lib.ListN.{length, getD}
-use lib.Dec.{T, eqb, ltb, eqb→eq, ltb→lt}
+use lib.Dec.{eqb, ltb, ltb→lt}
 use Rattle.words.specs.Ast.{Token, Expression, Expressions, Variables, Statement, Statements, FunctionDefinition}
 use Rattle.words.specs.Ast.{Identifier, This, Null, Integer, Float, Text, Boolean, Array, Prefix, Infix, If, IfElse, Call, InstanceGet, IndexGet}
 use Rattle.words.specs.Ast.{∅ₑ, _∷ₑ_, ∅ᵥ, Bare, Valued, Local, Return, For, Break, Rescue, Expr, ∅ₛ, _∷ₛ_}
@@ -35,8 +34,8 @@ use Rattle.definition.specs.Compiler.{compileFloatExpression, compileIntegerExp
 use Rattle.definition.specs.Within.{All, nil, _&_}
 use Rattle.definition.specs.ProgramCheck.{isOperation, instructionKnown}
 use Rattle.definition_laws.proofs.Defining.{define-cases}
-use Rattle.definition_laws.proofs.Lists.{all-append, all-set, all-take, all-patch, cond-case, ne-of-test}
-use Rattle.definition_laws.proofs.Tests.{Test, both, or-first, or-second, less, equal, passes}
+use Rattle.definition_laws.proofs.Lists.{all-append, all-set, all-take, all-patch, cond-case}
+use Rattle.definition_laws.proofs.Tests.{Test, or-first, less, passes}
 use Rattle.definition_laws.proofs.Program.{added-case}
 use Rattle.definition_laws.proofs.Ranges.{IsText, IsPosition, Ranged, no-position, ranged-position, ranged-text, leaf-kind}
 

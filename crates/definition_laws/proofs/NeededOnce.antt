@@ -7,7 +7,7 @@ use lib.ListN.{length}
 use Rattle.words.specs.Ast.{Document}
 use Rattle.definition.specs.Book.{hasText}
 use Rattle.definition.specs.DependencySolver.{findDocument, dependenciesOf, insertNumber, insertNumbers, reachedFrom, neededIn, needed}
-use Rattle.definition.specs.Within.{All, nil, _&_}
+use Rattle.definition.specs.Within.{All, nil}
 use Rattle.definition_laws.proofs.DistinctKeys.{Distinct, none-left, LessThan, all-insert-number, ascending-insert}
 
 pub record NeededOnce (standing numbers : List ℕ) : Type 0 where

@@ -1,37 +1,37 @@
 -- What is delivered passes 2026-01's check again: `answer-passes` on a fresh context, `standing-answer-passes` onto any context that stands and in which
 -- everything is known, whose delivery is such a context again. The bounds are demand 3's (`WordsKeep`), what is known is `ContextKnown`'s, the words after the
 -- entries are zeros. Assumes nothing.
-use Prim.Native.Nat.{ℕ, zero, suc, _+_, _-_, _*_, _/_, _^_, _≤_, _<_, min}
+use Prim.Native.Nat.{ℕ, zero, suc, _+_, _-_, _*_, _/_, _^_, _≤_, _<_}
 use native.Mathlib.Nat.{mul-le-mul-right, div-mul-le-self}
 use native.Mathlib.Omega.{arith}
 use mathlib.Core.Path.{_≡_, refl, sym, ap, subst, _∙_}
-use mathlib.Core.Bool.{Bool, true, false, cond, _&&_, _||_}
+use mathlib.Core.Bool.{Bool, true, false, cond, _&&_}
 use mathlib.Core.Option.{Option, none, some}
-use mathlib.Core.List.{List, [], _∷_, _++_, map}
+use mathlib.Core.List.{List, [], _∷_, map}
 use lib.ListN.{length, getD, drop, replicate, length-append, length-replicate, List·getD-map}
 use lib.Seq.{drop-append-seam}
-use lib.Dec.{T, eqb, leb, eqb→eq}
+use lib.Dec.{T, eqb, eqb→eq}
 use Rattle.words.specs.Areas.{widths, widthOf, entriesIn, codeArea, constantsArea, functionsArea, modelsArea, propertiesArea, methodsArea}
 use Rattle.words.specs.Areas.{contextLocalsArea, publicNamesArea, scopeNamesArea, breaksArea, booksArea, instanceWord, functionNameWord}
 use Rattle.words.specs.Object.{Constant, constantOf, nullKind, booleanKind}
-use Rattle.words.specs.Opcode.{Instruction, unword, word}
+use Rattle.words.specs.Opcode.{Instruction, unword}
 use Rattle.words.proofs.Codes.{unword-word}
 use Rattle.definition.specs.FunctionState.{Entry, findName}
 use Rattle.definition.specs.Uses.{limitOf}
 use Rattle.definition.specs.Book.{Function, Model, Method, Assembly, Context, newContext, hasText}
-use Rattle.definition.specs.Program.{Entries, bit, entriesFrom, codeEntries, functionCode, constantEntry, functionEntry, functionEntries, modelEntry}
+use Rattle.definition.specs.Program.{Entries, bit, entriesFrom, codeEntries, functionCode, constantEntry, functionEntries, modelEntry}
 use Rattle.definition.specs.Program.{propertyEntries, modelProperties, methodEntry, localWords, localEntry, publicEntries, assemblyPublics, bookEntry}
 use Rattle.definition.specs.Program.{codeTable, constantTable, functionTable, modelTable, propertyTable, methodTable, localTable, publicTable, bookTable}
 use Rattle.definition.specs.Program.{tablesOf, flat, filled, filledAll}
-use Rattle.definition.specs.Answer.{Delivery, limitsBy, limitsOf, answerFrom, answer, areasOf, replyOf}
-use Rattle.definition.specs.Within.{All, nil, _&_, Program, Areas, Totals, total, present, field, marked, instructionAt, allBelow, where′, areaBound}
-use Rattle.definition.specs.Within.{entryPointBound, KeepsWithin}
-use Rattle.definition.specs.ProgramCheck.{isText, isPosition, isMark, instructionKnown, valueKnown, entryKnown, sameKey, keysDiffer, isConstant, beginsWell}
+use Rattle.definition.specs.Answer.{Delivery, limitsBy, answerFrom, answer, areasOf, replyOf}
+use Rattle.definition.specs.Within.{All, nil, _&_, Program, total, present, field, marked, allBelow, areaBound}
+use Rattle.definition.specs.Within.{entryPointBound}
+use Rattle.definition.specs.ProgramCheck.{isMark, instructionKnown, valueKnown, entryKnown, sameKey, keysDiffer, isConstant}
 use Rattle.definition.specs.ProgramCheck.{wholeKnown, zeros, areaFine, firstFault, programFault}
 use Rattle.definition.specs.SharedOnce.{numbered}
-use Rattle.definition_laws.proofs.Safe.{at, Each}
-use Rattle.definition_laws.proofs.Lists.{all-map, all-append}
-use Rattle.definition_laws.proofs.Tests.{Test, both, where-holds, less, at-most, equal, passes, all-below, first-of, second-of}
+use Rattle.definition_laws.proofs.Safe.{Each}
+use Rattle.definition_laws.proofs.Lists.{all-append}
+use Rattle.definition_laws.proofs.Tests.{Test, both, where-holds, at-most, equal, passes, all-below, first-of, second-of}
 use Rattle.definition_laws.proofs.Cells.{Wides, all-at, flat-length, filled-at, wide-at, wides-length, table-word, entries-all, single-length, single-at}
 use Rattle.definition_laws.proofs.FunctionCode.{OperandsFit}
 use Rattle.definition_laws.proofs.Keeps.{Holds, tables-wide, delivered, WordsKeep, program-keeps}
@@ -39,9 +39,9 @@ use Rattle.definition_laws.proofs.Delivery.{Stands, stands-fits, stands
 use Rattle.definition_laws.proofs.Program.{fresh-safe}
 use Rattle.definition_laws.proofs.Ranges.{IsText, IsPosition}
 use Rattle.definition_laws.proofs.KnownSteps.{KnownInstruction}
-use Rattle.definition_laws.proofs.KnownBooks.{KnownFunction, KnownModel, TextNames}
-use Rattle.definition_laws.proofs.KnownContext.{KnownAssembly, Begins, ContextKnown, standing-known, fresh-known}
-use Rattle.definition_laws.proofs.DistinctKeys.{Distinct, distinct-at, distinct-single, OtherKey, OtherFile, OtherMethod}
+use Rattle.definition_laws.proofs.KnownBooks.{KnownFunction, TextNames}
+use Rattle.definition_laws.proofs.KnownContext.{ContextKnown, standing-known, fresh-known}
+use Rattle.definition_laws.proofs.DistinctKeys.{Distinct, distinct-at, distinct-single, OtherKey, OtherFile}
 
 -- every entry of a table, by area
 

@@ -3,7 +3,7 @@
 use Prim.Native.Nat.{ℕ}
 use mathlib.Core.Path.{_≡_, refl}
 use mathlib.Core.Bool.{false}
-use mathlib.Core.Option.{Option, none, some}
+use mathlib.Core.Option.{none, some}
 use mathlib.Core.List.{List, [], _∷_, map}
 use Rattle.words.specs.Areas.{codeArea, constantsArea, functionsArea, contextLocalsArea, booksArea, functionNameWord}
 use Rattle.words.specs.Record.{inPlace}

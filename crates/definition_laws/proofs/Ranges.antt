@@ -3,17 +3,17 @@
 use Prim.Native.Nat.{ℕ, _+_, _*_, _%_, _≤_, _<_}
 use native.Mathlib.Omega.{arith}
 use native.Mathlib.Decide.{decLt}
-use mathlib.Core.Path.{_≡_, refl, sym, ap, subst, _∙_}
+use mathlib.Core.Path.{_≡_, sym, ap, subst, _∙_}
 use mathlib.Core.Bool.{Bool, true, false, _&&_}
 use mathlib.Core.List.{List}
 use lib.ListN.{length, getD, List·getD-eq-default}
-use lib.Dec.{T, eqb, leb, leb→le, eqb→eq}
+use lib.Dec.{T, leb, leb→le, eqb→eq}
 use Rattle.words.specs.Ast.{Token}
-use Rattle.words.specs.Record.{fieldOf, kindAt, spanAt, positionAt, valueAt, tokenAt, mostText, inPlace}
+use Rattle.words.specs.Record.{fieldOf, spanAt, tokenAt, mostText, inPlace}
 use Rattle.tree.specs.Rules.{ruleOf, mayBeAt, inRange}
 use Rattle.tree.specs.Check.{recordsOf, shapeOf}
 use Rattle.tree.specs.declared.Shape.the-variants.{Fine}
-use Rattle.tree.specs.At.{Head, Leaf, Headed}
+use Rattle.tree.specs.At.{Leaf, Headed}
 use Rattle.tree.proofs.Bundle.{fine-spells}
 use Rattle.definition.specs.ProgramCheck.{isText, isPosition}
 use Rattle.definition_laws.proofs.Tests.{Test, both, less, at-most, first-of, second-of}
