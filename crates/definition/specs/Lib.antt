@@ -11,6 +11,7 @@ pub mod HeadIncludes
 pub mod Within
 pub mod ProgramCheck
 pub mod Onto
+pub mod Trial
 pub mod Promise
 pub mod SharedOnce
 pub mod Strict
@@ -18,4 +19,5 @@ pub mod Bench
 pub mod WithinBench
 pub mod PriorBench
 pub mod OntoBench
+pub mod TrialBench
 pub mod StrictBench

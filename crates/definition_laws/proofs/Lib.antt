@@ -34,3 +34,11 @@ pub mod KnownBooks
 pub mod KnownContext
 pub mod Passes
 pub mod PassesBench
+pub mod PassingAreas
+pub mod ReadBack
+pub mod ReadSafe
+pub mod OntoStays
+pub mod OntoGrows
+pub mod OntoLeast
+pub mod LaysOn
+pub mod CommitAsTrial
