@@ -42,3 +42,5 @@ pub mod OntoGrows
 pub mod OntoLeast
 pub mod LaysOn
 pub mod CommitAsTrial
+pub mod ReadKnown
+pub mod OntoPasses
