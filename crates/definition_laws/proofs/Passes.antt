@@ -17,13 +17,12 @@ use Rattle.words.specs.Object.{Constant, constantOf, nullKind, booleanKind}
 use Rattle.words.specs.Opcode.{Instruction, unword}
 use Rattle.words.proofs.Codes.{unword-word}
 use Rattle.definition.specs.FunctionState.{Entry, findName}
-use Rattle.definition.specs.Uses.{limitOf}
 use Rattle.definition.specs.Book.{Function, Model, Method, Assembly, Context, newContext, hasText}
 use Rattle.definition.specs.Program.{Entries, bit, entriesFrom, codeEntries, functionCode, constantEntry, functionEntries, modelEntry}
 use Rattle.definition.specs.Program.{propertyEntries, modelProperties, methodEntry, localWords, localEntry, publicEntries, assemblyPublics, bookEntry}
 use Rattle.definition.specs.Program.{codeTable, constantTable, functionTable, modelTable, propertyTable, methodTable, localTable, publicTable, bookTable}
 use Rattle.definition.specs.Program.{tablesOf, flat, filled, filledAll}
-use Rattle.definition.specs.Answer.{Delivery, limitsBy, answerFrom, answer, areasOf, replyOf}
+use Rattle.definition.specs.Answer.{Delivery, answerFrom, answer, areasOf, replyOf}
 use Rattle.definition.specs.Within.{All, nil, _&_, Program, total, present, field, marked, allBelow, areaBound}
 use Rattle.definition.specs.Within.{entryPointBound}
 use Rattle.definition.specs.ProgramCheck.{isMark, instructionKnown, valueKnown, entryKnown, sameKey, keysDiffer, isConstant}
@@ -35,7 +34,7 @@ use Rattle.definition_laws.proofs.Tests.{Test, both, where-holds, at-mo
 use Rattle.definition_laws.proofs.Cells.{Wides, all-at, flat-length, filled-at, wide-at, wides-length, table-word, entries-all, single-length, single-at}
 use Rattle.definition_laws.proofs.FunctionCode.{OperandsFit}
 use Rattle.definition_laws.proofs.Keeps.{Holds, tables-wide, delivered, WordsKeep, program-keeps}
-use Rattle.definition_laws.proofs.Delivery.{Stands, stands-fits, stands-area, answer-stands, standing-stands}
+use Rattle.definition_laws.proofs.Delivery.{limits-at, Stands, stands-fits, stands-area, answer-stands, standing-stands}
 use Rattle.definition_laws.proofs.Program.{fresh-safe}
 use Rattle.definition_laws.proofs.Ranges.{IsText, IsPosition}
 use Rattle.definition_laws.proofs.KnownSteps.{KnownInstruction}
@@ -325,13 +324,6 @@ module _ (p : Program) (c : Context) (k : ContextKnown c) (operands : OperandsFi
 zeros-only : (n : ℕ) → Test (zeros (replicate n 0))
 zeros-only zero = passes
 zeros-only (suc n) = zeros-only n
-
-limits-at : (ks ns : List ℕ) (area : ℕ) → area < length ks → area < length ns
-    → limitOf (limitsBy ks ns) area ≡ entriesIn (getD ks area 0) (getD ns area 0)
-limits-at [] ns area h l = absurd (omega arith)
-limits-at (k ∷ ks) [] area h l = absurd (omega arith)
-limits-at (k ∷ ks) (n ∷ ns) zero h l = refl
-limits-at (k ∷ ks) (n ∷ ns) (suc area) h l = limits-at ks ns area (omega arith) (omega arith)
 
 -- entries that fit an area of n words leave it n words long
 filled-length : (width n : ℕ) (es : Entries) → length (flat es) ≡ length es * width → length es ≤ entriesIn width n → length (filled n es) ≡ n

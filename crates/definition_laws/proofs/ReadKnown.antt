@@ -10,7 +10,7 @@ use lib.ListN.{length, getD}
 use lib.Dec.{T, eqb, leb, leb→le, eqb→eq, eqb-refl}
 use Rattle.words.specs.Areas.{widthOf, codeArea, constantsArea, functionsArea, modelsArea, propertiesArea, methodsArea, contextLocalsArea}
 use Rattle.words.specs.Areas.{publicNamesArea, booksArea, instanceWord, functionNameWord}
-use Rattle.words.specs.Object.{Constant, constantOf, nullKind, booleanKind}
+use Rattle.words.specs.Object.{constantOf, nullKind, booleanKind}
 use Rattle.words.specs.Opcode.{unword}
 use Rattle.definition.specs.Book.{Method}
 use Rattle.definition.specs.Program.{Entries}
@@ -22,13 +22,10 @@ use Rattle.definition_laws.proofs.Tests.{Test, first-of, second-of, bel
 use Rattle.definition_laws.proofs.Ranges.{IsText, IsPosition}
 use Rattle.definition_laws.proofs.KnownContext.{Begins, ContextKnown}
 use Rattle.definition_laws.proofs.DistinctKeys.{Distinct, none-left, _before_, OtherKey, OtherFile, OtherMethod}
+use Rattle.definition_laws.proofs.ReadSafe.{where-of, and-of, all-of, constants-length, all-constants}
 use Rattle.definition_laws.proofs.PassingAreas.{Passing, ProgramPasses, check-passes, lent-length, lent-word}
 
 -- lists by their places
-
-all-of : {A : Type 0} {P : A → Type 0} (l : List A) (d : A) → ((i : ℕ) → i < length l → P (getD l i d)) → All P l
-all-of [] d f = nil
-all-of (x ∷ l) d f = f 0 (omega arith) & all-of l d (λ i h. f (suc i) (omega arith))
 
 distinct-of : {A : Type 0} {R : A → A → Type 0} (l : List A) (d : A) → ((j i : ℕ) → j < i → i < length l → R (getD l j d) (getD l i d)) → Distinct R l
 distinct-of [] d f = none-left
@@ -41,14 +38,6 @@ constants-at : (es : Entries) (i : ℕ) → i < length es → numbered (constant
 constants-at [] i h = absurd (omega arith)
 constants-at (e ∷ es) zero h = refl
 constants-at (e ∷ es) (suc i) h = constants-at es i (omega arith)
-
-constants-many : (es : Entries) → length (constantsOf es) ≡ length es
-constants-many [] = refl
-constants-many (e ∷ es) = ap suc (constants-many es)
-
-constants-all : {P : Constant → Type 0} {es : Entries} → All (λ (e : List ℕ). P (constantOf (getD e 0 0) (getD e 1 0))) es → All P (constantsOf es)
-constants-all nil = nil
-constants-all (p & ps) = p & constants-all ps
 
 methods-all : {es : Entries} → All (λ (e : List ℕ). IsText (getD e 1 0)) es → All (λ (m : Method). IsText (m .name)) (methodsSpelt es)
 methods-all nil = nil
@@ -89,7 +78,8 @@ module _ {p : Program} (s : ProgramPasses p) where
       )
 
   function-known : (i : ℕ) → i < total p functionsArea
-      → Test (isMark (getD (getD (lentEntries p functionsArea) i []) instanceWord 0)) × IsText (getD (getD (lentEntries p functionsArea) i []) functionNameWord 0)
+      → Test (isMark (getD (getD (lentEntries p functionsArea) i []) instanceWord 0))
+      × IsText (getD (getD (lentEntries p functionsArea) i []) functionNameWord 0)
   function-known i h =
       let a = isMark (field p functionsArea i instanceWord) in
       let b = isText (field p functionsArea i functionNameWord) in
@@ -97,10 +87,6 @@ module _ {p : Program} (s : ProgramPasses p) where
         subst (λ n. Test (isMark n)) (lent-word (s .functions) i instanceWord h (omega arith)) (record { holds = first-of a b t }),
         subst IsText (lent-word (s .functions) i functionNameWord h (omega arith)) (record { holds = second-of a b t }),
       )
-
-  where-then : (a b : Bool) → T (where′ a b) → T a → T b
-  where-then true b t u = t
-  where-then false b t u = absurd u
 
   local-known : (i : ℕ) → i < total p contextLocalsArea → IsText (getD (getD (lentEntries p contextLocalsArea) i []) 1 0)
       × (getD (getD (lentEntries p contextLocalsArea) i []) 2 0 ≡ 0 → getD (getD (lentEntries p contextLocalsArea) i []) 3 0 ≡ 0)
@@ -111,7 +97,7 @@ module _ {p : Program} (s : ProgramPasses p) where
       let t = s .locals .known i h in
       let w : (k : ℕ) → k < 4 → f k ≡ getD (getD (lentEntries p contextLocalsArea) i []) k 0 = λ k l. lent-word (s .locals) i k h l in (
         subst IsText (w 1 (omega arith)) (record { holds = first-of a b t }),
-        λ e. sym (w 3 (omega arith)) ∙ eqb→eq (f 3) 0 (where-then (eqb (f 2) 0) (eqb (f 3) 0) (second-of a b t)
+        λ e. sym (w 3 (omega arith)) ∙ eqb→eq (f 3) 0 (where-of (eqb (f 2) 0) (eqb (f 3) 0) (second-of a b t)
             (subst (λ n. T (eqb n 0)) (sym (w 2 (omega arith) ∙ e)) tt)),
       )
 
@@ -124,7 +110,7 @@ module _ {p : Program} (s : ProgramPasses p) where
   -- null, true, false
   begins : Begins (constantsOf (lentEntries p constantsArea))
   begins = record {
-    long = omega (arith, few, constants-many (lentEntries p constantsArea), lent-length p constantsArea);
+    long = omega (arith, few, constants-length (lentEntries p constantsArea), lent-length p constantsArea);
     null = first 0 nullKind 0 (omega arith) (second-of z₀ z₁ t₂);
     yes′ = first 1 booleanKind 1 (omega arith) (second-of (z₀ && z₁) z₂ t₁);
     no′ = first 2 booleanKind 0 (omega arith) (second-of (z₀ && z₁ && z₂) z₃ t₀);
@@ -178,17 +164,13 @@ module _ {p : Program} (s : ProgramPasses p) where
       let x : field p area i k ≡ field p area j k = lent-word a i k h wide ∙ sym e ∙ sym (lent-word a j k l wide) in
       subst (λ n. T (eqb (field p area i k) n)) x (eqb-refl (field p area i k))
 
-  and-then : (a b : Bool) → T a → T b → T (a && b)
-  and-then true b t u = u
-  and-then false b t u = absurd t
-
   pair-distinct : (area : ℕ) → Passing p area → 1 < widthOf area
       → ((i j : ℕ) → T (eqb (field p area i 0) (field p area j 0) && eqb (field p area i 1) (field p area j 1)) → T (sameKey p area i j))
       → T (keysDiffer p area) → Distinct OtherKey (lentEntries p area)
   pair-distinct area a wide f t = distinct-of (lentEntries p area) [] (λ j i h k.
       let l : i < total p area = omega (arith, k, lent-length p area) in
       record {
-        differ = λ x y. key-differs area a t i j h l (f i j (and-then (eqb (field p area i 0) (field p area j 0)) (eqb (field p area i 1) (field p area j 1))
+        differ = λ x y. key-differs area a t i j h l (f i j (and-of (eqb (field p area i 0) (field p area j 0)) (eqb (field p area i 1) (field p area j 1))
             (same-field area i j 0 a l (omega (arith, h, l)) (omega arith) x) (same-field area i j 1 a l (omega (arith, h, l)) wide y)));
       })
 
@@ -197,7 +179,8 @@ module _ {p : Program} (s : ProgramPasses p) where
       let l : i < total p booksArea = omega (arith, k, lent-length p booksArea) in
       record {
         differ = λ x. key-differs booksArea (s .books) (s .books .whole) i j h l
-            (and-then (eqb (field p booksArea i 0) (field p booksArea j 0)) true (same-field booksArea i j 0 (s .books) l (omega (arith, h, l)) (omega arith) x) tt);
+            (and-of (eqb (field p booksArea i 0) (field p booksArea j 0)) true
+            (same-field booksArea i j 0 (s .books) l (omega (arith, h, l)) (omega arith) x) tt);
       })
 
   passing-known : (strict : Bool) → ContextKnown (contextOf strict p)
@@ -213,7 +196,7 @@ module _ {p : Program} (s : ProgramPasses p) where
       books = each booksArea (λ i h. subst IsText (lent-word (s .books) i 0 h (omega arith)) (record { holds = s .books .known i h }));
     };
     parts = record {
-      constants = constants-all (each constantsArea constant-known);
+      constants = all-constants (each constantsArea constant-known);
       functions = nil;
       models = nil;
       methods = methods-all (names methodsArea (s .methods) (omega arith) (λ i h. s .methods .known i h));
