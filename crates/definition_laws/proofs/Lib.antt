@@ -44,3 +44,4 @@ pub mod LaysOn
 pub mod CommitAsTrial
 pub mod ReadKnown
 pub mod OntoPasses
+pub mod PromisePasses
