@@ -26,8 +26,8 @@ loop-holds c = (
   omega arith,
   refl,
   tt,
-  none-yet (c .before .before .args .width) (c .before .before .args .first) (c .before .before .args .second)
-      (c .before .before .args .words .now) (c .before .before .args .shares) (c .before .before .args .share) 0 (c .before .before .args .set .now),
+  none-yet (c .before .before .args .width) (c .before .before .args .first) (c .before .before .args .second) (c .before .before .args .words .now)
+      (c .before .before .args .shares) (c .before .before .args .share) 0 (c .before .before .args .set .now),
 )
 
 entry-differs-requires : tie.Need-entry-differs-requires Inv-loop μ-loop
