@@ -6,20 +6,27 @@ use std::fmt::Write;
 
 const SEED: u64 = 7;
 /// The program reads no more than 65,536 bytes, and a case of no more than these words and bytes.
-const MOST_INPUT: usize = 58_000;
+const MOST_INPUT: usize = 64_000;
 const MOST_PART: usize = 300;
 const MOST_ROOM: usize = 1900;
+/// Words of an error in area 11.
+const ENTRY: usize = 4;
 
-/// A line buffer one byte short, longer, of any length, or exactly long enough.
-fn buffer_length(case: &Case, index: u64) -> usize {
+/// A line buffer one byte short, longer, of any length, or exactly long enough; and what a case's name says of it.
+fn buffer_length(case: &Case, index: u64) -> (usize, &'static str) {
     let long = Case { out_len: 1 << 16, ..case.clone() };
     let needed = long.answer().0.total as usize;
     match index % 5 {
-        0 => needed.saturating_sub(1),
-        1 => needed + 7,
-        2 => index as usize % 50,
-        _ => needed,
+        0 => (needed.saturating_sub(1), "a byte short"),
+        1 => (needed + 7, "room to spare"),
+        2 => (index as usize % 50, "any room"),
+        _ => (needed, "exact"),
     }
+}
+
+/// A case's name, which ends at the line's first colon.
+fn name(case: &Case, index: u64, room: &str) -> String {
+    format!("list {index}, {} entries, {room}: ", case.errors.len() / ENTRY)
 }
 
 fn line(case: &Case) -> String {
@@ -50,13 +57,15 @@ pub fn files() -> BTreeMap<String, Vec<u8>> {
             break;
         }
         let mut case = case(SEED, index - 1);
-        case.out_len = buffer_length(&case, index);
+        let (length, room) = buffer_length(&case, index);
+        case.out_len = length;
         let parts = [case.errors.len(), case.table.len(), case.bytes.len()];
         if case.out_len > MOST_ROOM || parts.iter().any(|&part| part > MOST_PART) {
             continue;
         }
-        input += &line(&case);
-        output += &answer(&case);
+        let name = name(&case, index, room);
+        input += &(name.clone() + &line(&case));
+        output += &(name + &answer(&case));
     }
     BTreeMap::from([("stdin".to_string(), input.into_bytes()), ("stdout".to_string(), output.into_bytes())])
 }

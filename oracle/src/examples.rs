@@ -16,12 +16,13 @@ use std::collections::BTreeMap;
 use std::path::{Path, PathBuf};
 
 /// Sources of each bundle without their ending, the root first; the bundle has the root's name.
-const BUNDLES: [&[&str]; 8] = [
+const BUNDLES: [&[&str]; 9] = [
     &["snow"],
     &["drift", "snow"],
     &["combination"],
     &["utilisation", "combination"],
     &["limit_state", "factors"],
+    &["misspelt", "factors"],
     &["faulty"],
     &["revised/snow"],
     &["revised/combination"],

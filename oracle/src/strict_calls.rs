@@ -28,6 +28,8 @@ pub struct Seen {
     pub bundles: u64,
     /// Bundles that need more code than is tried.
     pub left_out: u64,
+    /// Lengths that were tried, and calls of the library: both modes with each.
+    pub lengths: u64,
     pub calls: u64,
     /// Strict answers by row.
     pub rows: [u64; 12],
@@ -40,12 +42,19 @@ pub struct Seen {
 
 impl Seen {
     pub fn print(&self) {
-        println!("bundles {} ({} left out), calls {}", self.bundles, self.left_out, self.calls);
+        println!(
+            "bundles {} ({} left out), lengths {}, calls of the library {}",
+            self.bundles, self.left_out, self.lengths, self.calls
+        );
         let rows = self.rows.iter().enumerate().filter(|row| *row.1 > 0);
-        println!("strict answers by row: {}", rows.map(|(row, n)| format!("{row}: {n}")).collect::<Vec<_>>().join(", "));
+        println!(
+            "strict answers by row: {}",
+            rows.map(|(row, n)| format!("{row}: {n}")).collect::<Vec<_>>().join(", ")
+        );
         println!("row 9 ahead of such an include {}", self.full_before);
         let [misspelt, private, repeated, missing] = self.changed;
         println!("includes misspelt {misspelt}, private {private}, repeated {repeated}, missing {missing}");
+        println!("differences {}", u64::from(self.first.is_some()));
     }
 }
 
@@ -74,15 +83,19 @@ fn spoilt(words: &[u64], random: &mut Random, changed: &mut [u64; 4]) -> Vec<u64
             if mend {
                 include.children.iter_mut().step_by(2).for_each(|name| name.value = random.pick(&public));
             }
-            if include.children.is_empty() || random.below(6) > 0 {
+            // A damaged include may have half a pair.
+            if include.children.len() < 2 || random.below(6) > 0 {
                 continue;
             }
             let at = 2 * random.index(include.children.len() / 2);
-            let way = random.index(4);
-            changed[way] += 1;
             let private = names(&as_they_are, include.value, false);
+            let way = match random.index(4) {
+                1 if private.is_empty() => 0,
+                way => way,
+            };
+            changed[way] += 1;
             match way {
-                1 if !private.is_empty() => include.children[at].value = random.pick(&private),
+                1 => include.children[at].value = random.pick(&private),
                 2 => {
                     let pair = [include.children[at].clone(), include.children[at + 1].clone()];
                     include.children.extend(pair);
@@ -166,7 +179,7 @@ fn one(words: &[u64], side: &mut Option<&mut dyn Modes>, seen: &mut Seen) -> Res
     let free_row = must(words, &present, &present, &UNLIMITED);
     for lengths in tried(&present, &strict) {
         let (tight, run) = (compile(words, &lengths), compile_by(STRICT, words, &lengths));
-        seen.calls += 1;
+        seen.lengths += 1;
         if tight.reply.row == NAME_NOT_PUBLIC {
             return Err(format!("lengths {lengths:?}: the present mode answers row 11"));
         }
@@ -187,6 +200,7 @@ fn one(words: &[u64], side: &mut Option<&mut dyn Modes>, seen: &mut Seen) -> Res
         if let Some(side) = side {
             judge(*side, false, words, &lengths, &tight)?;
             judge(*side, true, words, &lengths, &run)?;
+            seen.calls += 2;
         }
     }
     Ok(())
@@ -208,6 +222,58 @@ pub fn compare_modes(mut side: Option<&mut dyn Modes>, seed: u64, count: u64) ->
 #[cfg(test)]
 mod tests {
     use super::*;
+
+    /// A way in which a side is wrong.
+    #[derive(Clone, Copy, Debug)]
+    enum Fault {
+        ModeUnread,
+        AlwaysStrict,
+        PlaceOfTheBook,
+        RowSevenFirst,
+        StaleAfterRow11,
+    }
+
+    /// The model with a fault, or without.
+    struct Wrong(Option<Fault>);
+
+    impl Modes for Wrong {
+        fn compile_in<'a>(&mut self, strict: bool, words: &[u64], mut areas: Lent<'a>) -> Answered<'a> {
+            let lengths = areas.each_ref().map(|area| area.len());
+            let strict = match self.0 {
+                Some(Fault::ModeUnread) => false,
+                Some(Fault::AlwaysStrict) => true,
+                _ => strict,
+            };
+            let mut run = compile_by(Rules { strict }, words, &lengths);
+            let mut stale = false;
+            if run.reply.row == NAME_NOT_PUBLIC {
+                match self.0 {
+                    Some(Fault::PlaceOfTheBook) => run.reply.place -= 1,
+                    Some(Fault::RowSevenFirst) => {
+                        let present = compile(words, &lengths);
+                        run = if present.reply.row == 7 { present } else { run };
+                    }
+                    Some(Fault::StaleAfterRow11) => stale = true,
+                    _ => {}
+                }
+            }
+            for (i, (area, made)) in areas.iter_mut().zip(&run.areas).enumerate() {
+                area[..made.len()].copy_from_slice(made);
+                let kept = usize::from(stale && i == 6 && !area.is_empty());
+                area[made.len() + kept..].fill(0);
+            }
+            Answered { reply: run.reply.into(), areas: areas.map(|area| &*area) }
+        }
+    }
+
+    #[test]
+    fn planted_faults_are_seen() {
+        use Fault::*;
+        assert_eq!(compare_modes(Some(&mut Wrong(None)), 5, 300).first, None);
+        for fault in [ModeUnread, AlwaysStrict, PlaceOfTheBook, RowSevenFirst, StaleAfterRow11] {
+            assert!(compare_modes(Some(&mut Wrong(Some(fault))), 5, 300).first.is_some(), "{fault:?}");
+        }
+    }
 
     #[test]
     fn both_modes_of_the_model() {

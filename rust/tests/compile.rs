@@ -242,7 +242,7 @@ impl Listing {
 #[test]
 fn the_rule_books_give_their_listings() {
     let folder = Path::new(env!("CARGO_MANIFEST_DIR")).join("../examples");
-    for name in ["snow", "drift", "combination", "utilisation", "limit_state", "faulty"] {
+    for name in ["snow", "drift", "combination", "utilisation", "limit_state", "misspelt", "faulty"] {
         let file = std::fs::read(folder.join(format!("{name}.col"))).expect("an example");
         let tree = columns_to_records(&file).expect("a column file");
         let mut areas = Areas::for_tree(&tree);

@@ -93,6 +93,9 @@ fn the_examples_are_shown_and_drawn_as_stored() {
     let refused = run(&["show", "examples/faulty.col"]);
     assert_eq!(refused.status, 1);
     held(&root().join("examples/faulty.show"), &refused.output, &mut wrong);
+    let strict = run(&["show", "--strict", "examples/misspelt.col"]);
+    assert_eq!(strict.status, 1);
+    held(&root().join("examples/misspelt.show"), &strict.output, &mut wrong);
     assert!(wrong.is_empty(), "these are not as stored (see the top of this file):\n{}", wrong.join("\n"));
 }
 

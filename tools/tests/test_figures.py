@@ -25,16 +25,31 @@ gate: 1938 s
 SPEED = """\
 Processor time, medians of 15 runs (3 at 1,000,000 records). Ratios: the library's time by the original's.
 
-| Shape | Records | Ratio |
-|---|---|---|
-| deep nesting | 10237 | 1.03 |
+| Shape | Records | Library, ns a record | Growth | Ratio | Ratio, areas 4 times as long | Ratio, the original with its solver |
+|---|---|---|---|---|---|---|
+| deep nesting | 10237 | 20.9 |  | 1.03 | 1.07 | 1.08 |
+| deep nesting | 100655 | 22.2 | 1.06 | 0.86 | 1.01 | 0.87 |
+| many books | 1000000 | not run | | | | |
 
 Median of the ratios: 0.78; of the shapes where nothing is searched: 0.70
 
     deep nesting                   10237     1.03 ####################|
 """
 
-BENCH = "1000000 records, 46000000 bytes, medians of 21 runs\nshape check: library 62.4 million records/s, plain Rust 34.9 million records/s, time ratio 0.56\n"
+BENCH = (
+    "1000000 records, 52000000 bytes, medians of 21 runs\n"
+    "shape check: library 62.5 million records/s, plain Rust 34.9 million records/s, time ratio 0.56\n"
+    "column file to records: library 1300.0 MB/s, plain Rust 1000.0 MB/s, time ratio 0.77\n"
+)
+
+COUNTS = "| Shape | Library, instructions | Original, instructions | Ratio |\n|---|---|---|---|\n| deep nesting | 3560322 | 2775908 | 1.28 |\n"
+
+KEPT = {
+    "commit": "abc",
+    "date": "2026-11-16",
+    "processors": 2,
+    "said": {"converters": BENCH, "constant tables": BENCH, "small bundles": SPEED, "compile call": SPEED, "instructions": COUNTS},
+}
 
 
 class CheckTimes(unittest.TestCase):
@@ -50,16 +65,28 @@ class CheckTimes(unittest.TestCase):
 
 
 class Benchmarks(unittest.TestCase):
-    def test_tables_are_taken_from_what_is_printed(self):
-        self.assertEqual(benchmarks.text_of("compile call", SPEED).splitlines()[2], "| deep nesting | 10237 | 1.03 |")
-        self.assertTrue(benchmarks.text_of("compile call", SPEED).endswith("0.78; of the shapes where nothing is searched: 0.70."))
-        self.assertEqual(benchmarks.text_of("converters", BENCH).splitlines()[2], "| shape check | 62.4 million records/s | 34.9 million records/s | 0.56 |")
-        with self.assertRaises(SystemExit):
-            benchmarks.text_of("compile call", "nothing\n")
+    def test_rates_become_nanoseconds_a_record(self):
+        rows = benchmarks.races(BENCH)
+        self.assertEqual(rows[0], ["shape check", "1000000", "16.0", "0.56", "", "", ""])
+        self.assertEqual(rows[1], ["column file to records", "1000000", "40.0", "0.77", "", "", ""])
 
-    def test_each_table_has_command_commit_and_date(self):
-        kept = {"command": "do", "commit": "abc", "date": "2026-11-16", "processors": 2, "said": BENCH}
-        self.assertTrue(benchmarks.written("converters", kept).startswith("`do`, commit abc, 2026-11-16, 2 processors:\n\n| |"))
+    def test_shapes_have_their_ratios_and_their_instructions_once(self):
+        rows = benchmarks.shapes(SPEED, benchmarks.counted(COUNTS))
+        self.assertEqual(rows[0], ["compile: deep nesting", "10237", "20.9", "1.03", "1.07", "1.08", "1.28"])
+        self.assertEqual(rows[1][3:], ["0.86", "1.01", "0.87", ""])
+        self.assertEqual(rows[2], ["compile: many books", "1000000", "not run", "", "", "", ""])
+
+    def test_output_without_figures_is_refused(self):
+        for read in (benchmarks.races, lambda said: benchmarks.shapes(said, {})):
+            with self.assertRaises(SystemExit):
+                read("nothing\n")
+
+    def test_the_table_has_command_commit_and_date(self):
+        lines = benchmarks.table(KEPT).splitlines()
+        self.assertEqual(lines[0], "`tools/benchmarks run`, commit abc, 2026-11-16, 2 processors:")
+        self.assertEqual(len([line for line in lines if line.startswith("| ")]), 1 + 2 + 2 + 3 + 3)
+        self.assertTrue(lines[-1].endswith("of the shapes where nothing is searched: 0.70."))
+        self.assertTrue(all(line.count("|") == lines[2].count("|") for line in lines if line.startswith("|")))
 
 
 class Pages(unittest.TestCase):
@@ -71,8 +98,7 @@ class Pages(unittest.TestCase):
 
     def test_the_pages_have_their_parts(self):
         page = (ROOT / "docs" / "BENCHMARKS.md").read_text()
-        for name in benchmarks.COMMANDS:
-            self.assertIn("new", marked.replaced(page, name, "new"))
+        self.assertIn("new", marked.replaced(page, benchmarks.PART, "new"))
         self.assertIn("new", marked.replaced((ROOT / "docs" / "CHECK-TIMES.md").read_text(), "check times", "new"))
 
 

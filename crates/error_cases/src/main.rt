@@ -1,7 +1,7 @@
-// `errors_in_words` on stored cases. A line of standard input is a case: how many words the errors are, how many the table, how many bytes there are, the file
-// number, the length of the line buffer; then the errors, the table and the bytes. The buffer is filled with stale bytes before, and has stale bytes beside it.
-// For each case is written: number, place and total; the bytes that were delivered; and whether the rest of the buffer is zero and the bytes beside it are
-// kept.
+// `errors_in_words` on stored cases. A line of standard input is a case: its name and a colon; how many words the errors are, how many the table, how many
+// bytes there are, the file number, the length of the line buffer; then the errors, the table and the bytes. The buffer is filled with stale bytes before, and
+// has stale bytes beside it. For each case is written: its name; number, place and total; the bytes that were delivered; and whether the rest of the buffer is
+// zero and the bytes beside it are kept.
 ghost use Prim.Native.Nat.{_≤_, _-_};
 ghost use lib.ListN.{length};
 use case_numbers::find;
@@ -133,8 +133,11 @@ fn run(words: &[u64]) {
 }
 
 fn case(line: &[u8]) {
+    let colon = find(line, 0, b':');
+    io::write_all(STDOUT_FILENO, &line[0..colon]);
+    io::write_all(STDOUT_FILENO, b": ");
     let mut words = [0; 1024];
-    parse(line, &mut words);
+    parse(&line[colon..], &mut words);
     run(&words);
 }
 

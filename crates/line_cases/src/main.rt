@@ -1,5 +1,5 @@
 // Writes lines of the listing's form through the writer that carries its buffer and through the column writer on slice and offset, on the same stored cases.
-// Each case writes the buffer, which was all dots, then the offset and whether all fits; and the same again for the second form.
+// Each case writes, once for each form, its name, the offset and whether all fits; then the buffer, which was all dots.
 ghost use mathlib.Core.Path.{_≡_};
 ghost use Rattle.line_writer.specs.Placed.{placed};
 ghost use Rattle.line_writer.specs.Written.{startAt, lineAt};
@@ -33,44 +33,56 @@ fn write_line(buffer: &mut [u8], offset: usize, line: Fields) -> Place
     byte_at(buffer, last, NEWLINE)
 }
 
-fn show(buffer: &[u8], place: Place) {
-    io::write_all(OUTPUT, buffer);
-    io::write_all(OUTPUT, b"\n");
+fn show(name: &[u8], form: &[u8], buffer: &[u8], place: Place) {
+    io::write_all(OUTPUT, name);
+    io::write_all(OUTPUT, form);
     io::print_decimal(OUTPUT, place.offset as u64);
     if place.fits {
-        io::write_all(OUTPUT, b" fits\n");
+        io::write_all(OUTPUT, b", fits\n");
     } else {
-        io::write_all(OUTPUT, b" refused\n");
+        io::write_all(OUTPUT, b", refused\n");
     }
+    io::write_all(OUTPUT, buffer);
+    io::write_all(OUTPUT, b"\n");
 }
 
 // Both forms over buffers of the same length.
-fn both(buffer: &mut [u8], buffer_too: &mut [u8], offset: usize, line: Fields) {
+fn both(name: &[u8], buffer: &mut [u8], buffer_too: &mut [u8], offset: usize, line: Fields) {
     let place = writer::write_line(buffer, offset, line);
-    show(buffer, place);
+    show(
+        name,
+        b", the writer with its buffer: offset ",
+        buffer,
+        place,
+    );
     let place_too = write_line(buffer_too, offset, line);
-    show(buffer_too, place_too);
+    show(
+        name,
+        b", on slice and offset: offset ",
+        buffer_too,
+        place_too,
+    );
 }
 
 // A line in a buffer of its own length.
-fn whole(line: Fields) {
+fn whole(name: &[u8], line: Fields) {
     let mut buffer = [DOT; 74];
     let mut buffer_too = [DOT; 74];
-    both(&mut buffer, &mut buffer_too, 0, line);
+    both(name, &mut buffer, &mut buffer_too, 0, line);
 }
 
 // One byte short: the newline has no room.
-fn short(line: Fields) {
+fn short(name: &[u8], line: Fields) {
     let mut buffer = [DOT; 73];
     let mut buffer_too = [DOT; 73];
-    both(&mut buffer, &mut buffer_too, 0, line);
+    both(name, &mut buffer, &mut buffer_too, 0, line);
 }
 
 // In the midst of a longer buffer, and beyond its end.
-fn inside(offset: usize, line: Fields) {
+fn inside(name: &[u8], offset: usize, line: Fields) {
     let mut buffer = [DOT; 80];
     let mut buffer_too = [DOT; 80];
-    both(&mut buffer, &mut buffer_too, offset, line);
+    both(name, &mut buffer, &mut buffer_too, offset, line);
 }
 
 // A line of a section with the same number in each of the six fields.
@@ -89,25 +101,34 @@ fn line_of(section: u64, each: u64, last: u64, signed: bool) -> Fields {
 }
 
 fn main() {
-    whole(Fields {
-        section: 3,
-        first: 1,
-        second: 20,
-        third: 300,
-        fourth: 4000,
-        fifth: 50000,
-        sixth: 0,
-        last: 72057594037927935,
-        signed: false,
-    });
-    whole(line_of(4, 0, 9223372036854775808, true));
-    whole(line_of(4, 0, 18446744073709551615, true));
-    whole(line_of(4, 99999999, 18446744073709551615, false));
-    short(line_of(9999, 7, 7, true));
-    inside(3, line_of(10, 7, 42, false));
-    inside(6, line_of(11, 7, 42, false));
-    inside(7, line_of(11, 7, 42, false));
-    inside(81, line_of(11, 7, 42, false));
-    whole(line_of(12345, 7, 42, false));
-    whole(line_of(1, 100000000, 42, false));
+    whole(
+        b"an instruction",
+        Fields {
+            section: 3,
+            first: 1,
+            second: 20,
+            third: 300,
+            fourth: 4000,
+            fifth: 50000,
+            sixth: 0,
+            last: 72057594037927935,
+            signed: false,
+        },
+    );
+    whole(
+        b"the smallest integer",
+        line_of(4, 0, 9223372036854775808, true),
+    );
+    whole(b"minus one", line_of(4, 0, 18446744073709551615, true));
+    whole(
+        b"the widest numbers",
+        line_of(4, 99999999, 18446744073709551615, false),
+    );
+    short(b"a byte short", line_of(9999, 7, 7, true));
+    inside(b"in the midst", 3, line_of(10, 7, 42, false));
+    inside(b"up to the end", 6, line_of(11, 7, 42, false));
+    inside(b"a byte past the end", 7, line_of(11, 7, 42, false));
+    inside(b"from beyond the end", 81, line_of(11, 7, 42, false));
+    whole(b"a section too wide", line_of(12345, 7, 42, false));
+    whole(b"a field too wide", line_of(1, 100000000, 42, false));
 }

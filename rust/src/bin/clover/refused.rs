@@ -38,6 +38,7 @@ pub fn bundle(refusal: &Refusal, bundle: &Bundle) -> String {
         Refusal::BookFaulty { file, errors } => faults(*file, errors, bundle),
         Refusal::BookMissing { file } => includes(*file, bundle),
         Refusal::Ring { files } => ring(files, bundle),
+        Refusal::NameNotPublic { record, name } => not_public(*record, *name, bundle).unwrap_or_default(),
         Refusal::AreaFull { .. } => "The bundle needs more memory than was lent: see --memory.\n".to_string(),
         _ => refusal.record().and_then(|record| record_line(record, bundle)).unwrap_or_default(),
     };
@@ -120,6 +121,26 @@ fn includes(file: Text, bundle: &Bundle) -> String {
         format!("\n{}:{place} included here\n{source}", bundle.texts.spelt(book))
     });
     each.collect()
+}
+
+/// Where the include of a record lists the name, with the source line, and which names are public in its file.
+fn not_public(record: u64, name: Option<Text>, bundle: &Bundle) -> Option<String> {
+    let holds = |document: &Node| document.children().any(|node| node.index() as u64 == record);
+    let document = documents(&bundle.tree).find(holds)?;
+    let (book, include) = (document.text()?, document.children().find(|node| node.index() as u64 == record)?);
+    let listed = include.children().step_by(2).find(|node| node.text() == name)?;
+    let Position { line, column } = listed.position();
+    let place = if line > 0 { format!("{line}:{column}:") } else { String::new() };
+    let source = source_line(&bundle.sources, book, listed.position()).unwrap_or_default();
+    let file = include.text()?;
+    let kinds = [Some(Kind::PublicModel), Some(Kind::PublicFunction)];
+    let definitions =
+        documents(&bundle.tree).filter(|other| other.text() == Some(file)).flat_map(|other| other.children());
+    let public = definitions.filter(|node| kinds.contains(&node.kind())).filter_map(|node| node.text());
+    let names: Vec<_> = public.map(|name| bundle.texts.spelt(name)).collect();
+    let names = if names.is_empty() { "nothing".to_string() } else { names.join(", ") };
+    let (book, file) = (bundle.texts.spelt(book), bundle.texts.spelt(file));
+    Some(format!("\n{book}:{place} listed here\n{source}       = public in {file}: {names}\n"))
 }
 
 /// The books' lines, each with the books that it waits for under it. Each line has its own file.

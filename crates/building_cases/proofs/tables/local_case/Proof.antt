@@ -1,7 +1,7 @@
--- `building_cases::local_case` is safe and ends: each call keeps the length of the area that it is lent. Assumes nothing.
+-- `tables::local_case` is safe and ends: each call keeps the length of the area that it is lent. Assumes nothing.
 -- Made from Proof.answers by `answers make`: edit that file, and not this one.
-use Rattle.building_cases.proofs.local_case.Statement.{statement}
-use Rattle.building_cases.proofs.local_case.Tie as tie
+use Rattle.building_cases.proofs.tables.local_case.Statement.{statement}
+use Rattle.building_cases.proofs.tables.local_case.Tie as tie
 use borrow.Author.Needs.{needs}
 use native.Mathlib.Omega.{arith}
 
@@ -26,18 +26,19 @@ local-case-spec =
     (tie.spec
     (λ c κs. search needs)
     (λ c κs. search needs)
+    (λ c. search needs)
     (λ c κs. search needs)
     (λ c κs. search needs)
+    (λ c. search needs)
     (λ c κs. search needs)
     (λ c κs. search needs)
+    (λ c. search needs)
     (λ c κs. search needs)
     (λ c κs. search needs)
+    (λ c. search needs)
     (λ c κs. search needs)
     (λ c κs. search needs)
-    (λ c κs. search needs)
-    (λ c κs. search needs)
-    (λ c κs. search needs)
-    (λ c κs. search needs)
+    (λ c. search needs)
     (λ c κs. search needs)
     (λ c κs. search needs)
     (λ c κs. search needs)
