@@ -10,10 +10,14 @@ pub mod Answer
 pub mod HeadIncludes
 pub mod Within
 pub mod ProgramCheck
+pub mod Onto
+pub mod Trial
 pub mod Promise
 pub mod SharedOnce
 pub mod Strict
 pub mod Bench
 pub mod WithinBench
 pub mod PriorBench
+pub mod OntoBench
+pub mod TrialBench
 pub mod StrictBench

@@ -1,7 +1,7 @@
 -- 2026-01's program check: whether words and totals that somebody lends are a program, and if not, the first area that fails ("First of all the standing
 -- program is checked"). An area fails by its own words, the totals, and for area 1 the functions' entries. The bounds are demand 3's own (`areaBound`
 -- of `Within`); here is what else 01 says of a word: kind, value, opcode, operation, text, mark and position are known ones, keys differ, zeros follow.
--- Sums are of numbers, never modulo 2^64. No call makes the check yet
+-- Sums are of numbers, never modulo 2^64. Laying on begins with it (`layOn` of `Onto`)
 use Prim.Native.Nat.{ℕ, _*_}
 use mathlib.Core.Bool.{Bool, true, false, cond, _&&_, _||_}
 use mathlib.Core.Option.{Option, none, some}

@@ -5,7 +5,7 @@
 use Prim.Native.Nat.{ℕ, zero, suc, _+_, _*_, _≤_, _<_, min}
 use mathlib.Core.Path.{_≡_}
 use mathlib.Core.Bool.{Bool, true, false, cond, _&&_, _||_}
-use mathlib.Core.List.{List, [], _∷_, _++_}
+use mathlib.Core.List.{List, [], _∷_, _++_, map}
 use lib.ListN.{length, getD}
 use lib.Dec.{T, eqb, ltb, leb}
 use Rattle.words.specs.Areas.{widthOf, entriesIn, entryWord, codeArea, constantsArea, functionsArea, modelsArea, propertiesArea, methodsArea}
@@ -30,6 +30,9 @@ pub data Among (n : ℕ) : List ℕ → Type 0 where
 
 abbrev pub Areas : Type 0
 Areas = List (List ℕ)
+
+abbrev pub lengthsOf : Areas → List ℕ
+lengthsOf m = map (λ (l : List ℕ). length l) m
 
 abbrev pub Totals : Type 0
 Totals = List ℕ

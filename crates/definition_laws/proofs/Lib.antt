@@ -26,3 +26,13 @@ pub mod SharedOnce
 pub mod Modes
 pub mod Strict
 pub mod StrictRefuses
+pub mod PassingAreas
+pub mod ReadBack
+pub mod ReadSafe
+pub mod OntoStays
+pub mod OntoGrows
+pub mod OntoLeast
+pub mod LaysOn
+pub mod CommitAsTrial
+pub mod StandingWords
+pub mod StandingRoot

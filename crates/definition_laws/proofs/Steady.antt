@@ -1,5 +1,6 @@
 -- What every piece of compiling leaves as it was: the depth, the book's names, the code before the function; notes are only added, and constants are added to
--- the pool as `addConstant` does (`PoolGrows`). By one lemma for each combinator over arbitrary steps, and one induction on the tree. Assumes nothing.
+-- the pool as `addConstant` does (`PoolGrows`), marks in front (`MarksGrow`). By one lemma for each combinator over arbitrary steps, and one induction on
+-- the tree. Assumes nothing.
 use Prim.Native.Nat.{ℕ, zero, suc, _+_, _-_}
 use native.Mathlib.Omega.{arith}
 use mathlib.Core.Path.{_≡_, refl, sym, ap, _∙_}
@@ -52,18 +53,28 @@ grows-trans g same-pool = g
 grows-trans g (not-shared ds d h t) = not-shared ds d (grows-trans g h) t
 grows-trans g (not-found ds d h e) = not-found ds d (grows-trans g h) e
 
+-- marks are added in front
+pub data MarksGrow (gs : List ℕ) : List ℕ → Type 0 where
+  same-marks : MarksGrow gs gs
+  mark-more : {hs : List ℕ} (n : ℕ) → MarksGrow gs hs → MarksGrow gs (n ∷ hs)
+
+pub marks-trans : {fs gs hs : List ℕ} → MarksGrow fs gs → MarksGrow gs hs → MarksGrow fs hs
+marks-trans g same-marks = g
+marks-trans g (mark-more n h) = mark-more n (marks-trans g h)
+
 pub record Steady (w w′ : Work) : Type 0 where
   pub depth : w′ .function .depth ≡ w .function .depth
   pub locals : w′ .compiler .locals ≡ w .compiler .locals
   pub before : w′ .before ≡ w .before
   pub uses : Longer (w .uses) (w′ .uses)
   pub pool : PoolGrows (w .context .constants) (w′ .context .constants)
+  pub marks : MarksGrow (w .context .globals) (w′ .context .globals)
 
 abbrev pub Steadily : Step → Type 0
 Steadily s = (w : Work) → Steady w (s w)
 
 pub steady-refl : (w : Work) → Steady w w
-steady-refl w = record { depth = refl; locals = refl; before = refl; uses = same; pool = same-pool }
+steady-refl w = record { depth = refl; locals = refl; before = refl; uses = same; pool = same-pool; marks = same-marks }
 
 pub steady-trans : {a b c : Work} → Steady a b → Steady b c → Steady a c
 steady-trans m n = record {
@@ -72,17 +83,18 @@ steady-trans m n = record {
   before = n .before ∙ m .before;
   uses = longer-trans (m .uses) (n .uses);
   pool = grows-trans (m .pool) (n .pool);
+  marks = marks-trans (m .marks) (n .marks);
 }
 
 -- a change of the function state alone that keeps the depth
 pub steady-function : (w : Work) (f : FunctionState) → f .depth ≡ w .function .depth → Steady w (withFunction f w)
-steady-function w f e = record { depth = e; locals = refl; before = refl; uses = more (more (more same)); pool = same-pool }
+steady-function w f e = record { depth = e; locals = refl; before = refl; uses = more (more (more same)); pool = same-pool; marks = same-marks }
 
 pub steady-emit : (i : Instruction) (p : ℕ) → Steadily (emit i p)
 steady-emit i p w = steady-function w _ refl
 
 pub steady-error : (n : ℕ) (t : Token) → Steadily (pushError n t)
-steady-error n t w = record { depth = refl; locals = refl; before = refl; uses = more same; pool = same-pool }
+steady-error n t w = record { depth = refl; locals = refl; before = refl; uses = more same; pool = same-pool; marks = same-marks }
 
 -- function_state.rs
 
@@ -126,14 +138,14 @@ steady-constant c w =
     (λ t. new (not-shared (w .context .constants) c same-pool t))
   where
     new : PoolGrows (w .context .constants) (w .context .constants ++ (c ∷ [])) → Steady w (addConstantNoCheck c w .work)
-    new g = record { depth = refl; locals = refl; before = refl; uses = more same; pool = g }
+    new g = record { depth = refl; locals = refl; before = refl; uses = more same; pool = g; marks = same-marks }
 
     go : (o : Option ℕ) → findConstant c (w .context .constants) 0 ≡ o → Steady w (Compiler.addConstantBy o c w .work)
     go none e = new (not-found (w .context .constants) c same-pool e)
     go (some i) e = steady-refl w
 
 pub steady-mark : (i : ℕ) → Steadily (Compiler.markGlobal i)
-steady-mark i w = record { depth = refl; locals = refl; before = refl; uses = more same; pool = same-pool }
+steady-mark i w = record { depth = refl; locals = refl; before = refl; uses = more same; pool = same-pool; marks = mark-more i same-marks }
 
 pub steady-emit-constant : (o : ℕ) (c : Constant) (p : ℕ) → Steadily (emitConstant o c p)
 unfolding emitConstant
@@ -305,6 +317,7 @@ steady-deeper {a} A w = record {
   before = s .before;
   uses = more (more (more (longer-trans (more (more (more same))) (s .uses))));
   pool = s .pool;
+  marks = s .marks;
 }
   where
     w₁ : Work
