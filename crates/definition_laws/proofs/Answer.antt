@@ -28,6 +28,7 @@ use Rattle.definition.specs.DependencySolver.{Ending, Delivered, Faulty, Ring, 
 use Rattle.definition.specs.Program.{entriesFrom, errorEntry, errorTables}
 use Rattle.definition.specs.Answer.{Answer, Delivery, Refusal, answerEnding, answerBy, answerNeeded, answerBundle, answerDocuments, answerTwice}
 use Rattle.definition.specs.Answer.{answerShape, answerFrom, answer, twice, documentPlaces, limitsOf, ringErrors, areasOf}
+use Rattle.definition_laws.proofs.NeededOnce.{NeededOnce, needed-once}
 use Rattle.definition_laws.proofs.Safe.{ProgramSafe}
 use Rattle.definition_laws.proofs.Lists.{cond-case}
 use Rattle.definition_laws.proofs.Program.{worked-safe, fresh-safe}
@@ -91,7 +92,8 @@ shape-row w =
 -- how an answer onto a context comes about: refused before or above the work, or by the ending of a work on fine words whose notes row 9 lets pass
 pub data Reached (c : Context) (w lengths : List ℕ) : Answer → Type 0 where
   Before : {r : ℕ} (p : ℕ) → Row r [] → Reached c w lengths (Refusal r p [])
-  Ended : (numbers : List ℕ) → shapeOf w ≡ Fine → firstOver (limitsOf lengths) (compileNeeded numbers (documentsOf w) c .uses) ≡ none
+  Ended : (numbers : List ℕ) → NeededOnce (loadedOf c) numbers → shapeOf w ≡ Fine
+      → firstOver (limitsOf lengths) (compileNeeded numbers (documentsOf w) c .uses) ≡ none
       → (e : Ending) → compileNeeded numbers (documentsOf w) c .ending ≡ e → Reached c w lengths (answerEnding e)
 
 pub reached : (c : Context) (w lengths : List ℕ) → Reached c w lengths (answerFrom c w lengths)
@@ -101,22 +103,24 @@ reached c w lengths = shape (shape-row w) refl
     l : Limits
     l = limitsOf lengths
 
-    worked : shapeOf w ≡ Fine → (numbers : List ℕ) (o : Option ℕ) → firstOver l (compileNeeded numbers (documentsOf w) c .uses) ≡ o
+    worked : shapeOf w ≡ Fine → (numbers : List ℕ) → NeededOnce (loadedOf c) numbers → (o : Option ℕ)
+        → firstOver l (compileNeeded numbers (documentsOf w) c .uses) ≡ o
         → Reached c w lengths (answerBy o (compileNeeded numbers (documentsOf w) c .ending))
-    worked f numbers (some area) q =
+    worked f numbers u (some area) q =
         cond-case (Reached c w lengths) (ltb area firstNotPublic) (λ t. Before area row-9) (λ t. Before (area - firstNotPublic) row-11)
-    worked f numbers none q = Ended numbers f q _ refl
+    worked f numbers u none q = Ended numbers u f q _ refl
 
-    needing : shapeOf w ≡ Fine → (numbers : List ℕ) (o : Option ℕ) → Reached c w lengths (answerNeeded o numbers (documentsOf w) l c)
-    needing f numbers (some n) = Before n row-6
-    needing f numbers none = worked f numbers (firstOver l (compileNeeded numbers (documentsOf w) c .uses)) refl
+    needing : shapeOf w ≡ Fine → (numbers : List ℕ) → NeededOnce (loadedOf c) numbers → (o : Option ℕ)
+        → Reached c w lengths (answerNeeded o numbers (documentsOf w) l c)
+    needing f numbers u (some n) = Before n row-6
+    needing f numbers u none = worked f numbers u (firstOver l (compileNeeded numbers (documentsOf w) c .uses)) refl
 
     documents : shapeOf w ≡ Fine → (ds : List Document) → documentsOf w ≡ ds → Reached c w lengths (answerDocuments ds l c)
     documents f [] q = Before 0 row-3
     documents f (root ∷ others) q =
         let numbers = needed (loadedOf c) root others in
         let o = missing (root ∷ others) numbers in
-        subst (λ ds. Reached c w lengths (answerNeeded o numbers ds l c)) q (needing f numbers o)
+        subst (λ ds. Reached c w lengths (answerNeeded o numbers ds l c)) q (needing f numbers (needed-once (loadedOf c) root others) o)
 
     doubles : shapeOf w ≡ Fine → (o : Option ℕ) → Reached c w lengths (answerTwice o w l c)
     doubles f (some i) = Before i row-5
@@ -144,7 +148,7 @@ refusals c w lengths r p es q = go (reached c w lengths) q
 
     go : {a : Answer} → Reached c w lengths a → a ≡ Refusal r p es → Row r es
     go (Before p′ h) e = move {p′ = p′} h e
-    go (Ended numbers f q x y) e = ending x e
+    go (Ended numbers u f q x y) e = ending x e
 
 -- every area is zeros, but the errors' where there are some
 pub refusal-zero : (lengths : List ℕ) (r p : ℕ) (es : List Error) (area : ℕ) → length lengths ≡ 13 → area < 13 → (area ≢ errorsArea) ⊎ (es ≡ [])
@@ -163,6 +167,7 @@ refusal-zero lengths r p es area n h which = filled-at lengths (errorTables es) 
 pub record Delivering (c₀ : Context) (w lengths : List ℕ) (c : Context) : Type 0 where
   pub fine : shapeOf w ≡ Fine
   pub numbers : List ℕ
+  pub once : NeededOnce (loadedOf c₀) numbers
   pub within : firstOver (limitsOf lengths) (compileNeeded numbers (documentsOf w) c₀ .uses) ≡ none
   pub ends : compileNeeded numbers (documentsOf w) c₀ .ending ≡ Delivered c
 
@@ -176,7 +181,7 @@ delivering c₀ w lengths c q = go (reached c₀ w lengths) q
 
     go : {a : Answer} → Reached c₀ w lengths a → a ≡ Delivery c → Delivering c₀ w lengths c
     go (Before p h) x = absurd (let z : _≡_ {A = ℕ} 0 1 = cc in omega arith)
-    go (Ended numbers f o e y) x = record { fine = f; numbers = numbers; within = o; ends = y ∙ ending e x }
+    go (Ended numbers u f o e y) x = record { fine = f; numbers = numbers; once = u; within = o; ends = y ∙ ending e x }
 
 pub delivery-safe : (c₀ : Context) (w lengths : List ℕ) (c : Context) → answerFrom c₀ w lengths ≡ Delivery c → ProgramSafe c₀ → ProgramSafe c
 delivery-safe c₀ w lengths c q safe = let d = delivering c₀ w lengths c q in worked-safe (d .numbers) (documentsOf w) c₀ c safe (d .ends)

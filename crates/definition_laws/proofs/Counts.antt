@@ -333,7 +333,7 @@ find-document {P} n d (x ∷ l) (p & ps) e = go (eqb (x .filename) n) (λ q. fin
     go true r q = let z : x ≡ d = cc in subst P z p
     go false r q = r q
 
-ready-among : {P : Document → Type 0} (ds : List Document) (done left : List ℕ) (d : Document) → All P ds → ready ds done left ≡ some d → P d
+pub ready-among : {P : Document → Type 0} (ds : List Document) (done left : List ℕ) (d : Document) → All P ds → ready ds done left ≡ some d → P d
 ready-among ds done [] d h e = absurd (let z : _≡_ {A = ℕ} 0 1 = cc in omega arith)
 ready-among {P} ds done (n ∷ ns) d h e = go (findDocument n ds) refl (λ q. ready-among ds done ns d h q) e
   where

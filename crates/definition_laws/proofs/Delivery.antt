@@ -4,13 +4,13 @@
 use Prim.Native.Nat.{ℕ, zero, suc, _^_, _≤_, _<_}
 use native.Mathlib.Nat.{le-refl}
 use native.Mathlib.Omega.{arith}
-use mathlib.Core.Path.{_≡_, ap, subst}
+use mathlib.Core.Path.{_≡_, refl, ap, subst}
 use mathlib.Core.Logic.{inl, inr}
 use mathlib.Core.Bool.{Bool}
 use mathlib.Core.Option.{none}
 use mathlib.Core.List.{List, [], _∷_, _++_, map}
 use lib.ListN.{length, getD, List·getD-map}
-use Rattle.words.specs.Areas.{widths, codeArea, constantsArea, contextLocalsArea}
+use Rattle.words.specs.Areas.{widths, entriesIn, codeArea, constantsArea, contextLocalsArea}
 use Rattle.words.specs.Opcode.{nothing}
 use Rattle.words.specs.Record.{mostRecords}
 use Rattle.tree.specs.Reading.{documentsOf}
@@ -40,6 +40,13 @@ limits-capped [] ns area = omega arith
 limits-capped (k ∷ ks) [] area = omega arith
 limits-capped (k ∷ ks) (n ∷ ns) zero = omega arith
 limits-capped (k ∷ ks) (n ∷ ns) (suc area) = limits-capped ks ns area
+
+-- an area's length in entries
+pub limits-at : (ks ns : List ℕ) (area : ℕ) → area < length ks → area < length ns → limitOf (limitsBy ks ns) area ≡ entriesIn (getD ks area 0) (getD ns area 0)
+limits-at [] ns area h l = absurd (omega arith)
+limits-at (k ∷ ks) [] area h l = absurd (omega arith)
+limits-at (k ∷ ks) (n ∷ ns) zero h l = refl
+limits-at (k ∷ ks) (n ∷ ns) (suc area) h l = limits-at ks ns area (omega arith) (omega arith)
 
 -- an operand below its count, or small
 operand-fits : (k : Class) (c : Counts) (i n : ℕ) → c .top < 2 ^ 56 → c .locals < 2 ^ 56 → c .constants < 2 ^ 56 → c .context < 2 ^ 56
@@ -133,7 +140,7 @@ pub one-position-each : (strict : Bool) (w lengths : List ℕ) (c : Context) →
 one-position-each strict w lengths c e = all-map (λ f s. s .0 .sized) (answer-stands strict w lengths c e .safe .parts .functions)
 
 -- the entries of each area are within what was lent
-stands-area : (lengths : List ℕ) (c : Context) → Stands lengths c → (area : ℕ) → length (getD (tablesOf c) area []) ≤ limitOf (limitsOf lengths) area
+pub stands-area : (lengths : List ℕ) (c : Context) → Stands lengths c → (area : ℕ) → length (getD (tablesOf c) area []) ≤ limitOf (limitsOf lengths) area
 stands-area lengths c s area =
     let x = List·getD-map (λ (es : Entries). length es) (tablesOf c) area [] in
     let y = ap (λ l. getD l area 0) (totals-counted c (s .safe)) in

@@ -26,6 +26,14 @@ pub mod SharedOnce
 pub mod Modes
 pub mod Strict
 pub mod StrictRefuses
+pub mod Ranges
+pub mod KnownSteps
+pub mod DistinctKeys
+pub mod NeededOnce
+pub mod KnownBooks
+pub mod KnownContext
+pub mod Passes
+pub mod PassesBench
 pub mod PassingAreas
 pub mod ReadBack
 pub mod ReadSafe
@@ -36,3 +44,5 @@ pub mod LaysOn
 pub mod CommitAsTrial
 pub mod StandingWords
 pub mod StandingRoot
+pub mod ReadKnown
+pub mod OntoPasses

@@ -18,7 +18,7 @@ use Rattle.words.specs.Opcode.{Instruction, unword}
 use Rattle.definition.specs.Uses.{limitOf}
 use Rattle.definition.specs.Book.{Method}
 use Rattle.definition.specs.Program.{Entries}
-use Rattle.definition.specs.Answer.{limitsBy, limitsOf}
+use Rattle.definition.specs.Answer.{limitsOf}
 use Rattle.definition.specs.Within.{All, nil, _&_, Among, here, there, Program, lengthsOf, total, present, field, instructionAt, startOf, lengthOf, localsOf}
 use Rattle.definition.specs.Within.{Class, Position, Slot, Read, Pool, ContextSlot, Other, classOf, boundByTotals, boundByFunction, hasInstruction}
 use Rattle.definition.specs.Within.{where′, allBelow, marked}
@@ -28,12 +28,12 @@ use Rattle.definition_laws.proofs.Safe.{Within, Fits, Named, EntryWithi
 use Rattle.definition_laws.proofs.Safe.{ProgramSafe}
 use Rattle.definition_laws.proofs.Tests.{first-of, second-of, below-at}
 use Rattle.definition_laws.proofs.Counts.{standingIn}
-use Rattle.definition_laws.proofs.Delivery.{Stands}
+use Rattle.definition_laws.proofs.Delivery.{limits-at, Stands}
 use Rattle.definition_laws.proofs.PassingAreas.{Passing, ProgramPasses, check-passes, lent-length, lent-wide, lent-word}
 
 -- tests that hold
 
-where-of : (a b : Bool) → T (where′ a b) → T a → T b
+pub where-of : (a b : Bool) → T (where′ a b) → T a → T b
 where-of true b t s = t
 where-of false b t s = absurd s
 
@@ -41,7 +41,7 @@ or-of : (a b : Bool) → T (a || b) → T a ⊎ T b
 or-of true b t = inl tt
 or-of false b t = inr t
 
-and-of : (a b : Bool) → T a → T b → T (a && b)
+pub and-of : (a b : Bool) → T a → T b → T (a && b)
 and-of true b s t = t
 and-of false b s t = absurd s
 
@@ -50,7 +50,7 @@ equal-of m n e = subst (λ k. T (eqb m k)) e (eqb-refl m)
 
 -- lists of entries, constants and methods
 
-all-of : {A : Type 0} {P : A → Type 0} (l : List A) (d : A) → ((i : ℕ) → i < length l → P (getD l i d)) → All P l
+pub all-of : {A : Type 0} {P : A → Type 0} (l : List A) (d : A) → ((i : ℕ) → i < length l → P (getD l i d)) → All P l
 all-of [] d f = nil
 all-of (x ∷ l) d f = f 0 (omega arith) & all-of l d (λ i h. f (suc i) (omega arith))
 
@@ -58,7 +58,7 @@ pub constants-length : (es : Entries) → length (constantsOf es) ≡ length es
 constants-length [] = refl
 constants-length (e ∷ es) = ap suc (constants-length es)
 
-all-constants : {P : Constant → Type 0} {es : Entries} → All (λ (e : List ℕ). P (constantOf (getD e 0 0) (getD e 1 0))) es → All P (constantsOf es)
+pub all-constants : {P : Constant → Type 0} {es : Entries} → All (λ (e : List ℕ). P (constantOf (getD e 0 0) (getD e 1 0))) es → All P (constantsOf es)
 all-constants nil = nil
 all-constants (p & ps) = p & all-constants ps
 
@@ -359,13 +359,6 @@ module _ {p : Program} (s : ProgramPasses p) where
 -- where the check passes
 pub read-safe : (strict : Bool) (p : Program) → programFault p ≡ none → ProgramSafe (contextOf strict p)
 read-safe strict p q = passing-safe (check-passes p q) strict
-
--- an area's length in entries
-limits-at : (ks ns : List ℕ) (area : ℕ) → area < length ks → area < length ns → limitOf (limitsBy ks ns) area ≡ entriesIn (getD ks area 0) (getD ns area 0)
-limits-at [] ns area h k = absurd (omega arith)
-limits-at (x ∷ ks) [] area h k = absurd (omega arith)
-limits-at (x ∷ ks) (n ∷ ns) zero h k = refl
-limits-at (x ∷ ks) (n ∷ ns) (suc area) h k = limits-at ks ns area (omega arith) (omega arith)
 
 module _ (strict : Bool) {p : Program} (s : ProgramPasses p) (thirteen : length (p .areas) ≡ 13) where
   limit-same : (area : ℕ) → area < 13 → limitOf (limitsOf (lengthsOf (p .areas))) area ≡ entriesIn (widthOf area) (length (getD (p .areas) area []))

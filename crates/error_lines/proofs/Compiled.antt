@@ -1,20 +1,17 @@
 -- Theorem `compiled-known`: every list that the compile call leaves in area 11 is known (2026-10), so no such list is answered with row 3. Each token of an
--- error is a record's, and records that passed the shape check have kinds and ranges of 01; the file numbers of a ring are those of documents. One
--- lemma for each combinator over arbitrary steps, and one induction on the tree. Assumes nothing.
+-- error is a record's, and records that passed the shape check have kinds and ranges of 01; the file numbers of a ring are those of documents. What functions
+-- push is known by the induction of `KnownSteps`; here are the deeds of a book. Assumes nothing.
 use Prim.Native.Nat.{ℕ, zero, suc, _+_, _-_, _*_, _/_, _%_, _≤_, _<_}
 use native.Mathlib.Omega.{arith}
 use native.Mathlib.Decide.{decLt, ℕ-discrete}
 use mathlib.Core.Path.{_≡_, refl, sym, ap, subst, _∙_}
-use mathlib.Core.Logic.{_⊎_, inl, inr}
-use mathlib.Core.Bool.{Bool, true, false, cond, not, _&&_, _||_}
+use mathlib.Core.Bool.{Bool, true, false, cond, _&&_, _||_}
 use mathlib.Core.Option.{Option, none, some}
 use mathlib.Core.List.{List, [], _∷_, _++_}
-use lib.ListN.{length, drop, getD, replicate, List·getD-eq-default}
+use lib.ListN.{length, getD, replicate, List·getD-eq-default}
 use lib.Dec.{eqb, leb, ltb}
-use borrow.Author.Tests.{eq-eqb, ne-eqb, eqb-true, le-leb, leb-true}
-use Rattle.words.specs.Ast.{Token, Expression, Expressions, Variables, Statement, Statements}
-use Rattle.words.specs.Ast.{Identifier, This, Null, Integer, Float, Text, Boolean, Array, Prefix, Infix, If, IfElse, Call, InstanceGet, IndexGet}
-use Rattle.words.specs.Ast.{∅ₑ, _∷ₑ_, ∅ᵥ, Bare, Valued, Local, Return, For, Break, Rescue, Expr, ∅ₛ, _∷ₛ_}
+use borrow.Author.Tests.{ne-eqb, eqb-true, le-leb}
+use Rattle.words.specs.Ast.{Token}
 use Rattle.words.specs.Ast.{Binding, Alias, FunctionDefinition, Definition, LocalDefinition, IncludeDefinition, ModelDefinition, PublicModelDefinition}
 use Rattle.words.specs.Ast.{PlainFunction, PublicFunction, ImplementDefinition, ApplyDefinition, Document}
 use Rattle.words.specs.Record.{fieldOf, kindAt, spanAt, positionAt, valueAt, tokenAt, inPlace}
@@ -25,44 +22,36 @@ use Rattle.tree.specs.Check.{recordsOf, shapeOf, lacksOf, withinOf}
 use Rattle.tree.specs.Reading.{documentsOf}
 use Rattle.tree.specs.declared.Shape.{Shape}
 use Rattle.tree.specs.declared.Shape.the-variants.{Fine, Refused}
-use Rattle.tree.specs.At.{Head, Leaf, Headed, ExpressionAt, ExpressionsAt, VariablesAt, StatementAt, StatementsAt, RunAt, NameAt, single, double}
-use Rattle.tree.specs.At.{ParametersAt, ValueAt, BindingAt, AliasAt, sizeF, FunctionAt, sizeD, DefinitionAt, sizeDoc, DocumentAt, sizeE, sizeS, sizeEs, sizeSs}
-use Rattle.tree.specs.Spelled.{Spelled}
+use Rattle.tree.specs.At.{Leaf, Headed, RunAt, NameAt, single, double}
+use Rattle.tree.specs.At.{ValueAt, BindingAt, sizeF, FunctionAt, sizeD, DefinitionAt, sizeDoc, DocumentAt}
 use Rattle.tree.proofs.Spans.{within-true}
 use Rattle.tree.proofs.Walks.{lacks-done, lacks-stop, lacks-on}
 use Rattle.tree.proofs.Children.{Children, Child, child}
-use Rattle.tree.proofs.Bundle.{fine-passed, fine-spells, Passed}
-use Rattle.definition.specs.FunctionState as Emission
-use Rattle.definition.specs.FunctionState.{FunctionState, Entry, findName, defineLocal}
+use Rattle.tree.proofs.Bundle.{fine-passed, fine-spells}
+use Rattle.definition.specs.FunctionState.{FunctionState, Entry, findName}
 use Rattle.definition.specs.Uses.{Use, firstOver, firstNotPublic}
-use Rattle.definition.specs.Compiler
-use Rattle.definition.specs.Compiler.{Error, Work, Step, Added, doing, emit, pushError, addConstant, emitConstant, emitGlobal, emitName, withFunction}
-use Rattle.definition.specs.Compiler.{InfixKind, Assigning, Plain, Negated, Compound, Unknown, infixKind, compileInfixBy}
-use Rattle.definition.specs.Compiler.{compileStatement, compileStatements, compileExpression, compileExpressions, compileVariables}
-use Rattle.definition.specs.Compiler.{compileAssignExpressionLeftPart, compileParameter, compileParameters, skip, andThen, deeper, compileRescue}
-use Rattle.definition.specs.Compiler.{compileBare, compileValued, compileExpressionStatement, compileForStatement, compileIfExpression, compilePart}
-use Rattle.definition.specs.Compiler.{compileNoPart}
-use Rattle.definition.specs.Compiler.{compileArrayExpression, compileCallExpression, compilePrefixExpression, compileInfixExpression, compileOperation}
-use Rattle.definition.specs.Compiler.{compileAssignExpression, compilePair, compileAssignName, compileThisExpression, compileIdentifierExpression}
-use Rattle.definition.specs.Compiler.{compileNullExpression, compileBooleanExpression, compileStringExpression, compileFloatExpression}
-use Rattle.definition.specs.Compiler.{compileIntegerExpression, compileFunctionDefinitionBase}
+use Rattle.definition.specs.Compiler.{Error, Work, Added, addConstant}
 use Rattle.definition.specs.Book
-use Rattle.definition.specs.Book.{Context, Placed, Properties, Methods, MaybePlaced, Made, Value, Standing, Adding, NoConstant, working, resumed}
+use Rattle.definition.specs.Book.{Context, Placed, Properties, Made, Value, Standing, Adding, NoConstant, working}
 use Rattle.definition.specs.Book.{addBookConstant}
 use Rattle.definition.specs.Book.{defineContextLocal, setLocalValue, giveValue, compileAlias, compileIncludeDefinition}
 use Rattle.definition.specs.Book.{givesValues, compileInclude, valueOf, compileValue, compileBinding}
-use Rattle.definition.specs.Book.{compileLocalDefinition, addProperty, compileProperties, compileModelDefinition, publish, compileBase, addPlainFunction}
+use Rattle.definition.specs.Book.{compileLocalDefinition, addProperty, compileProperties, compileModelDefinition, compileBase, addPlainFunction}
 use Rattle.definition.specs.Book.{compileFunctionDefinition, findModelIndexByLocalName, addMethods, compileMethods, compileImplementDefinition, addFunction}
 use Rattle.definition.specs.Book.{compileApplyDefinition, compileDefinition, compileDefinitions, compileDocument, newContext, pushBookError, hasText, opened}
 use Rattle.definition.specs.DependencySolver.{Ending, Delivered, Faulty, Ring, Worked, findDocument, missing, missingBy, ready, readyBy, allIn, dependencies}
 use Rattle.definition.specs.DependencySolver.{without, afterBook, driveBy, drive, compileNeeded, needed, loadedOf}
 use Rattle.definition.specs.Prior.{Entries}
 use Rattle.definition.specs.Program.{errorEntry, entriesFrom, flat, filled, filledAll, tablesOf, errorTables}
-use Rattle.definition.specs.Answer.{Answer, Delivery, Refusal, ringErrors, answerEnding, answerBy, answerWorked, answerNeeded, answerBundle, answerDocuments}
+use Rattle.definition.specs.Answer.{Answer, Delivery, Refusal, ringErrors, answerBy, answerNeeded, answerBundle, answerDocuments}
 use Rattle.definition.specs.Answer.{answerTwice, answerShape, limitsOf, answerFrom, answer, areasOf, twice, documentPlaces}
 use Rattle.definition.specs.Within.{All, nil, _&_}
 use Rattle.definition_laws.proofs.Lists.{all-append, cond-case}
 use Rattle.definition_laws.proofs.Program.{added-case}
+use Rattle.definition_laws.proofs.Cells.{all-any}
+use Rattle.definition_laws.proofs.Ranges.{fine-ranged}
+use Rattle.definition_laws.proofs.KnownSteps as Steps
+use Rattle.definition_laws.proofs.KnownSteps.{Admits}
 use Rattle.error_lines.specs.Known.{standsIn, isKind, knownToken, isText, known}
 use Rattle.error_lines.specs.Lines.{errorAt, isZeros, errorsFrom, errorsIn}
 use Rattle.error_lines.specs.Words.{firstUnknown}
@@ -75,262 +64,37 @@ AllKnown es = All (λ (e : Error). known e ≡ true) es
 abbrev with′ : ℕ → Token → Error
 with′ n t = record { number = n; token = t }
 
--- a token is known with any of the numbers 1 to 10
+-- a token is in range, and known with any of the numbers 1 to 10
+abbrev IsKnown : Error → Type 0
+IsKnown e = known e ≡ true
+
 abbrev KnownToken : Token → Type 0
-KnownToken t = (n : ℕ) → 1 ≤ n → n ≤ 10 → known (with′ n t) ≡ true
+KnownToken t = Steps.KnownToken IsKnown t
 
--- steps
+-- of constants nothing is claimed
+abbrev AnyConstant : Constant → Type 0
+AnyConstant c = Unit {0}
 
-record Pushes (s : Step) : Type 0 where
-  on : (w : Work) → AllKnown (w .compiler .errors) → AllKnown (s w .compiler .errors)
-
-pushes-error : (n : ℕ) (t : Token) → KnownToken t → 1 ≤ n → n ≤ 10 → Pushes (pushError n t)
-pushes-error n t T a b = record { on = λ w h. all-append h (T n a b & nil) }
+admits-any : Admits AnyConstant
+admits-any = record { integer = λ v. tt; float = λ v. tt; text = λ v h. tt; model = λ v. tt; function = λ v. tt }
 
 known-constant : (c : Constant) (w : Work) → AllKnown (w .compiler .errors) → AllKnown (addConstant c w .work .compiler .errors)
 known-constant c w h = added-case (λ (a : Added). AllKnown (a .work .compiler .errors)) c w h (λ i l. h)
 
-pushes-constant : (o : ℕ) (c : Constant) (p : ℕ) → Pushes (emitConstant o c p)
-unfolding emitConstant
-pushes-constant o c p = record { on = λ w h. known-constant c w h }
-
-pushes-global : (o n p : ℕ) → Pushes (emitGlobal o n p)
-unfolding emitGlobal
-pushes-global o n p = record { on = λ w h. known-constant _ w h }
-
-known-name : (l c g n p : ℕ) (w : Work) → AllKnown (w .compiler .errors) → AllKnown (emitName l c g n p w .compiler .errors)
-unfolding emitName
-known-name l c g n p w h = go (Emission.findLocal n (w .function))
-  where
-    inner : (o : Option ℕ) → AllKnown (Compiler.emitNameInContext o c g n p w .compiler .errors)
-    inner none = pushes-global g n p .on w h
-    inner (some i) = h
-
-    go : (o : Option ℕ) → AllKnown (Compiler.emitNameBy o l c g n p w .compiler .errors)
-    go none = inner (findName n (w .compiler .locals))
-    go (some i) = h
-
-pushes-name : (l c g n p : ℕ) → Pushes (emitName l c g n p)
-pushes-name l c g n p = record { on = known-name l c g n p }
-
--- a change of the function alone
-pushes-nothing : (m : FunctionState → FunctionState) → Pushes (doing m)
-pushes-nothing m = record { on = λ w h. h }
-
-pushes-this : (t : Token) → Pushes (compileThisExpression t)
-unfolding compileThisExpression
-pushes-this t = record { on = λ w h. h }
-
-module _ {a b : Step} (A : Pushes a) (B : Pushes b) where
-  pushes-then : Pushes (andThen a b)
-  unfolding andThen
-  pushes-then = record { on = λ w h. B .on (a w) (A .on w h) }
-
-  pushes-pair : (o : ℕ) (t : Token) → Pushes (compilePair o t a b)
-  unfolding compilePair
-  pushes-pair o t = record { on = λ w h. B .on (a w) (A .on w h) }
-
-  pushes-assign : Pushes (compileAssignExpression a b)
-  unfolding compileAssignExpression
-  pushes-assign = record { on = λ w h. B .on (a w) (A .on w h) }
-
-  pushes-operation : (n : ℕ) (t : Token) → Pushes (compileOperation n t a b)
-  unfolding compileOperation
-  pushes-operation n t = record { on = λ w h. B .on (a w) (A .on w h) }
-
-  pushes-call : (t : Token) (n : ℕ) → Pushes (compileCallExpression t n a b)
-  unfolding compileCallExpression
-  pushes-call t n = record { on = λ w h. B .on (a w) (A .on w h) }
-
-pushes-array : {a : Step} → Pushes a → (t : Token) (n : ℕ) → Pushes (compileArrayExpression t n a)
-unfolding compileArrayExpression
-pushes-array A t n = record { on = λ w h. A .on w h }
-
-pushes-prefix : {a : Step} → Pushes a → (t : Token) → KnownToken t → Pushes (compilePrefixExpression t a)
-unfolding compilePrefixExpression
-pushes-prefix {a} A t T = record {
-  on = λ w h. cond-case (λ (x : Work). AllKnown (x .compiler .errors)) (eqb (t .value) 0) (λ q. A .on w h)
-      (λ q. cond-case (λ (x : Work). AllKnown (x .compiler .errors)) (eqb (t .value) 1) (λ r. A .on w h)
-      (λ r. pushes-error 3 t T (omega arith) (omega arith) .on (a w) (A .on w h)));
-}
-
-known-infix : {l r g : Step} → Pushes l → Pushes r → Pushes g → (t : Token) → KnownToken t → (w : Work) → AllKnown (w .compiler .errors)
-    → AllKnown (compileInfixExpression t l r g w .compiler .errors)
-unfolding compileInfixExpression
-known-infix {l} {r} {g} L R G t T w h = go (infixKind (t .value))
-  where
-    go : (k : InfixKind) → AllKnown (compileInfixBy k t l r g w .compiler .errors)
-    go Assigning = pushes-assign R G .on w h
-    go (Plain n) = pushes-operation L R n t .on w h
-    go (Negated n) = pushes-operation L R n t .on w h
-    go (Compound n) = G .on (compileOperation n t l r w) (pushes-operation L R n t .on w h)
-    go Unknown = pushes-error 3 t T (omega arith) (omega arith) .on w h
-
-pushes-infix : {l r g : Step} → Pushes l → Pushes r → Pushes g → (t : Token) → KnownToken t → Pushes (compileInfixExpression t l r g)
-pushes-infix L R G t T = record { on = known-infix L R G t T }
-
-pushes-skip : Pushes skip
-unfolding skip
-pushes-skip = record { on = λ w h. h }
-
-pushes-part : {a : Step} → Pushes a → Pushes (compilePart a)
-unfolding compilePart
-pushes-part A = record { on = λ w h. A .on _ h }
-
-pushes-no-part : Pushes compileNoPart
-unfolding compileNoPart
-pushes-no-part = record { on = λ w h. h }
-
-pushes-if : {c t f : Step} → Pushes c → Pushes t → Pushes f → Pushes (compileIfExpression c t f)
-unfolding compileIfExpression
-pushes-if C R F = record { on = λ w h. R .on _ (F .on _ (C .on w h)) }
-
-pushes-for : {a b : Step} → Pushes a → Pushes b → (t i : Token) → Pushes (compileForStatement t i a b)
-unfolding compileForStatement
-pushes-for A B t i = record { on = λ w h. B .on _ (pushes-constant _ _ _ .on _ (A .on _ h)) }
-
-pushes-expression-statement : {a : Step} → Pushes a → Pushes (compileExpressionStatement a)
-unfolding compileExpressionStatement
-pushes-expression-statement A = record { on = λ w h. A .on w h }
-
-known-valued : {a : Step} → Pushes a → (t : Token) → KnownToken t → (w : Work) → AllKnown (w .compiler .errors)
-    → AllKnown (compileValued t a w .compiler .errors)
-unfolding compileValued
-known-valued {a} A t T w h = go (defineLocal (t .value) (w .function) .found)
-  where
-    v : Work
-    v = withFunction (defineLocal (t .value) (w .function) .state) w
-
-    go : (o : Option ℕ) → AllKnown (Compiler.valuedBy o t a v .compiler .errors)
-    go none = pushes-error 1 t T (omega arith) (omega arith) .on v h
-    go (some i) = A .on v h
-
-pushes-valued : {a : Step} → Pushes a → (t : Token) → KnownToken t → Pushes (compileValued t a)
-pushes-valued A t T = record { on = known-valued A t T }
-
-known-bare : (n : ℕ) (t : Token) → KnownToken t → 1 ≤ n → n ≤ 10 → (w : Work) → AllKnown (w .compiler .errors)
-    → AllKnown (compileBare n t w .compiler .errors)
-unfolding compileBare
-known-bare n t T a b w h = go (defineLocal (t .value) (w .function) .found)
-  where
-    v : Work
-    v = withFunction (defineLocal (t .value) (w .function) .state) w
-
-    go : (o : Option ℕ) → AllKnown (Compiler.bareBy o n t v .compiler .errors)
-    go none = pushes-error n t T a b .on v h
-    go (some i) = h
-
-pushes-bare : (n : ℕ) (t : Token) → KnownToken t → 1 ≤ n → n ≤ 10 → Pushes (compileBare n t)
-pushes-bare n t T a b = record { on = known-bare n t T a b }
-
-pushes-rescue : (t : Token) → KnownToken t → Pushes (compileRescue t)
-unfolding compileRescue
-pushes-rescue t T = record {
-  on = λ w h. cond-case (λ (x : Work). AllKnown (x .compiler .errors)) (ltb 1 (w .function .depth))
-      (λ q. pushes-error 4 t T (omega arith) (omega arith) .on w h) (λ q. h);
-}
-
-pushes-deeper : {a : Step} → Pushes a → Pushes (deeper a)
-unfolding deeper
-pushes-deeper A = record { on = λ w h. A .on _ h }
-
--- the tree that stands in words whose records are known
+-- the tree that stands in words whose records are known; what functions push is known by the induction of `KnownSteps`
 
 module _ (w : List ℕ) (here : (i : ℕ) → 0 < spanAt w i → KnownToken (tokenAt w i)) where
-  token-is : (i : ℕ) (t : Token) → 0 < spanAt w i → t ≡ tokenAt w i → KnownToken t
-  token-is i t l e = subst KnownToken (sym e) (here i l)
-
   leaf : {i k : ℕ} {t : Token} → Leaf w i k t → KnownToken t
-  leaf {i} {k} {t} L = token-is i t (let q = L .head .span-is in omega (arith, q)) (L .token)
+  leaf L = Steps.leaf w here admits-any L
 
   headed : {i k s : ℕ} {t : Token} → Headed w i k s t → 0 < s → KnownToken t
-  headed {i} {k} {s} {t} L l = token-is i t (let q = L .head .span-is in omega (arith, q, l)) (L .token)
-
-  mutual
-    unfolding ExpressionAt compileExpression compileIntegerExpression compileFloatExpression compileStringExpression compileBooleanExpression
-        compileNullExpression compileIdentifierExpression compileAssignName
-
-    expression : (e : Expression) (i : ℕ) → ExpressionAt e w i → Pushes (compileExpression e)
-    expression (Identifier t) i x = pushes-name _ _ _ _ _
-    expression (This t) i x = pushes-this t
-    expression (Null t) i x = pushes-nothing _
-    expression (Integer t) i x = pushes-constant _ _ _
-    expression (Float t) i x = pushes-constant _ _ _
-    expression (Text t) i x = pushes-constant _ _ _
-    expression (Boolean t) i x = pushes-nothing _
-    expression (Array t values) i x = pushes-array (expressions values (i + 1) (x .1)) _ _
-    expression (Prefix t right) i x = pushes-prefix (expression right (i + 1) (x .1)) t (headed (x .0) (omega arith))
-    expression (Infix left t right) i x =
-        pushes-infix (expression left (i + 1) (x .1)) (expression right (i + 1 + sizeE left) (x .2))
-        (target left (i + 1) (x .1) t (headed (x .0) (omega arith))) t (headed (x .0) (omega arith))
-    expression (If c t) i x = pushes-if (expression c (i + 1) (x .1)) (pushes-part (statements t (i + 1 + sizeE c + 1) (x .3))) pushes-no-part
-    expression (IfElse c t f) i x =
-        pushes-if (expression c (i + 1) (x .1)) (pushes-part (statements t (i + 1 + sizeE c + 1) (x .3)))
-        (pushes-part (statements f (i + 1 + sizeE c + (1 + sizeSs t) + 1) (x .5)))
-    expression (Call t f ps) i x = pushes-call (expression f (i + 1) (x .1)) (expressions ps (i + 1 + sizeE f) (x .2)) _ _
-    expression (InstanceGet t a b) i x = pushes-pair (expression a (i + 1) (x .1)) (expression b (i + 1 + sizeE a) (x .2)) _ t
-    expression (IndexGet t a b) i x = pushes-pair (expression a (i + 1) (x .1)) (expression b (i + 1 + sizeE a) (x .2)) _ t
-
-    target : (e : Expression) (i : ℕ) → ExpressionAt e w i → (a : Token) → KnownToken a → Pushes (compileAssignExpressionLeftPart e a)
-    target (Identifier t) i x a T = pushes-name _ _ _ _ _
-    target (This t) i x a T = pushes-error 2 a T (omega arith) (omega arith)
-    target (Null t) i x a T = pushes-error 2 a T (omega arith) (omega arith)
-    target (Integer t) i x a T = pushes-error 2 a T (omega arith) (omega arith)
-    target (Float t) i x a T = pushes-error 2 a T (omega arith) (omega arith)
-    target (Text t) i x a T = pushes-error 2 a T (omega arith) (omega arith)
-    target (Boolean t) i x a T = pushes-error 2 a T (omega arith) (omega arith)
-    target (Array t values) i x a T = pushes-error 2 a T (omega arith) (omega arith)
-    target (Prefix t right) i x a T = pushes-error 2 a T (omega arith) (omega arith)
-    target (Infix left t right) i x a T = pushes-error 2 a T (omega arith) (omega arith)
-    target (If c t) i x a T = pushes-error 2 a T (omega arith) (omega arith)
-    target (IfElse c t f) i x a T = pushes-error 2 a T (omega arith) (omega arith)
-    target (Call t f ps) i x a T = pushes-error 2 a T (omega arith) (omega arith)
-    target (InstanceGet t c d) i x a T = pushes-pair (expression c (i + 1) (x .1)) (expression d (i + 1 + sizeE c) (x .2)) _ t
-    target (IndexGet t c d) i x a T = pushes-pair (expression c (i + 1) (x .1)) (expression d (i + 1 + sizeE c) (x .2)) _ t
-
-    expressions : (es : Expressions) (i : ℕ) → ExpressionsAt es w i → Pushes (compileExpressions es)
-    expressions ∅ₑ i x = pushes-skip
-    expressions (e ∷ₑ es) i x = pushes-then (expression e i (x .0)) (expressions es (i + sizeE e) (x .1))
-
-    variables : (vs : Variables) (i : ℕ) → VariablesAt vs w i → Pushes (compileVariables vs)
-    variables ∅ᵥ i x = pushes-skip
-    variables (Bare t vs) i x = pushes-then (pushes-bare 1 t (leaf (x .0)) (omega arith) (omega arith)) (variables vs (i + 2) (x .2))
-    variables (Valued t e vs) i x = pushes-then (pushes-valued (expression e (i + 1) (x .1)) t (leaf (x .0))) (variables vs (i + 1 + sizeE e) (x .2))
-
-    statement : (s : Statement) (i : ℕ) → StatementAt s w i → Pushes (compileStatement s)
-    statement (Local vs) i x = pushes-deeper (variables vs (i + 1) (x .1))
-    statement (Return t) i x = pushes-deeper (pushes-nothing _)
-    statement (For t n e ss) i x = pushes-deeper (pushes-for (expression e (i + 2) (x .2)) (statements ss (i + 2 + sizeE e) (x .3)) t n)
-    statement (Break t) i x = pushes-deeper (pushes-nothing _)
-    statement (Rescue t) i x = pushes-deeper (pushes-rescue t (leaf x))
-    statement (Expr e) i x = pushes-deeper (pushes-expression-statement (expression e (i + 1) (x .1)))
-
-    statements : (ss : Statements) (i : ℕ) → StatementsAt ss w i → Pushes (compileStatements ss)
-    statements ∅ₛ i x = pushes-skip
-    statements (s ∷ₛ ss) i x = pushes-then (statement s i (x .0)) (statements ss (i + sizeS s) (x .1))
-
-  -- functions
-
-  pushes-parameter : (t : Token) → KnownToken t → Pushes (compileParameter t)
-  unfolding compileParameter
-  pushes-parameter t T = record { on = λ v h. pushes-bare 7 t T (omega arith) (omega arith) .on _ h }
-
-  parameters : (ts : List Token) (i : ℕ) → ParametersAt ts w i → Pushes (compileParameters ts)
-  unfolding ParametersAt compileParameters
-  parameters [] i x = pushes-skip
-  parameters (t ∷ ts) i x = pushes-then (pushes-parameter t (leaf (x .0))) (parameters ts (i + 1) (x .2))
-
-  function : (f : FunctionDefinition) (k i : ℕ) → FunctionAt k f w i → Pushes (compileFunctionDefinitionBase (f .parameters) (f .body))
-  unfolding compileFunctionDefinitionBase
-  function f k i x = record {
-    on = λ v h. statements (f .body) (i + 1 + length (f .parameters)) (x .body) .on _ (parameters (f .parameters) (i + 1) (x .parameters) .on _ h);
-  }
+  headed L l = Steps.headed w here admits-any L l
 
   -- definitions
 
   book-error : (n : ℕ) (t : Token) → KnownToken t → 1 ≤ n → n ≤ 10 → (b : Book.Book) → AllKnown (b .compiler .errors)
       → AllKnown (pushBookError n t b .compiler .errors)
-  book-error n t T a c b h = all-append h (T n a c & nil)
+  book-error n t T a c b h = all-append h (T .blamed n a c & nil)
 
   local : (n : ℕ) (b : Book.Book) → AllKnown (b .compiler .errors) → AllKnown (defineContextLocal n b .book .compiler .errors)
   unfolding defineContextLocal
@@ -413,7 +177,7 @@ module _ (w : List ℕ) (here : (i : ℕ) → 0 < spanAt w i → KnownToken (tok
   base : (f : FunctionDefinition) (k i : ℕ) → FunctionAt k f w i → (b : Book.Book) → AllKnown (b .compiler .errors)
       → AllKnown (compileBase f b .book .compiler .errors)
   unfolding compileBase
-  base f k i x b h = function f k i x .on (working b) h
+  base f k i x b h = Steps.function-known w here admits-any f k i x (working b) (all-any (b .context .pool .constants)) h .errors
 
   plain-function : (o : Option ℕ) (s : FunctionState) (n : ℕ) (b : Book.Book) → AllKnown (b .compiler .errors)
       → AllKnown (addPlainFunction o s n b .book .compiler .errors)
@@ -621,15 +385,18 @@ documents-children w f =
 
 record-known : (w : List ℕ) → shapeOf w ≡ Fine → (i : ℕ) → 0 < spanAt w i → KnownToken (tokenAt w i)
 unfolding known knownToken
-record-known w f i l n a b =
-    let S = fine-spells w f in
-    let j = inside w i (S .whole) l in
-    let r = S .ranges i j in
-    let c = kinds w (recordsOf w) 1 1 0 (recordsOf w) (documents-children w f) (omega arith) i (omega arith) j in
-    let p = position-range (kindAt w i) (positionAt w i) (valueAt w i) r in
-    let v = value-range (kindAt w i) (positionAt w i) (valueAt w i) r in
-    simp (ne-eqb n 11 (λ e. omega (arith, e, b))) (and-both (leb 1 n) _ (le-leb 1 n a) (and-both (leb n 10) _ (le-leb n 10 b)
-    (and-both (inPlace (positionAt w i)) _ p (and-both (isKind (kindAt w i)) _ c v))))
+record-known w f i l = record { range = fine-ranged w f i l; blamed = λ n a b. blamed n a b }
+  where
+    blamed : (n : ℕ) → 1 ≤ n → n ≤ 10 → known (with′ n (tokenAt w i)) ≡ true
+    blamed n a b =
+        let S = fine-spells w f in
+        let j = inside w i (S .whole) l in
+        let r = S .ranges i j in
+        let c = kinds w (recordsOf w) 1 1 0 (recordsOf w) (documents-children w f) (omega arith) i (omega arith) j in
+        let p = position-range (kindAt w i) (positionAt w i) (valueAt w i) r in
+        let v = value-range (kindAt w i) (positionAt w i) (valueAt w i) r in
+        simp (ne-eqb n 11 (λ e. omega (arith, e, b))) (and-both (leb 1 n) _ (le-leb 1 n a) (and-both (leb n 10) _ (le-leb n 10 b)
+        (and-both (inPlace (positionAt w i)) _ p (and-both (isKind (kindAt w i)) _ c v))))
 
 -- file numbers are texts
 
