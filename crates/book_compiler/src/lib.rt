@@ -3,4 +3,5 @@
 mod cells;
 mod expressions;
 mod function_state;
+mod operations;
 mod statements;
