@@ -10,3 +10,7 @@ pub mod StatementKinds
 pub mod BothParts
 pub mod Variables
 pub mod Loops
+pub mod BookParts
+pub mod BookLeaves
+pub mod LocalDefinitions
+pub mod IncludeDefinitions
