@@ -10,3 +10,8 @@ pub mod StatementKinds
 pub mod BothParts
 pub mod Variables
 pub mod Loops
+pub mod LentParts
+pub mod BookRounds
+pub mod MemoryAreas
+pub mod BookBeginning
+pub mod BookEnding
