@@ -14,3 +14,8 @@ pub mod BookParts
 pub mod BookLeaves
 pub mod LocalDefinitions
 pub mod IncludeDefinitions
+pub mod LentParts
+pub mod BookRounds
+pub mod MemoryAreas
+pub mod BookBeginning
+pub mod BookEnding

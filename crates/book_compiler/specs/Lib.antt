@@ -4,3 +4,5 @@ pub mod Members
 pub mod RepresentsBook
 pub mod BookLeaves
 pub mod DefinitionSteps
+pub mod BookOrder
+pub mod Promise
