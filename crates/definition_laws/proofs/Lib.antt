@@ -46,3 +46,4 @@ pub mod StandingWords
 pub mod StandingRoot
 pub mod ReadKnown
 pub mod OntoPasses
+pub mod PromisePasses

@@ -11,31 +11,19 @@ use lib.Dec.{eqb, leb}
 use Rattle.words.specs.Areas.{entriesIn, codeArea, constantsArea, functionsArea, errorsArea}
 use Rattle.definition.specs.Book.{Context}
 use Rattle.definition.specs.Program.{Entries, entriesFrom, errorEntry, tablesOf, filled, filledAll}
-use Rattle.definition.specs.Answer.{Delivery, Refusal, answerFrom, answer, areasOf}
+use Rattle.definition.specs.Answer.{Delivery, Refusal, answer, areasOf}
 use Rattle.definition.specs.Within.{Areas, Totals, Program, lengthsOf, total, present, instructionAt, hasInstruction, allBelow, where′, marked, codeBound}
 use Rattle.definition.specs.Within.{areaBound, Class, Position, Slot, Read, Pool, ContextSlot, Other, classOf, boundByTotals, boundByFunction}
 use Rattle.definition.specs.ProgramCheck.{entryKnown, wholeKnown, beginsWell, zeros, areaFine, firstFault, programFault}
-use Rattle.definition.specs.Onto.{OntoAnswer, Unfit, Checked, contextOf, layOnBy, layOn, replyOnto, areasOnto}
+use Rattle.definition.specs.Onto.{OntoAnswer, Unfit, Checked, contextOf, layOn, replyOnto, areasOnto}
 use Rattle.definition_laws.proofs.Cells.{wides-length}
 use Rattle.definition_laws.proofs.Keeps.{tables-wide, delivered}
 use Rattle.definition_laws.proofs.Delivery.{answer-stands, standing-stands}
 use Rattle.definition_laws.proofs.Safe.{ProgramSafe}
 use Rattle.definition_laws.proofs.ReadSafe.{read-stands}
+use Rattle.definition_laws.proofs.OntoStays.{worked-answer}
 use Rattle.definition_laws.proofs.ReadKnown.{read-known}
 use Rattle.definition_laws.proofs.Passes.{standing-answer-passes, answer-passes}
-
--- a delivery of laying on: the check has passed, and the work delivers from the context that the program spells
-record LaidOn (strict : Bool) (w : List ℕ) (p : Program) (r : Context) : Type 0 where
-  fault : programFault p ≡ none
-  work : answerFrom (contextOf strict p) w (lengthsOf (p .areas)) ≡ Delivery r
-
-laid-on : (strict : Bool) (w : List ℕ) (p : Program) (r : Context) → layOn strict w p ≡ Checked (Delivery r) → LaidOn strict w p r
-unfolding layOn
-laid-on strict w p r e = go (programFault p) refl e
-  where
-    go : (o : Option ℕ) → programFault p ≡ o → layOnBy o strict w p ≡ Checked (Delivery r) → LaidOn strict w p r
-    go (some area) f q = absurd (let z : _≡_ {A = ℕ} 0 1 = cc in omega arith)
-    go none f q = record { fault = f; work = cc }
 
 -- what a call of laying on leaves: the words, and the reply's numbers
 abbrev pub leftBy : Program → OntoAnswer → Program
@@ -50,12 +38,12 @@ pub onto-passes : (strict : Bool) (w : List ℕ) (p : Program) (r : Context) →
     → programFault (leftBy p (layOn strict w p)) ≡ none
 unfolding areasOnto replyOnto
 onto-passes strict w p r n e =
-    let d = laid-on strict w p r e in
+    let (passed, work) = worked-answer strict w p (Delivery r) e in
     let lengths = lengthsOf (p .areas) in
     let thirteen : length lengths ≡ 13 = length-map (p .areas) (λ (l : List ℕ). length l) ∙ n in
-    let passed : programFault (delivered lengths r) ≡ none =
-    standing-answer-passes w lengths (contextOf strict p) r thirteen (read-stands strict p n (d .fault)) (read-known strict p (d .fault)) (d .work) in
-    subst (λ (a : OntoAnswer). programFault (leftBy p a) ≡ none) (sym e) passed
+    let again : programFault (delivered lengths r) ≡ none =
+    standing-answer-passes w lengths (contextOf strict p) r thirteen (read-stands strict p n passed) (read-known strict p passed) work in
+    subst (λ (a : OntoAnswer). programFault (leftBy p a) ≡ none) (sym e) again
 
 -- as many areas as were lent
 filled-many : (ns : List ℕ) (ts : List Entries) → length ns ≡ length ts → length (filledAll ns ts) ≡ length ns
@@ -73,10 +61,10 @@ left-areas : (strict : Bool) (w : List ℕ) (p : Program) (r : Context) → leng
     → length (areasOnto p (layOn strict w p)) ≡ 13
 unfolding areasOnto
 left-areas strict w p r n e =
-    let d = laid-on strict w p r e in
+    let (passed, work) = worked-answer strict w p (Delivery r) e in
     let lengths = lengthsOf (p .areas) in
     let thirteen : length lengths ≡ 13 = length-map (p .areas) (λ (l : List ℕ). length l) ∙ n in
-    let safe = standing-stands w lengths (contextOf strict p) r (read-stands strict p n (d .fault)) (d .work) .safe in
+    let safe = standing-stands w lengths (contextOf strict p) r (read-stands strict p n passed) work .safe in
     subst (λ (a : OntoAnswer). length (areasOnto p a) ≡ 13) (sym e) (delivered-areas lengths r safe thirteen)
 
 -- a refusal writes area 11 alone, which the check does not look at
