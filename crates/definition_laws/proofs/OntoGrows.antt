@@ -79,18 +79,18 @@ inserts-grow m (e ∷ es) l =
 
 -- a book's marks and methods
 
-pub record Grown (gs hs : List ℕ) (l m : List Method) : Type 0 where
+pub record BookGrows (gs hs : List ℕ) (l m : List Method) : Type 0 where
   pub marks : MarksGrow gs hs
   pub methods : MethodsGrow l m
 
-still : {gs : List ℕ} {l : List Method} → Grown gs gs l l
+still : {gs : List ℕ} {l : List Method} → BookGrows gs gs l l
 still {gs} {l} = record { marks = same-marks; methods = methods-same l }
 
-grown-trans : {fs gs hs : List ℕ} {k l m : List Method} → Grown fs gs k l → Grown gs hs l m → Grown fs hs k m
-grown-trans a b = record { marks = marks-trans (a .marks) (b .marks); methods = methods-trans (a .methods) (b .methods) }
+book-grows-trans : {fs gs hs : List ℕ} {k l m : List Method} → BookGrows fs gs k l → BookGrows gs hs l m → BookGrows fs hs k m
+book-grows-trans a b = record { marks = marks-trans (a .marks) (b .marks); methods = methods-trans (a .methods) (b .methods) }
 
 abbrev Adds : Book.Book → Book.Book → Type 0
-Adds b b′ = Grown (b .context .pool .globals) (b′ .context .pool .globals) (b .context .program .methods) (b′ .context .program .methods)
+Adds b b′ = BookGrows (b .context .pool .globals) (b′ .context .pool .globals) (b .context .program .methods) (b′ .context .program .methods)
 
 adds-constant : (c : Constant) (b : Book.Book) → Adds b (addBookConstant c b .book)
 adds-constant c b = record { marks = steady-constant c (working b) .marks; methods = methods-same (b .context .program .methods) }
@@ -111,7 +111,7 @@ adds-alias : (file : ℕ) (a : Alias) (b : Book.Book) → Adds b (compileAlias f
 unfolding compileAlias
 adds-alias file a b =
     let d = defineContextLocal (a .alias .value) b in
-    grown-trans (adds-define (a .alias .value) b) (go (d .place) (includedName file (a .publicName .value) (b .context)) (d .book))
+    book-grows-trans (adds-define (a .alias .value) b) (go (d .place) (includedName file (a .publicName .value) (b .context)) (d .book))
   where
     go : (p o : Option ℕ) (b : Book.Book) → Adds b (giveValue p o b)
     go p none b = still
@@ -120,7 +120,7 @@ adds-alias file a b =
 adds-include : (file : ℕ) (l : List Alias) (b : Book.Book) → Adds b (compileIncludeDefinition file l b)
 unfolding compileIncludeDefinition
 adds-include file [] b = still
-adds-include file (a ∷ l) b = grown-trans (adds-alias file a b) (adds-include file l (compileAlias file a b))
+adds-include file (a ∷ l) b = book-grows-trans (adds-alias file a b) (adds-include file l (compileAlias file a b))
 
 adds-include-or-row-11 : (index file : ℕ) (l : List Alias) (b : Book.Book) → Adds b (compileInclude index file l b)
 unfolding compileInclude
@@ -130,14 +130,14 @@ adds-compile-value : (v : Value) (t : Token) (o : Option ℕ) (b : Book.Book) �
 adds-compile-value (Standing n) t o b = adds-value o n b
 adds-compile-value (Adding c) t o b =
     let a = addBookConstant c b in
-    grown-trans (adds-constant c b) (adds-value o (a .place) (a .book))
+    book-grows-trans (adds-constant c b) (adds-value o (a .place) (a .book))
 adds-compile-value NoConstant t o b = still
 
 adds-binding : (x : Binding) (b : Book.Book) → Adds b (compileBinding x b)
 unfolding compileBinding
 adds-binding x b =
     let d = defineContextLocal (x .variable .value) b in
-    grown-trans (adds-define (x .variable .value) b) (go (d .place) (x .value) (d .book))
+    book-grows-trans (adds-define (x .variable .value) b) (go (d .place) (x .value) (d .book))
   where
     go : (o : Option ℕ) (v : Option Token) (b : Book.Book) → Adds b (compileBindingBy o v b)
     go none v b = still
@@ -147,7 +147,7 @@ adds-binding x b =
 adds-locals : (l : List Binding) (b : Book.Book) → Adds b (compileLocalDefinition l b)
 unfolding compileLocalDefinition
 adds-locals [] b = still
-adds-locals (x ∷ l) b = grown-trans (adds-binding x b) (adds-locals l (compileBinding x b))
+adds-locals (x ∷ l) b = book-grows-trans (adds-binding x b) (adds-locals l (compileBinding x b))
 
 -- models
 
@@ -158,7 +158,7 @@ adds-properties : (ts : List Token) (ps : List ℕ) (b : Book.Book) → Adds b (
 unfolding compileProperties
 adds-properties [] ps b = still
 adds-properties (t ∷ ts) ps b =
-    grown-trans (adds-property t ps b) (adds-properties ts (addProperty t ps b .texts) (addProperty t ps b .book))
+    book-grows-trans (adds-property t ps b) (adds-properties ts (addProperty t ps b .texts) (addProperty t ps b .book))
 
 adds-model : (n : Token) (ts : List Token) (b : Book.Book) → Adds b (compileModelDefinition n ts b .book)
 unfolding compileModelDefinition
@@ -168,9 +168,9 @@ adds-model n ts b =
     let b₂ = addModel (p .texts) (n .value) (p .book) in
     let a = addBookConstant c b₂ in
     let d = defineContextLocal (n .value) (a .book) in
-    grown-trans (adds-properties ts [] b)
-    (grown-trans (adds-constant c b₂)
-    (grown-trans (adds-define (n .value) (a .book)) (adds-value (d .place) (a .place) (d .book))))
+    book-grows-trans (adds-properties ts [] b)
+    (book-grows-trans (adds-constant c b₂)
+    (book-grows-trans (adds-define (n .value) (a .book)) (adds-value (d .place) (a .place) (d .book))))
 
 -- functions
 
@@ -183,7 +183,7 @@ unfolding addPlainFunction
 adds-plain o s n b =
     let c = constantOf functionKind (functionCount (b .context)) in
     let a = addBookConstant c (addFunction s n b) in
-    let g = grown-trans (adds-constant c (addFunction s n b)) (adds-value o (a .place) (a .book)) in
+    let g = book-grows-trans (adds-constant c (addFunction s n b)) (adds-value o (a .place) (a .book)) in
     cond-case (λ (x : Book.Book). Adds b x) (eqb n 1) (λ t. g) (λ t. g)
 
 adds-function : (f : FunctionDefinition) (b : Book.Book) → Adds b (compileFunctionDefinition f b .book)
@@ -191,9 +191,9 @@ unfolding compileFunctionDefinition
 adds-function f b =
     let d = defineContextLocal (f .name .value) b in
     let m = compileBase f (d .book) in
-    let g = grown-trans (adds-define (f .name .value) b) (adds-base f (d .book)) in
+    let g = book-grows-trans (adds-define (f .name .value) b) (adds-base f (d .book)) in
     cond-case (λ (p : Placed). Adds b (p .book)) (m .state .header .isInstance) (λ t. g)
-    (λ t. grown-trans g (adds-plain (d .place) (m .state) (f .name .value) (m .book)))
+    (λ t. book-grows-trans g (adds-plain (d .place) (m .state) (f .name .value) (m .book)))
 
 -- implement and apply
 
@@ -218,7 +218,7 @@ unfolding compileMethods
 adds-compile-methods [] es b = still
 adds-compile-methods (f ∷ fs) es b =
     let m = compileBase f b in
-    grown-trans (adds-base f b) (adds-compile-methods fs _ _)
+    book-grows-trans (adds-base f b) (adds-compile-methods fs _ _)
 
 -- documents
 
@@ -233,23 +233,23 @@ adds-definition (PublicFunction f) b = adds-function f b
 adds-definition (ImplementDefinition m fs) b =
     let c = compileMethods fs [] b in
     let d = findModelIndexByLocalName m (c .book) in
-    grown-trans (adds-compile-methods fs [] b)
-    (grown-trans (adds-find m (c .book)) (adds-methods (d .place) (c .entries) (d .book)))
+    book-grows-trans (adds-compile-methods fs [] b)
+    (book-grows-trans (adds-find m (c .book)) (adds-methods (d .place) (c .entries) (d .book)))
 adds-definition (ApplyDefinition s t) b =
     let d = findModelIndexByLocalName s b in
     let e = findModelIndexByLocalName t (d .book) in
-    grown-trans (adds-find s b)
-    (grown-trans (adds-find t (d .book)) (adds-methods (e .place) (methodsOf (d .place) (d .book .context)) (e .book)))
+    book-grows-trans (adds-find s b)
+    (book-grows-trans (adds-find t (d .book)) (adds-methods (e .place) (methodsOf (d .place) (d .book .context)) (e .book)))
 
 adds-definitions : (ds : List Definition) (b : Book.Book) → Adds b (compileDefinitions ds b)
 unfolding compileDefinitions
 adds-definitions [] b = still
-adds-definitions (d ∷ ds) b = grown-trans (adds-definition d b) (adds-definitions ds (compileDefinition d b))
+adds-definitions (d ∷ ds) b = book-grows-trans (adds-definition d b) (adds-definitions ds (compileDefinition d b))
 
 -- books in their order
 
 abbrev ContextAdds : Context → Context → Type 0
-ContextAdds c r = Grown (c .pool .globals) (r .pool .globals) (c .program .methods) (r .program .methods)
+ContextAdds c r = BookGrows (c .pool .globals) (r .pool .globals) (c .program .methods) (r .program .methods)
 
 adds-document : (d : Document) (c : Context) (us : List Use) → ContextAdds c (compileDocument d c us .context)
 unfolding compileDocument
@@ -268,7 +268,7 @@ drive-adds (suc k) ds done left c r us e = go (ready ds done left) (λ d c′ us
 
     after : (d : Document) (es : List Error) → ((c′ : Context) (us′ : List Use) → Ends c′ r (next d c′ us′))
         → Ends c r (afterBook es (d .filename) (compileDocument d c us .context) (compileDocument d c us .uses) (next d))
-    after d [] rest = λ q. grown-trans (adds-document d c us) (rest _ _ q)
+    after d [] rest = λ q. book-grows-trans (adds-document d c us) (rest _ _ q)
     after d (x ∷ es) rest = λ q. absurd (let z : _≡_ {A = ℕ} 0 1 = cc in omega arith)
 
     go : (o : Option Document) → ((d : Document) (c′ : Context) (us′ : List Use) → Ends c′ r (next d c′ us′)) → Ends c r (driveBy o left c us next)
@@ -277,7 +277,7 @@ drive-adds (suc k) ds done left c r us e = go (ready ds done left) (λ d c′ us
 
 -- what a call adds to the marks and methods of a context that stands
 pub standing-adds : (w lengths : List ℕ) (c r : Context) → answerFrom c w lengths ≡ Delivery r
-    → Grown (c .pool .globals) (r .pool .globals) (c .program .methods) (r .program .methods)
+    → BookGrows (c .pool .globals) (r .pool .globals) (c .program .methods) (r .program .methods)
 unfolding compileNeeded
 standing-adds w lengths c r e =
     let d = delivering c w lengths r e in
@@ -286,9 +286,9 @@ standing-adds w lengths c r e =
 -- entries
 
 -- a list of entries begins with another, entry by entry as a relation says
-pub data Begins (R : List ℕ → List ℕ → Type 0) : Entries → Entries → Type 0 where
-  rest : (fs : Entries) → Begins R [] fs
-  then : {e f : List ℕ} {es fs : Entries} → R e f → Begins R es fs → Begins R (e ∷ es) (f ∷ fs)
+pub data BeginsWith (R : List ℕ → List ℕ → Type 0) : Entries → Entries → Type 0 where
+  rest : (fs : Entries) → BeginsWith R [] fs
+  then : {e f : List ℕ} {es fs : Entries} → R e f → BeginsWith R es fs → BeginsWith R (e ∷ es) (f ∷ fs)
 
 -- word for word; with the same kind and value, and no mark taken back; with the same model and name
 abbrev pub Same : List ℕ → List ℕ → Type 0
@@ -300,11 +300,11 @@ SameButMark e f = (getD e 0 0 ≡ getD f 0 0) × (getD e 1 0 ≡ getD f 1 0) × 
 abbrev pub SameButFunction : List ℕ → List ℕ → Type 0
 SameButFunction e f = (getD e 0 0 ≡ getD f 0 0) × (getD e 1 0 ≡ getD f 1 0)
 
-pub begins-more : (es fs : Entries) → Begins Same es (es ++ fs)
+pub begins-more : (es fs : Entries) → BeginsWith Same es (es ++ fs)
 begins-more [] fs = rest fs
 begins-more (e ∷ es) fs = then refl (begins-more es fs)
 
-methods-begin : {l m : List Method} (i : ℕ) → MethodsGrow l m → Begins SameButFunction (entriesFrom methodEntry i l) (entriesFrom methodEntry i m)
+methods-begin : {l m : List Method} (i : ℕ) → MethodsGrow l m → BeginsWith SameButFunction (entriesFrom methodEntry i l) (entriesFrom methodEntry i m)
 methods-begin i (more-methods ms) = rest (entriesFrom methodEntry i ms)
 methods-begin i (same-key x y a b g) = then (a, b) (methods-begin (i + 1) g)
 
@@ -334,53 +334,53 @@ pool-appended {cs} (not-found ds d g e) = let x = pool-appended g in
     record { added = x .added ++ (d ∷ []); whole = ap (λ (l : List Constant). l ++ (d ∷ [])) (x .whole) ∙ append-assoc cs (x .added) (d ∷ []) }
 
 constants-begin : {gs hs : List ℕ} (i : ℕ) (cs added : List Constant) → MarksGrow gs hs
-    → Begins SameButMark (entriesFrom (constantEntry gs) i cs) (entriesFrom (constantEntry hs) i (cs ++ added))
+    → BeginsWith SameButMark (entriesFrom (constantEntry gs) i cs) (entriesFrom (constantEntry hs) i (cs ++ added))
 constants-begin {gs} {hs} i [] added g = rest (entriesFrom (constantEntry hs) i added)
 constants-begin i (c ∷ cs) added g = then (refl, refl, mark-stays i g) (constants-begin (i + 1) cs added g)
 
 -- a delivery onto a program, against what stood
-pub record Grows (p : Program) (c : Context) : Type 0 where
-  pub code : Begins Same (lentEntries p codeArea) (codeTable c)
-  pub constants : Begins SameButMark (lentEntries p constantsArea) (constantTable c)
-  pub functions : Begins Same (lentEntries p functionsArea) (functionTable c)
-  pub models : Begins Same (lentEntries p modelsArea) (modelTable c)
-  pub properties : Begins Same (lentEntries p propertiesArea) (propertyTable c)
-  pub methods : Begins SameButFunction (lentEntries p methodsArea) (methodTable c)
-  pub locals : Begins Same (lentEntries p contextLocalsArea) (localTable c)
-  pub publics : Begins Same (lentEntries p publicNamesArea) (publicTable c)
-  pub books : Begins Same (lentEntries p booksArea) (bookTable c)
+pub record GrownFrom (p : Program) (c : Context) : Type 0 where
+  pub code : BeginsWith Same (lentEntries p codeArea) (codeTable c)
+  pub constants : BeginsWith SameButMark (lentEntries p constantsArea) (constantTable c)
+  pub functions : BeginsWith Same (lentEntries p functionsArea) (functionTable c)
+  pub models : BeginsWith Same (lentEntries p modelsArea) (modelTable c)
+  pub properties : BeginsWith Same (lentEntries p propertiesArea) (propertyTable c)
+  pub methods : BeginsWith SameButFunction (lentEntries p methodsArea) (methodTable c)
+  pub locals : BeginsWith Same (lentEntries p contextLocalsArea) (localTable c)
+  pub publics : BeginsWith Same (lentEntries p publicNamesArea) (publicTable c)
+  pub books : BeginsWith Same (lentEntries p booksArea) (bookTable c)
 
 module _ (strict : Bool) (w : List ℕ) (p : Program) (c : Context) (thirteen : length (p .areas) ≡ 13) (q : layOn strict w p ≡ Checked (Delivery c)) where
   answered : answerFrom (contextOf strict p) w (lengthsOf (p .areas)) ≡ Delivery c
   answered = worked-answer strict w p (Delivery c) q .1
 
   -- entries that stood, and then more
-  prior-begins : (of : Prior → Entries) (more : Entries) → Begins Same (of (priorOf p)) (of (c .prior) ++ more)
+  prior-begins : (of : Prior → Entries) (more : Entries) → BeginsWith Same (of (priorOf p)) (of (c .prior) ++ more)
   unfolding contextOf
   prior-begins of more =
       let stands = read-stands strict p thirteen (worked-answer strict w p (Delivery c) q .0) in
       let same : c .prior ≡ priorOf p = standing-prior w (lengthsOf (p .areas)) (contextOf strict p) c stands answered in
-      subst (λ (x : Prior). Begins Same (of (priorOf p)) (of x ++ more)) (sym same) (begins-more (of (priorOf p)) more)
+      subst (λ (x : Prior). BeginsWith Same (of (priorOf p)) (of x ++ more)) (sym same) (begins-more (of (priorOf p)) more)
 
-  constants-grow : Begins SameButMark (lentEntries p constantsArea) (constantTable c)
+  constants-grow : BeginsWith SameButMark (lentEntries p constantsArea) (constantTable c)
   unfolding contextOf
   constants-grow =
       let passed = check-passes p (worked-answer strict w p (Delivery c) q .0) in
       let es = lentEntries p constantsArea in
       let x = pool-appended (standing-grows w (lengthsOf (p .areas)) (contextOf strict p) c answered) in
-      subst (λ (l : Entries). Begins SameButMark l (constantTable c)) (lent-constants strict p passed)
-      (subst (λ (l : List Constant). Begins SameButMark (entriesFrom (constantEntry (marksFrom 0 es)) 0 (constantsOf es))
+      subst (λ (l : Entries). BeginsWith SameButMark l (constantTable c)) (lent-constants strict p passed)
+      (subst (λ (l : List Constant). BeginsWith SameButMark (entriesFrom (constantEntry (marksFrom 0 es)) 0 (constantsOf es))
       (entriesFrom (constantEntry (c .pool .globals)) 0 l)) (sym (x .whole))
       (constants-begin 0 (constantsOf es) (x .added) (standing-adds w (lengthsOf (p .areas)) (contextOf strict p) c answered .marks)))
 
-  methods-grow : Begins SameButFunction (lentEntries p methodsArea) (methodTable c)
+  methods-grow : BeginsWith SameButFunction (lentEntries p methodsArea) (methodTable c)
   unfolding contextOf
   methods-grow =
       let passed = check-passes p (worked-answer strict w p (Delivery c) q .0) in
-      subst (λ (l : Entries). Begins SameButFunction l (methodTable c)) (methods-back 0 (lent-wide (passed .methods)))
+      subst (λ (l : Entries). BeginsWith SameButFunction l (methodTable c)) (methods-back 0 (lent-wide (passed .methods)))
       (methods-begin 0 (standing-adds w (lengthsOf (p .areas)) (contextOf strict p) c answered .methods))
 
-  pub onto-grows : Grows p c
+  pub onto-grows : GrownFrom p c
   onto-grows = record {
     code = prior-begins (λ x. x .code) _;
     constants = constants-grow;

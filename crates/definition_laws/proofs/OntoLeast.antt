@@ -162,7 +162,8 @@ module _ (n₀ n₁ n₂ n₃ n₄ n₅ n₆ n₇ n₈ n₉ n₁₀ n₁₁ n₁
       let none-filled : (n : ℕ) → length (filled n []) ≡ n = λ n. filled-length n [] (omega arith) in
       cons-same (none-filled n₀) (cons-same (none-filled n₁) (cons-same filled-three (cons-same (none-filled n₃) (
       cons-same (none-filled n₄) (cons-same (none-filled n₅) (cons-same (none-filled n₆) (cons-same (none-filled n₇) (
-      cons-same (none-filled n₈) (cons-same (none-filled n₉) (cons-same (none-filled n₁₀) (cons-same (none-filled n₁₁) (cons-same (none-filled n₁₂) refl))))))))))))
+      cons-same (none-filled n₈) (cons-same (none-filled n₉) (cons-same (none-filled n₁₀) (
+      cons-same (none-filled n₁₁) (cons-same (none-filled n₁₂) refl))))))))))))
 
   pub onto-least : (strict : Bool) (w : List ℕ) → layOn strict w p ≡ Checked (answer strict w lengths)
   unfolding layOn answer

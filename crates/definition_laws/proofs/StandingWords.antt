@@ -16,14 +16,14 @@ use Rattle.definition.specs.Onto.{lentEntries, OntoAnswer, Checked, layOn, area
 use Rattle.definition_laws.proofs.Cells.{flat-length, filled-at}
 use Rattle.definition_laws.proofs.PassingAreas.{Passing, check-passes, entriesOf-split, lent-length, lent-wide}
 use Rattle.definition_laws.proofs.OntoStays.{worked-answer}
-use Rattle.definition_laws.proofs.OntoGrows.{Begins, rest, then, Same, onto-grows}
+use Rattle.definition_laws.proofs.OntoGrows.{BeginsWith, rest, then, Same, onto-grows}
 
 -- entries that begin with others, word for word
 record Continued (es fs : Entries) : Type 0 where
   more : Entries
   whole : es ++ more ≡ fs
 
-continued : {es fs : Entries} → Begins Same es fs → Continued es fs
+continued : {es fs : Entries} → BeginsWith Same es fs → Continued es fs
 continued (rest fs) = record { more = fs; whole = refl }
 continued (then {e = e} {fs = fs} q b) =
     let x = continued b in
@@ -48,7 +48,7 @@ module _ {p : Program} {area : ℕ} (a : Passing p area) where
       ∙ take-at (flat (lentEntries p area)) (drop words m) words standing-length
 
   -- also in an area that is filled with entries that begin with them
-  words-filled : (n : ℕ) (fs : Entries) → Begins Same (lentEntries p area) fs → take words (filled n fs) ≡ flat (lentEntries p area)
+  words-filled : (n : ℕ) (fs : Entries) → BeginsWith Same (lentEntries p area) fs → take words (filled n fs) ≡ flat (lentEntries p area)
   words-filled n fs b =
       let x = continued b in
       let es = lentEntries p area in
@@ -64,7 +64,7 @@ module _ (strict : Bool) (w : List ℕ) (p : Program) (c : Context) (thirteen : 
       let n = total p area * widthOf area in
       take n (getD (areasOnto p (layOn strict w p)) area []) ≡ take n (getD (p .areas) area [])
 
-  words-stay : (area : ℕ) → area < 13 → Passing p area → Begins Same (lentEntries p area) (getD (tablesOf c) area []) → WordsStay area
+  words-stay : (area : ℕ) → area < 13 → Passing p area → BeginsWith Same (lentEntries p area) (getD (tablesOf c) area []) → WordsStay area
   unfolding areasOnto areasOf tablesOf
   words-stay area h a b =
       let lengths = lengthsOf (p .areas) in
