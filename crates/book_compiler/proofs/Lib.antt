@@ -14,3 +14,6 @@ pub mod BookParts
 pub mod BookLeaves
 pub mod LocalDefinitions
 pub mod IncludeDefinitions
+pub mod ModelDefinitions
+pub mod ApplyDefinitions
+pub mod DocumentDefinitions
