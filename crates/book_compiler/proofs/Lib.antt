@@ -19,3 +19,6 @@ pub mod BookRounds
 pub mod MemoryAreas
 pub mod BookBeginning
 pub mod BookEnding
+pub mod ModelDefinitions
+pub mod ApplyDefinitions
+pub mod DocumentDefinitions
