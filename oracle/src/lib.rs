@@ -26,6 +26,7 @@ pub mod model;
 pub mod ours;
 pub mod pieces;
 pub mod plain;
+pub mod program_calls;
 pub mod random;
 pub mod real;
 pub mod records;

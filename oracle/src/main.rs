@@ -40,6 +40,11 @@ oracle tables [--seed S] [--count N] [--limits]
 oracle strict [--seed S] [--seeds K] [--count N] [--ours]
     both modes over N bundles of each of the K seeds from S on, with names of includes spoilt: the model against what
     row 11 must be, and the library against the model, every area exactly full, one short and empty
+oracle programs [--seed S] [--count N] [--each] [--bench]
+    the library's program check and the reading over N programs, six in seven damaged; or over every
+    single damage of samples, N of them made by chance; or its times on programs long in one way
+oracle program-cases
+    writes the stored cases of the program `program_cases` anew
 oracle table-cases
     writes the stored cases of the program `table_cases` anew
 oracle table-bench [--runs R]
@@ -278,6 +283,40 @@ fn run_strict(arguments: &Arguments) -> ExitCode {
     code
 }
 
+#[cfg(feature = "link")]
+fn run_programs(arguments: &Arguments) -> ExitCode {
+    use oracle::program_calls::{bench, compare, compare_each};
+    let mut side = oracle::ours::Library;
+    if arguments.has("--bench") {
+        bench(&mut side);
+        return ExitCode::SUCCESS;
+    }
+    let (seed, count) = (arguments.number("--seed", 1), arguments.number("--count", 1000));
+    let start = Instant::now();
+    let seen = match arguments.has("--each") {
+        true => compare_each(&mut side, seed, count),
+        false => compare(&mut side, seed, count),
+    };
+    seen.print();
+    println!("seconds {:.1}", start.elapsed().as_secs_f64());
+    let Some(first) = &seen.first else {
+        return ExitCode::SUCCESS;
+    };
+    println!("first difference: {first}");
+    ExitCode::FAILURE
+}
+
+#[cfg(not(feature = "link"))]
+fn run_programs(_: &Arguments) -> ExitCode {
+    unreachable!("`needs_library` holds it back");
+}
+
+fn run_program_cases(_: &Arguments) -> ExitCode {
+    let (given, wanted) = oracle::program_calls::stored();
+    let files = [("stdin", given), ("stdout", wanted)].map(|(name, text)| (name.to_string(), text.into_bytes()));
+    write_files(&Path::new(env!("CARGO_MANIFEST_DIR")).join("../crates/program_cases"), &BTreeMap::from(files))
+}
+
 fn run_table_cases(_: &Arguments) -> ExitCode {
     let (given, wanted) = oracle::table_calls::stored();
     let files = [("stdin", given), ("stdout", wanted)].map(|(name, text)| (name.to_string(), text.into_bytes()));
@@ -384,7 +423,7 @@ const WRONGLY_CALLED: u8 = 2;
 /// A command, its flags, whether it takes files, and what it does.
 type Command = (&'static str, &'static [Flag], bool, fn(&Arguments) -> ExitCode);
 
-const COMMANDS: [Command; 18] = [
+const COMMANDS: [Command; 20] = [
     (
         "compare",
         &[
@@ -405,6 +444,8 @@ const COMMANDS: [Command; 18] = [
     ("convert", &[Number("--seed"), Number("--count"), Switch("--large"), Switch("--limits")], false, run_convert),
     ("tables", &[Number("--seed"), Number("--count"), Switch("--limits")], false, run_tables),
     ("strict", &[Number("--seed"), Number("--seeds"), Number("--count"), Switch("--ours")], false, run_strict),
+    ("programs", &[Number("--seed"), Number("--count"), Switch("--each"), Switch("--bench")], false, run_programs),
+    ("program-cases", &[], false, run_program_cases),
     ("table-cases", &[], false, run_table_cases),
     ("table-bench", &[Number("--runs")], false, run_table_bench),
     ("bench", &[Number("--runs")], false, run_bench),

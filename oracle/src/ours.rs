@@ -1,14 +1,16 @@
 //! The library of this repository through the crate `rust/`, behind the feature `link`. The crate's
 //! build script links it.
 
-use crate::areas::Lent;
+use crate::areas::{Lengths, Lent};
 use crate::compare::Side;
 use crate::convert::Converters;
 use crate::error_calls::ErrorCalls;
+use crate::program_calls::ProgramCalls;
+use crate::standing::Totals as Standing;
 use crate::strict_calls::Modes;
 use crate::table_calls::TableCalls;
 use crate::views::Answered;
-use clover_back_end::{calls, Converted, Mode};
+use clover_back_end::{calls, Converted, Mode, Totals};
 
 pub struct Library;
 
@@ -61,5 +63,30 @@ impl TableCalls for Library {
     fn to_table(&mut self, words: &[u64], out: &mut [u8]) -> [u64; 4] {
         let tabled = calls::records_to_table(words, out);
         [tabled.number, tabled.place as u64, tabled.total as u64, tabled.file]
+    }
+}
+
+impl ProgramCalls for Library {
+    fn check_program(&mut self, memory: &[u64], lengths: &Lengths, totals: &Standing) -> [u64; 2] {
+        let [code, constants, functions, models, properties, methods, context_locals, public_names, ..] = totals.areas;
+        let [.., scope_names, breaks, errors, books] = totals.areas;
+        let totals = Totals {
+            code,
+            constants,
+            functions,
+            models,
+            properties,
+            methods,
+            context_locals,
+            public_names,
+            scope_names,
+            breaks,
+            errors,
+            books,
+            entry_point: totals.entry_point,
+            global_dependencies: totals.globals,
+        };
+        let checked = calls::check_program(memory, *lengths, totals);
+        [checked.number, checked.place as u64]
     }
 }

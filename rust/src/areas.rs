@@ -165,6 +165,11 @@ impl Areas {
         &self.memory[self.range(area)]
     }
 
+    /// All areas in one memory, one after the other by number, and the words of each.
+    pub fn memory(&self) -> (&[u64], [usize; AREAS]) {
+        (&self.memory, Area::each(|area| self.words_of(area)))
+    }
+
     /// The areas as slices, in the order of their numbers, for a call that is made by hand.
     pub fn lend(&mut self) -> [&mut [u64]; AREAS] {
         self.reply = None;

@@ -16,6 +16,7 @@
 
 use crate::areas::AREAS;
 use crate::mode::Mode;
+use crate::program::Totals;
 use crate::reply::{Answer, Checked, Converted, Reply, Tabled, Version};
 use std::sync::Once;
 
@@ -25,6 +26,7 @@ pub const LAYOUT: u64 = 3;
 extern "C" {
     fn clover_version() -> Version;
     fn clover_check(tree: *const u64, words: usize) -> Checked;
+    fn clover_check_program(memory: *const u64, words: usize, lengths: Lengths, totals: Totals) -> Checked;
     fn clover_columns_to_records(file: *const u8, bytes: usize, out: *mut u64, words: usize) -> Converted;
     fn clover_records_to_columns(tree: *const u64, words: usize, out: *mut u8, bytes: usize) -> Converted;
     fn clover_table_to_records(table: *const u8, bytes: usize, file: u64, out: *mut u64, words: usize) -> Converted;
@@ -62,6 +64,11 @@ extern "C" {
     ) -> Reply;
 }
 
+/// The words of each area in one memory, in the order of the areas' numbers.
+#[repr(C)]
+#[derive(Clone, Copy)]
+struct Lengths([usize; AREAS]);
+
 /// Which library is linked.
 pub fn version() -> Version {
     // Nothing goes in; a struct of two words comes back.
@@ -86,6 +93,15 @@ pub fn check(tree: &[u64]) -> Checked {
     hold_to_layout();
     // The words outlive the call, which only reads them.
     unsafe { clover_check(tree.as_ptr(), tree.len()) }
+}
+
+/// The program check: whether words and totals that somebody lends are a program. The areas follow each other in one memory by
+/// their numbers, each with so many words; a length that passes the end is cut there. Row 3 with 1,048,576 plus the number of
+/// the first area that fails. [`Checked::program_result`] reads the reply.
+pub fn check_program(memory: &[u64], lengths: [usize; AREAS], totals: Totals) -> Checked {
+    hold_to_layout();
+    // The words outlive the call, which only reads them; twelve words one after the other are a struct of twelve.
+    unsafe { clover_check_program(memory.as_ptr(), memory.len(), Lengths(lengths), totals) }
 }
 
 /// A column file to records, or rows 1 to 4, or row 9 with place 0 where the output is too short.

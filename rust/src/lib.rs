@@ -60,6 +60,8 @@ mod program;
 pub mod records;
 mod refusal;
 mod reply;
+#[cfg(feature = "link")]
+mod standing;
 mod table;
 mod texts;
 
@@ -80,5 +82,7 @@ pub use position::Position;
 pub use program::{ContextLocal, Function, Method, Model, Program, PublicName, Totals};
 pub use refusal::{Error, ErrorKind, Refusal, Token};
 pub use reply::{Answer, Checked, Converted, Reply, Tabled, Version};
+#[cfg(feature = "link")]
+pub use standing::check_program;
 pub use table::TABLE_LINE_BYTES;
 pub use texts::{Text, TextTable, Texts, TextsError};

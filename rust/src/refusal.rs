@@ -13,6 +13,9 @@ use std::fmt;
 /// The place that row 9 gives for the buffer of lines: it comes after the twelve areas.
 const LINE_BUFFER: u64 = 13;
 
+/// What row 3 of the program check adds to an area's number: no record has so large an index.
+pub(crate) const PROGRAM_PLACE: u64 = 1_048_576;
+
 /// Why a call delivers nothing. Each case is a row of docs/FORMAT.md, 'Refusals', with what its place
 /// means.
 #[derive(Clone, Debug, PartialEq, Eq)]
@@ -73,6 +76,11 @@ pub enum Refusal {
         /// The first such error of the list, from 0.
         index: u64,
     },
+    /// Row 3 of the program check: an area of a standing program fails.
+    BadProgram {
+        /// The first such area.
+        area: Area,
+    },
     /// Row 9, place 13: the buffer for lines of errors has no room.
     LineBufferShort,
     /// Row 10: the records are no constant table's.
@@ -115,7 +123,7 @@ impl Refusal {
         match self {
             Refusal::BadLine { .. } => 1,
             Refusal::BadLength => 2,
-            Refusal::BadShape { .. } | Refusal::UnknownError { .. } => 3,
+            Refusal::BadShape { .. } | Refusal::UnknownError { .. } | Refusal::BadProgram { .. } => 3,
             Refusal::TooDeep { .. } => 4,
             Refusal::BookTwice { .. } => 5,
             Refusal::BookMissing { .. } => 6,
@@ -141,6 +149,7 @@ impl Refusal {
             Refusal::Ring { files } => files.len() as u64,
             Refusal::AreaFull { area } => area.number(),
             Refusal::UnknownError { index } => *index,
+            Refusal::BadProgram { area } => PROGRAM_PLACE + area.number(),
             Refusal::LineBufferShort => LINE_BUFFER,
         }
     }
@@ -150,7 +159,7 @@ impl Refusal {
         match self {
             Refusal::BadLine { .. } => "bad line",
             Refusal::BadLength => "bad length",
-            Refusal::BadShape { .. } | Refusal::UnknownError { .. } => "bad shape",
+            Refusal::BadShape { .. } | Refusal::UnknownError { .. } | Refusal::BadProgram { .. } => "bad shape",
             Refusal::TooDeep { .. } => "too deep",
             Refusal::BookTwice { .. } => "book twice",
             Refusal::BookMissing { .. } => "book missing",
@@ -209,6 +218,7 @@ impl Refusal {
             Refusal::UnknownError { index } => {
                 format!("{word}: error {index} of the list has a number, a position or a token that is not known")
             }
+            Refusal::BadProgram { area } => format!("{word}: area {}, {area}, is no part of a program", area.number()),
             Refusal::LineBufferShort => format!("{word}: the buffer for the lines of errors is too short"),
             Refusal::NotATable { record } => format!("{word}: up to record {record} no table agrees"),
             Refusal::NameNotPublic { record, name } => {
@@ -340,7 +350,10 @@ mod tests {
         assert_eq!(spelt(7, 2), "book faulty: text 2 has errors");
         assert_eq!(spelt(9, 7), "area full: area 7, context locals, has no room");
         assert_eq!(spelt(9, 0), "area full: the output is too short");
-        assert_eq!(spelt(11, 4), "name not public: record 4, an include, lists a name, which is not public in its file");
+        assert_eq!(
+            spelt(11, 4),
+            "name not public: record 4, an include, lists a name, which is not public in its file"
+        );
     }
 
     #[test]
@@ -365,6 +378,13 @@ mod tests {
         let short = Refusal::LineBufferShort;
         assert_eq!((short.row(), short.place(), short.record()), (9, 13, None));
         assert_eq!(short.to_string(), "area full: the buffer for the lines of errors is too short");
+    }
+
+    #[test]
+    fn the_area_of_a_program_is_spelt() {
+        let functions = Refusal::BadProgram { area: Area::Functions };
+        assert_eq!((functions.row(), functions.place(), functions.record()), (3, 1_048_579, None));
+        assert_eq!(functions.to_string(), "bad shape: area 3, functions, is no part of a program");
     }
 
     #[test]

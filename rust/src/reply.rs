@@ -2,7 +2,7 @@
 
 use crate::areas::{Area, AREAS};
 use crate::program::{Program, Totals};
-use crate::refusal::Refusal;
+use crate::refusal::{Refusal, PROGRAM_PLACE};
 use crate::texts::Text;
 
 /// Which library is linked.
@@ -15,7 +15,7 @@ pub struct Version {
     pub layout: u64,
 }
 
-/// Of the shape check.
+/// Of the shape check and of the program check.
 #[repr(C)]
 #[derive(Clone, Copy, Debug, Default, PartialEq, Eq)]
 pub struct Checked {
@@ -29,6 +29,17 @@ impl Checked {
     /// Why the words are refused, without the reason of a row 3.
     pub fn result(self) -> Result<(), Refusal> {
         Refusal::of(self.number, self.place as u64, &[]).map_or(Ok(()), Err)
+    }
+
+    /// Of the program check: the area that fails.
+    pub fn program_result(self) -> Result<(), Refusal> {
+        match self.number {
+            0 => Ok(()),
+            _ => {
+                let area = Area::from_number(self.place as u64 - PROGRAM_PLACE);
+                Err(Refusal::BadProgram { area: area.expect("row 3 of the program check has an area") })
+            }
+        }
     }
 }
 

@@ -8,10 +8,16 @@ use constant_tables::Tabled;
 use constant_tables::records_to_table;
 use constant_tables::table_to_records;
 use error_lines::errors_in_words;
+use program_check::check_program;
 use tree::Shape;
 use tree::check;
 use words::reply::Reply;
+use words::reply::Totals;
 ghost use Rattle.definition.specs.Promise.{areas, Compiles};
+ghost use Rattle.definition.specs.ProgramCheck.{programFault};
+ghost use Rattle.program_check.specs.Answer.{answerOf};
+ghost use Rattle.program_check.specs.Parts.{lent};
+ghost use Rattle.program_check.specs.OneMemory.{areasIn};
 ghost use mathlib.Core.Path.{_≡_};
 ghost use lib.ListN.{length};
 ghost use Rattle.tree.specs.Check.{shapeOf};
@@ -19,6 +25,7 @@ ghost use Rattle.column_files.specs.Convert.{columnsToRecords, recordsToColumns
 ghost use Rattle.constant_tables.specs.Convert.{tableToRecords, recordsToTable, Tables};
 ghost use Rattle.error_lines.specs.Words.{inWords};
 ghost use Rattle.clover_back_end.specs.Refusals.{refusalOf};
+ghost use Rattle.clover_back_end.specs.Lengths.{lengthsOf};
 ghost use Rattle.clover_back_end.specs.Modes.{isStrict};
 ghost use Rattle.clover_back_end.specs.Versions.{thisVersion};
 
@@ -27,11 +34,28 @@ const VERSION: u64 = 3;
 // Counts forms of what goes in and out (docs/FORMAT.md, 'Version and layout').
 const LAYOUT: u64 = 3;
 
-// What the shape check answers: the number of a refusal's row and its place, or 0 and 0.
+// What the shape check and the program check answer: the number of a refusal's row and its place, or 0 and 0.
 #[repr(C)]
 pub struct Refusal {
     pub number: u64,
     pub place: usize,
+}
+
+// How many words of one memory each area has; the areas follow each other by number.
+#[repr(C)]
+pub struct Lengths {
+    pub code: usize,
+    pub constants: usize,
+    pub functions: usize,
+    pub models: usize,
+    pub properties: usize,
+    pub methods: usize,
+    pub context_locals: usize,
+    pub public_names: usize,
+    pub scope_names: usize,
+    pub breaks: usize,
+    pub errors: usize,
+    pub books: usize,
 }
 
 // Which library this is. A caller compares the layout with the one that it was written for.
@@ -52,12 +76,9 @@ pub extern "C" fn clover_version() -> Version
     }
 }
 
-// Rows 2 to 4 on any words.
-#[no_mangle]
-pub extern "C" fn clover_check(tree: &[u64]) -> Refusal
-    ensures { λ r. ⌜ r ≡ refusalOf (shapeOf (now (tree .entry))) ⌝ }
+fn refusal_of(shape: Shape) -> Refusal
+    ensures { λ r. ⌜ r ≡ refusalOf shape ⌝ }
 {
-    let shape = check(tree);
     match shape {
         Shape::Refused(number, place) => Refusal { number, place },
         Shape::Fine => Refusal {
@@ -65,6 +86,36 @@ pub extern "C" fn clover_check(tree: &[u64]) -> Refusal
             place: 0,
         },
     }
+}
+
+// Rows 2 to 4 on any words.
+#[no_mangle]
+pub extern "C" fn clover_check(tree: &[u64]) -> Refusal
+    ensures { λ r. ⌜ r ≡ refusalOf (shapeOf (now (tree .entry))) ⌝ }
+{
+    refusal_of(check(tree))
+}
+
+// The program check (2026-01) on any memory, lengths and totals: row 3 with 1,048,576 plus the first area that fails, or 0 and 0.
+#[no_mangle]
+pub extern "C" fn clover_check_program(memory: &[u64], lengths: Lengths, totals: Totals) -> Refusal
+    ensures { λ r. ⌜ r ≡ refusalOf (answerOf (programFault (lent (areasIn (lengthsOf lengths) (now (memory .entry))) totals))) ⌝ }
+{
+    let words = [
+        lengths.code,
+        lengths.constants,
+        lengths.functions,
+        lengths.models,
+        lengths.properties,
+        lengths.methods,
+        lengths.context_locals,
+        lengths.public_names,
+        lengths.scope_names,
+        lengths.breaks,
+        lengths.errors,
+        lengths.books,
+    ];
+    refusal_of(check_program(memory, words, totals))
 }
 
 // A column file to records.

@@ -4,7 +4,9 @@ pub mod EntryTests
 pub mod InstructionTests
 pub mod AreaTests
 pub mod KeyTests
+pub mod KeyPlaces
 pub mod FunctionTests
 pub mod ConstantTests
 pub mod WholeTests
+pub mod OneMemory
 pub mod Cases

@@ -3,5 +3,7 @@ pub mod Parts
 pub mod Instructions
 pub mod HasEntries
 pub mod Keys
+pub mod KeySets
 pub mod Functions
 pub mod Answer
+pub mod OneMemory

@@ -7,11 +7,14 @@ mod instructions;
 mod keys;
 mod whole;
 
+ghost use Prim.Native.Nat.{_-_};
 ghost use mathlib.Core.Path.{_≡_};
+ghost use lib.ListN.{take, drop};
 ghost use Rattle.definition.specs.Promise.{areas};
 ghost use Rattle.definition.specs.ProgramCheck.{programFault};
 ghost use Rattle.program_check.specs.Answer.{answerOf};
 ghost use Rattle.program_check.specs.Parts.{lent};
+ghost use Rattle.program_check.specs.OneMemory.{areasIn};
 use crate::areas::entries_fine;
 use crate::whole::books_area;
 use crate::whole::code_area;
@@ -20,6 +23,7 @@ use crate::whole::empty_area;
 use crate::whole::functions_area;
 use crate::whole::methods_area;
 use crate::whole::publics_area;
+use memory::starts_of;
 use tree::Shape;
 use words::areas::BOOKS;
 use words::areas::BREAKS;
@@ -38,8 +42,59 @@ use words::reply::Totals;
 // "row 3 with place 1,048,576 plus the area number".
 const PROGRAM_PLACE: usize = 1048576;
 
-// The program check, whatever words and totals are lent; nothing is written. Area 11 is not looked at.
-pub fn check(
+// The words of a memory from one on up to another, as far as there are any.
+fn part_of(memory: &[u64], start: usize, end: usize) -> &[u64]
+    ensures { λ r. ⌜ now r ≡ take (end - start) (drop start (now (memory .entry))) ⌝ }
+{
+    let size = memory.len();
+    if size <= start {
+        return &memory[0..0];
+    }
+    if end <= start {
+        return &memory[0..0];
+    }
+    if size < end {
+        return &memory[start..size];
+    }
+    &memory[start..end]
+}
+
+// The program check of areas that one memory has, one after the other by number: any words, lengths and totals; nothing is written.
+pub fn check_program(memory: &[u64], lengths: [usize; 12], totals: Totals) -> Shape
+    ensures { λ r. ⌜ r ≡ answerOf (programFault (lent (areasIn lengths (now (memory .entry))) totals)) ⌝ }
+{
+    let starts = starts_of(lengths, memory.len());
+    let code = part_of(memory, starts[1], starts[2]);
+    let constants = part_of(memory, starts[2], starts[3]);
+    let functions = part_of(memory, starts[3], starts[4]);
+    let models = part_of(memory, starts[4], starts[5]);
+    let properties = part_of(memory, starts[5], starts[6]);
+    let methods = part_of(memory, starts[6], starts[7]);
+    let locals = part_of(memory, starts[7], starts[8]);
+    let publics = part_of(memory, starts[8], starts[9]);
+    let names = part_of(memory, starts[9], starts[10]);
+    let breaks = part_of(memory, starts[10], starts[11]);
+    let errors = part_of(memory, starts[11], starts[12]);
+    let books = part_of(memory, starts[12], starts[13]);
+    check(
+        code,
+        constants,
+        functions,
+        models,
+        properties,
+        methods,
+        locals,
+        publics,
+        names,
+        breaks,
+        errors,
+        books,
+        totals,
+    )
+}
+
+// The program check of twelve areas. Area 11 is not looked at.
+fn check(
     code: &[u64],
     constants: &[u64],
     functions: &[u64],

@@ -24,6 +24,9 @@ use words::areas::PUBLIC_NAME_WORDS;
 use words::areas::PUBLIC_NAMES;
 use words::reply::Totals;
 
+// About so many entries have their keys looked at in one pass.
+const SHARE: u64 = 8192;
+
 pub fn code_area(code: &[u64], functions: &[u64], totals: Totals) -> bool
     ensures { λ r. ⌜ r ≡ areaFine (codeAnd (now (code .entry)) (now (functions .entry)) totals) codeArea ⌝ }
 {
@@ -59,7 +62,14 @@ pub fn methods_area(methods: &[u64], totals: Totals) -> bool
     if !entries_fine(METHODS, methods, totals) {
         return false;
     }
-    keys_differ(methods, METHOD_WORDS, 0, 1, totals.methods)
+    keys_differ(
+        methods,
+        METHOD_WORDS,
+        0,
+        1,
+        totals.methods,
+        totals.methods / SHARE + 1,
+    )
 }
 
 // One per file and name.
@@ -69,17 +79,24 @@ pub fn publics_area(publics: &[u64], totals: Totals) -> bool
     if !entries_fine(PUBLIC_NAMES, publics, totals) {
         return false;
     }
-    keys_differ(publics, PUBLIC_NAME_WORDS, 0, 1, totals.public_names)
+    keys_differ(
+        publics,
+        PUBLIC_NAME_WORDS,
+        0,
+        1,
+        totals.public_names,
+        totals.public_names / SHARE + 1,
+    )
 }
 
-// No number twice. A book has no word 1, which reads as 0.
+// No number twice. A book has no word 1, which reads as 0; numbers are texts, so no two have one place.
 pub fn books_area(books: &[u64], totals: Totals) -> bool
     ensures { λ r. ⌜ r ≡ areaFine (alone booksArea (now (books .entry)) totals) booksArea ⌝ }
 {
     if !entries_fine(BOOKS, books, totals) {
         return false;
     }
-    keys_differ(books, BOOK_WORDS, 1, 0, totals.books)
+    keys_differ(books, BOOK_WORDS, 1, 0, totals.books, 1)
 }
 
 // Areas 9 and 10 have no entries.

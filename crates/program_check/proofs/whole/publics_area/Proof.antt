@@ -16,11 +16,13 @@ returns c = area-no (alone 8 (c .before .before .before .args .publics .now) (c 
     (c .before .entries-fine .ensures) (c .if1 .taken)
 
 returns-2 : tie.Need-returns-2
-returns-2 c = area-by (alone 8 (c .before .before .before .before .args .publics .now) (c .before .before .before .before .args .totals)) 8 refl
-    (c .before .before .entries-fine .ensures) (c .before .if1 .left)
-    (c .keys-differ .ensures ∙ public-keys (c .before .before .before .before .args .publics .now) (c .before .before .before .before .args .totals)
-    (c .before .before .entries-fine .ensures) (c .before .if1 .left))
+returns-2 c =
+    let c5 = c .before .before .before .before .before in
+    area-by (alone 8 (c5 .args .publics .now) (c5 .args .totals)) 8 refl (c .before .before .before .entries-fine .ensures) (c .before .before .if1 .left)
+    (c .keys-differ .ensures ∙ public-keys (c5 .args .publics .now) (c5 .args .totals) (c .before .before .before .entries-fine .ensures)
+    (c .before .before .if1 .left))
 
 pub publics-area-spec : {M : Type 1} → statement M
 publics-area-spec =
-    tie.close (tie.spec entries-fine-requires returns (λ c κs. search needs) returns-2)
+    tie.close
+    (tie.spec entries-fine-requires returns (λ c. search needs) (λ c κs. search needs) returns-2)

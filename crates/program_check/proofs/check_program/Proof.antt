@@ -1,0 +1,69 @@
+-- `check_program` meets its contract: it lends the areas of its memory. Assumes nothing.
+-- Made from Proof.answers by `answers make`: edit that file, and not this one.
+use Rattle.memory.specs.Layout.{part}
+use Rattle.program_check.proofs.OneMemory.{by-parts}
+use Rattle.program_check.proofs.check_program.Statement.{statement}
+use Rattle.program_check.proofs.check_program.Tie as tie
+use borrow.Author.Needs.{needs}
+
+returns : tie.Need-returns
+unfolding part
+returns c =
+    let c5 = c .before .before .before .before .before in
+    let c6 = c5 .before in
+    let c7 = c6 .before in
+    let c8 = c7 .before in
+    let c9 = c8 .before in
+    let c10 = c9 .before in
+    let c11 = c10 .before in
+    let c12 = c11 .before in
+    let c13 = c12 .before in
+    let c15 = c13 .before .before in
+    by-parts (c15 .args .lengths) (c15 .args .memory .now) (search (needs, c15 .good .1 .0)) (c13 .starts-of .ensures) (c15 .args .totals) (c .check .ensures)
+    (c12 .part-of .ensures) (c11 .part-of2 .ensures) (c10 .part-of3 .ensures) (c9 .part-of4 .ensures) (c8 .part-of5 .ensures) (c7 .part-of6 .ensures)
+    (c6 .part-of7 .ensures) (c5 .part-of8 .ensures) (c .before .before .before .before .part-of9 .ensures) (c .before .before .before .part-of10 .ensures)
+    (c .before .before .part-of11 .ensures) (c .before .part-of12 .ensures)
+
+pub check-program-spec : {M : Type 1} → statement M
+check-program-spec =
+    tie.close
+    (tie.spec
+    (λ c κs. search needs)
+    (λ c. search needs)
+    (λ c. search needs)
+    (λ c κs. search needs)
+    (λ c. search needs)
+    (λ c. search needs)
+    (λ c κs. search needs)
+    (λ c. search needs)
+    (λ c. search needs)
+    (λ c κs. search needs)
+    (λ c. search needs)
+    (λ c. search needs)
+    (λ c κs. search needs)
+    (λ c. search needs)
+    (λ c. search needs)
+    (λ c κs. search needs)
+    (λ c. search needs)
+    (λ c. search needs)
+    (λ c κs. search needs)
+    (λ c. search needs)
+    (λ c. search needs)
+    (λ c κs. search needs)
+    (λ c. search needs)
+    (λ c. search needs)
+    (λ c κs. search needs)
+    (λ c. search needs)
+    (λ c. search needs)
+    (λ c κs. search needs)
+    (λ c. search needs)
+    (λ c. search needs)
+    (λ c κs. search needs)
+    (λ c. search needs)
+    (λ c. search needs)
+    (λ c κs. search needs)
+    (λ c. search needs)
+    (λ c. search needs)
+    (λ c κs. search needs)
+    (λ c κs. search needs)
+    returns)
