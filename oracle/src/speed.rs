@@ -132,7 +132,7 @@ fn late_includes(count: usize) -> Vec<Node> {
 
 /// Functions above the includes, and the records of one.
 const LATE_FUNCTIONS: u64 = 12;
-const LATE_RECORDS: u64 = 5;
+const LATE_RECORDS: u64 = 6;
 
 fn book_tree(books: u64, above: u64) -> Vec<Node> {
     let late = |i: u64| {
@@ -394,6 +394,15 @@ fn least(runs: usize) -> usize {
 mod tests {
     use super::*;
     use crate::compare::Model;
+
+    /// `words` asks that a shape has no more records than a bundle may have.
+    #[test]
+    fn every_shape_is_made_at_the_greatest_size() {
+        for shape in &SHAPES {
+            let most = SIZES.into_iter().max().expect("some sizes");
+            assert!(shape.words(most).len() / RECORD_WORDS > most * 9 / 10, "{}", shape.name);
+        }
+    }
 
     #[test]
     fn every_shape_is_delivered_by_both() {

@@ -48,6 +48,7 @@ KEPT = {
     "commit": "abc",
     "date": "2026-11-16",
     "processors": 2,
+    "load": 1.19,
     "said": {"converters": BENCH, "constant tables": BENCH, "small bundles": SPEED, "compile call": SPEED, "instructions": COUNTS},
 }
 
@@ -83,7 +84,7 @@ class Benchmarks(unittest.TestCase):
 
     def test_the_table_has_command_commit_and_date(self):
         lines = benchmarks.table(KEPT).splitlines()
-        self.assertEqual(lines[0], "`tools/benchmarks run`, commit abc, 2026-11-16, 2 processors:")
+        self.assertEqual(lines[0], "`tools/benchmarks run`, commit abc, 2026-11-16, 2 processors with a load of 1.2:")
         self.assertEqual(len([line for line in lines if line.startswith("| ")]), 1 + 2 + 2 + 3 + 3)
         self.assertTrue(lines[-1].endswith("of the shapes where nothing is searched: 0.70."))
         self.assertTrue(all(line.count("|") == lines[2].count("|") for line in lines if line.startswith("|")))
