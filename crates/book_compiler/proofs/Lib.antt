@@ -17,3 +17,4 @@ pub mod IncludeDefinitions
 pub mod ModelDefinitions
 pub mod ApplyDefinitions
 pub mod DocumentDefinitions
+pub mod ImplementDefinitions
