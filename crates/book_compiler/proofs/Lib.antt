@@ -14,3 +14,6 @@ pub mod BookParts
 pub mod BookLeaves
 pub mod LocalDefinitions
 pub mod IncludeDefinitions
+pub mod Parameters
+pub mod MakingFunctions
+pub mod FunctionDefinitions

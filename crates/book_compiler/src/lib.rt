@@ -4,6 +4,7 @@ mod book;
 mod cells;
 mod expressions;
 mod function_state;
+mod functions;
 mod locals;
 mod methods;
 mod operations;
