@@ -16,9 +16,11 @@ use Rattle.definition.specs.Book.{Book, functionCount, Method, Methods, MaybePl
 use Rattle.definition.specs.Book.{compileBase, compileMethods, findModelBy, findModelIn, findModelIndexByLocalName, compileImplementDefinition}
 use Rattle.bodies.specs.Meets.{skipC}
 use Rattle.bodies.proofs.Tokens.{skip-law}
+use Rattle.building.specs.declared.function_state.FunctionState.{FunctionState}
 use Rattle.building.specs.declared.scopes.Found.{Found}
 use Rattle.building.specs.declared.scopes.Found.the-variants.{At, Nothing}
 use Rattle.building.specs.Found.{foundOf}
+use Rattle.documents.specs.declared.book.Book as struct
 use Rattle.documents.specs.Adding.{Bounded}
 use Rattle.documents.specs.Implementing.{implementing, implementingAll, numbered}
 use Rattle.documents.proofs.ModelCalm.{calm-methods}
@@ -27,12 +29,15 @@ use Rattle.documents.proofs.MakingWays.{functions-count}
 use Rattle.documents.proofs.Copying.{inserts-append, methods-then, methods-none}
 use Rattle.documents.proofs.MethodOrder.{Distinct, nobody, distinct-insert, inserts-entry}
 use Rattle.documents.proofs.ImplementWays.{all-more, calm-implement}
-use Rattle.book_compiler.specs.RepresentsBook.{BookMemory, RepresentsBook, SimulatesBook, SimulatesSought}
+use Rattle.book_compiler.specs.Represents.{laid}
+use Rattle.book_compiler.specs.RepresentsBook.{BookMemory, bookLaid, RepresentsBook, SimulatesBook, SimulatesSought}
 use Rattle.book_compiler.specs.BookLeaves.{InsertsBookMethod}
 use Rattle.book_compiler.specs.DefinitionSteps.{FindsModelIndex, ImplementsFunction, ImplementsFunctions, ImplementsMethods}
 use Rattle.book_compiler.specs.DefinitionSteps.{CompilesImplementDefinition}
+use Rattle.book_compiler.specs.FunctionSteps.{MakesFunction, AddsBookFunction}
 use Rattle.book_compiler.proofs.BookParts.{represents-longer, represents-same, simulates-full}
 use Rattle.book_compiler.proofs.BookLeaves.{method-inserted}
+use Rattle.book_compiler.proofs.MakingFunctions.{added-represents}
 
 -- the definition, by the functions one by one
 
@@ -96,6 +101,20 @@ collect-all m (r ∷ rs) {es} d l =
 
 methods-same : (m : ℕ) (rs : List Entry) (y : Book) → addMethods (some m) rs y ≡ addMethods (some m) (collected rs []) y
 methods-same m rs y = rw (collect-all m rs nobody (y .context .program .methods))
+
+-- a function of an implement definition, whether an instance's or not
+pub function-implemented : {tree : List ℕ} {at end name : ℕ} {s s′ : struct.Book} {r : FunctionState} {a l l′ l″ : List ℕ}
+    → MakesFunction tree at end (bookLaid s a l) (laid r a l′) → name ≡ valueAt tree at → AddsBookFunction name r (bookLaid s a l′) (bookLaid s′ a l″)
+    → ImplementsFunction tree at end (bookLaid s a l) (bookLaid s′ a l″)
+function-implemented {name = name} {s} {s′} {r} {a} {l} {l′} {l″} M name-is A = record {
+  simulates = λ f h q bounded. record {
+    meets = λ κ ps others x H.
+        let named : name ≡ f .name .value = name-is ∙ sym (ap (λ (y : Token). y .value) (h .headed .token)) in
+        let A′ : AddsBookFunction (f .name .value) r (bookLaid s a l′) (bookLaid s′ a l″) =
+        subst (λ (y : ℕ). AddsBookFunction y r (bookLaid s a l′) (bookLaid s′ a l″)) named A in
+        added-represents (M .makes 14 f h q κ ps others x H) bounded A′;
+  };
+}
 
 -- the functions of an implement definition
 module _ {tree : List ℕ} {at end : ℕ} {m : BookMemory} where

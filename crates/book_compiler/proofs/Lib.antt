@@ -18,3 +18,6 @@ pub mod ModelDefinitions
 pub mod ApplyDefinitions
 pub mod DocumentDefinitions
 pub mod ImplementDefinitions
+pub mod Parameters
+pub mod MakingFunctions
+pub mod FunctionDefinitions

@@ -4,3 +4,4 @@ pub mod Members
 pub mod RepresentsBook
 pub mod BookLeaves
 pub mod DefinitionSteps
+pub mod FunctionSteps

@@ -2,11 +2,15 @@
 // which it is to replace.
 mod book;
 mod cells;
+mod definitions;
 mod expressions;
 mod function_state;
+mod functions;
+mod implements;
 mod includes;
 mod locals;
 mod methods;
 mod models;
+mod operations;
 mod pairs;
 mod statements;

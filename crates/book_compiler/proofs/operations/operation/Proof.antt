@@ -1,8 +1,8 @@
 -- `book_compiler::expressions::operation` meets its contract: not equal is negated, every other value plain. Assumes nothing.
 -- Made from Proof.answers by `answers make`: edit that file, and not this one.
 use Rattle.book_compiler.proofs.Infix.{operation-plain, operation-not}
-use Rattle.book_compiler.proofs.expressions.operation.Statement.{statement}
-use Rattle.book_compiler.proofs.expressions.operation.Tie as tie
+use Rattle.book_compiler.proofs.operations.operation.Statement.{statement}
+use Rattle.book_compiler.proofs.operations.operation.Tie as tie
 use borrow.Author.Needs.{needs}
 
 returns : tie.Need-returns

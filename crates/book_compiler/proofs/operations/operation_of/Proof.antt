@@ -1,8 +1,8 @@
 -- `book_compiler::expressions::operation_of` meets its contract: by its tests. Assumes nothing.
 -- Made from Proof.answers by `answers make`: edit that file, and not this one.
 use borrow.Author.Tests.{eq-eqb, ne-eqb, lt-ltb, le-ltb}
-use Rattle.book_compiler.proofs.expressions.operation_of.Statement.{statement}
-use Rattle.book_compiler.proofs.expressions.operation_of.Tie as tie
+use Rattle.book_compiler.proofs.operations.operation_of.Statement.{statement}
+use Rattle.book_compiler.proofs.operations.operation_of.Tie as tie
 use borrow.Author.Needs.{needs}
 
 returns : tie.Need-returns

@@ -4,8 +4,8 @@ use mathlib.Core.Path.{ap, _∙_}
 use Prim.Native.Nat.{ℕ}
 use Rattle.words.specs.Opcode.{toInstruction, word, CallOp}
 use Rattle.book_compiler.proofs.Leaves as t
-use Rattle.book_compiler.proofs.expressions.finish_expression.Statement.{statement}
-use Rattle.book_compiler.proofs.expressions.finish_expression.Tie as tie
+use Rattle.book_compiler.proofs.operations.finish_expression.Statement.{statement}
+use Rattle.book_compiler.proofs.operations.finish_expression.Tie as tie
 use borrow.Author.Needs.{needs}
 
 returns : tie.Need-returns
