@@ -27,10 +27,11 @@ use Rattle.documents.proofs.MakingWays.{added-fitted}
 use Rattle.book_compiler.specs.Represents.{laid}
 use Rattle.book_compiler.specs.RepresentsBook.{BookMemory, bookLaid, RepresentsBook}
 use Rattle.book_compiler.specs.BookLeaves.{DefinesContextLocal}
-use Rattle.book_compiler.specs.FunctionSteps.{Built, MakesFunction, DropsBookFunction, AddsPlainFunction, CompilesFunctionDefinition}
+use Rattle.book_compiler.specs.DefinitionSteps.{CompilesFunctionDefinition, ImplementsFunction}
+use Rattle.book_compiler.specs.FunctionSteps.{Built, MakesFunction, AddsBookFunction, DropsBookFunction, AddsPlainFunction}
 use Rattle.book_compiler.proofs.BookParts.{represents-unfilled}
 use Rattle.book_compiler.proofs.BookLeaves.{local-defined}
-use Rattle.book_compiler.proofs.MakingFunctions.{built-kept, built-parts, built-live}
+use Rattle.book_compiler.proofs.MakingFunctions.{built-kept, built-parts, built-live, added-represents}
 
 -- what is left after the base only adds to the notes
 calm-plain : (o : Option ℕ) (m : Made) (name : ℕ) → Calm (m .book) (addPlainFunction o (m .state) name (m .book) .book)
@@ -151,3 +152,17 @@ module _ {tree : List ℕ} {at end name : ℕ} {s s₁ : struct.Book} {a l l₁ 
       placed = λ κ ps others x H y. plainly-placed h q H z is bounded F y;
     };
   }
+
+-- a function of an implement definition
+pub one-meets : {tree : List ℕ} {at end name : ℕ} {s s′ : struct.Book} {r : FunctionState} {a l l₁ l′ : List ℕ}
+    → MakesFunction tree at end (bookLaid s a l) (laid r a l₁) → name ≡ valueAt tree at → AddsBookFunction name r (bookLaid s a l₁) (bookLaid s′ a l′)
+    → ImplementsFunction tree at end (bookLaid s a l) (bookLaid s′ a l′)
+one-meets {s = s} {s′} {r} {a} {l} {l₁} {l′} M name-is A = record {
+  simulates = λ f h q bounded. record {
+    meets = λ κ ps others x H.
+        let named : _ ≡ f .name .value = name-is ∙ sym (ap (λ (y : Token). y .value) (h .headed .token)) in
+        let A′ : AddsBookFunction (f .name .value) r (bookLaid s a l₁) (bookLaid s′ a l′) =
+        subst (λ (y : ℕ). AddsBookFunction y r (bookLaid s a l₁) (bookLaid s′ a l′)) named A in
+        added-represents (M .makes 14 f h q κ ps others x H) bounded A′;
+  };
+}

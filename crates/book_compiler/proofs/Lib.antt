@@ -14,6 +14,10 @@ pub mod BookParts
 pub mod BookLeaves
 pub mod LocalDefinitions
 pub mod IncludeDefinitions
+pub mod ModelDefinitions
+pub mod ApplyDefinitions
+pub mod DocumentDefinitions
+pub mod ImplementDefinitions
 pub mod Parameters
 pub mod MakingFunctions
 pub mod FunctionDefinitions

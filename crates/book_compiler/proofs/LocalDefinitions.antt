@@ -22,13 +22,13 @@ use Rattle.documents.proofs.Calm.{calm-constant, calm-local, calm-binding-by}
 use Rattle.documents.proofs.DeedWays.{defined-added}
 use Rattle.book_compiler.specs.RepresentsBook.{BookMemory, RepresentsBook, SimulatesBook}
 use Rattle.book_compiler.specs.BookLeaves.{PushesBookError, AddsBookConstant, DefinesContextLocal, SetsLocalValue}
-use Rattle.book_compiler.specs.DefinitionSteps.{AddsValue, GivesValue, CompilesBinding, CompilesLocalDefinition}
+use Rattle.book_compiler.specs.DefinitionSteps.{AddsLocalValue, GivesLocalValue, CompilesBinding, CompilesLocalDefinition}
 use Rattle.book_compiler.proofs.BookParts.{represents-longer, represents-unfilled, simulates-then}
 use Rattle.book_compiler.proofs.BookLeaves.{error-pushed, constant-added, local-defined, value-set}
 
 -- `add_value`
 pub adds-value : {m m₁ m′ : BookMemory} {found : Found} (kind value : ℕ) {place : ℕ} → AddsBookConstant kind value place m m₁
-    → SetsLocalValue found place m₁ m′ → AddsValue found kind value m m′
+    → SetsLocalValue found place m₁ m′ → AddsLocalValue found kind value m m′
 adds-value kind value P L = record {
   adds = record {
     meets = λ κ ps others x o A H.
@@ -45,7 +45,7 @@ adds-value kind value P L = record {
 -- `give_value`
 module _ (tree : List ℕ) (at : ℕ) {kind value : ℕ} (hk : kind ≡ kindAt tree at) (hv : value ≡ valueAt tree at) {m m′ : BookMemory} {found : Found} where
   gives-standing : (constant : ℕ) → ((o : Option ℕ) (x : Book) → compileValue (valueOf (tokenAt tree at)) (tokenAt tree at) o x ≡ setLocalValue o constant x)
-      → SetsLocalValue found constant m m′ → GivesValue tree at found m m′
+      → SetsLocalValue found constant m m′ → GivesLocalValue tree at found m m′
   gives-standing constant computes L = record {
     gives = λ v leaf. record {
       meets = λ κ ps others x o A H.
@@ -53,24 +53,24 @@ module _ (tree : List ℕ) (at : ℕ) {kind value : ℕ} (hk : kind ≡ kindAt t
     };
   }
 
-  pub gives-null : {constant : ℕ} → kind ≡ 32 → constant ≡ standingOf kind value → SetsLocalValue found constant m m′ → GivesValue tree at found m m′
+  pub gives-null : {constant : ℕ} → kind ≡ 32 → constant ≡ standingOf kind value → SetsLocalValue found constant m m′ → GivesLocalValue tree at found m m′
   gives-null {constant} q r L = gives-standing constant (λ o x. rw (← hk, r, q) refl) L
 
-  pub gives-boolean : {constant : ℕ} → kind ≡ 36 → constant ≡ standingOf kind value → SetsLocalValue found constant m m′ → GivesValue tree at found m m′
+  pub gives-boolean : {constant : ℕ} → kind ≡ 36 → constant ≡ standingOf kind value → SetsLocalValue found constant m m′ → GivesLocalValue tree at found m m′
   gives-boolean {constant} q r L = gives-standing constant (λ o x. rw (← hk, ← hv, r, q) refl) L
 
-  pub gives-integer : kind ≡ 33 → AddsValue found integerKind value m m′ → GivesValue tree at found m m′
+  pub gives-integer : kind ≡ 33 → AddsLocalValue found integerKind value m m′ → GivesLocalValue tree at found m m′
   gives-integer q A = record {
     gives = λ v leaf. record { meets = λ κ ps others x o B H. rw (leaf .token, ← hk, ← hv, q) (A .adds .meets κ ps others x o B H) };
   }
 
-  pub gives-float : kind ≡ 34 → AddsValue found floatKind value m m′ → GivesValue tree at found m m′
+  pub gives-float : kind ≡ 34 → AddsLocalValue found floatKind value m m′ → GivesLocalValue tree at found m m′
   gives-float q A = record {
     gives = λ v leaf. record { meets = λ κ ps others x o B H. rw (leaf .token, ← hk, ← hv, q) (A .adds .meets κ ps others x o B H) };
   }
 
   pub gives-error : (kind ≡ 32 → ⊥) → (kind ≡ 36 → ⊥) → (kind ≡ 33 → ⊥) → (kind ≡ 34 → ⊥) → PushesBookError 5 (tokenAt tree at) m m′
-      → GivesValue tree at found m m′
+      → GivesLocalValue tree at found m m′
   gives-error n₁ n₂ n₃ n₄ F = record {
     gives = λ v leaf. record {
       meets = λ κ ps others x o A H.
@@ -126,7 +126,7 @@ module _ (tree : List ℕ) (at next : ℕ) {name : ℕ} (hn : name ≡ valueAt t
       again (some i) v y q = absurd (let z : _≡_ {A = ℕ} 0 1 = cc in omega arith)
 
   pub binds-value : m₁ .book .full ≡ 0 → {kind : ℕ} → kind ≡ kindAt tree next → (kind ≡ 49 → ⊥) → {i : ℕ} → found ≡ At i
-      → {m′ : BookMemory} → GivesValue tree next (At i) m₁ m′ → CompilesBinding tree at next m m′
+      → {m′ : BookMemory} → GivesLocalValue tree next (At i) m₁ m′ → CompilesBinding tree at next m m′
   unfolding ValueAt
   binds-value z hk n₁ {i} is {m′} G =
       after-name (λ κ ps others y v there H H₁.

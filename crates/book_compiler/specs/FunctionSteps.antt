@@ -1,32 +1,28 @@
 -- What the routines that compile functions over one memory promise: parameters, the base, a function made and added to the book or dropped
 -- Private contracts alone cite this file: whoever reads the promises need not believe it
-use Prim.Native.Nat.{ℕ, _+_, _≤_}
+use Prim.Native.Nat.{ℕ, _+_}
 use mathlib.Core.Path.{_≡_}
 use mathlib.Core.Bool.{true}
-use mathlib.Core.Option.{Option, some}
+use mathlib.Core.Option.{Option}
 use mathlib.Core.List.{List}
 use lib.ListN.{length}
 use Rattle.words.specs.Ast.{Token, FunctionDefinition}
 use Rattle.words.specs.Areas.{functionsArea, contextLocalsArea}
 use Rattle.words.specs.Record.{tokenAt}
-use Rattle.tree.specs.At.{Leaf, ParametersAt, Headed, RunAt, runSize, FunctionAt, sizeF}
+use Rattle.tree.specs.At.{Leaf, ParametersAt, FunctionAt, sizeF}
 use Rattle.definition.specs.FunctionState.{newFunctionState}
 use Rattle.definition.specs.Uses.{Limits}
-use Rattle.definition.specs.Within.{All}
 use Rattle.definition.specs.Compiler.{Work, withFunction, compileParameter, compileParameters, compileFunctionDefinitionBase}
-use Rattle.definition.specs.Book.{Book, pushBookError, compileBase, addFunction, addPlainFunction, compileFunctionDefinition, addMethods}
-use Rattle.definition.specs.Book.{compileImplementDefinition}
+use Rattle.definition.specs.Book.{Book, pushBookError, compileBase, addPlainFunction}
 use Rattle.definition.specs.Program.{Entries, codeTable}
 use Rattle.building.specs.declared.function_state.FunctionState.{FunctionState}
 use Rattle.building.specs.declared.scopes.Found.{Found}
 use Rattle.building.specs.Found.{foundOf}
 use Rattle.building.specs.Held.{LocalsHeld, isOpen}
-use Rattle.documents.specs.declared.book.Book as struct
 use Rattle.documents.specs.Deeds.{AddedLocal}
 use Rattle.documents.specs.Adding.{Bounded, ended, baseOf, AddsFunction}
-use Rattle.documents.specs.Implementing.{implementing, implementingAll, numbered}
 use Rattle.book_compiler.specs.Represents.{Memory, laid, Represents}
-use Rattle.book_compiler.specs.RepresentsBook.{BookMemory, bookLaid, areaOf, RepresentsBook, OnArea, SimulatesBook, SimulatesPlaced}
+use Rattle.book_compiler.specs.RepresentsBook.{BookMemory, bookLaid, areaOf, RepresentsBook, OnArea}
 
 -- `parameter`
 pub record CompilesParameter (tree : List ℕ) (at : ℕ) (m m′ : Memory) : Type 0 where
@@ -71,27 +67,3 @@ pub record AddsPlainFunction (name : ℕ) (found : Found) (r : FunctionState) (m
       → found ≡ foundOf o → AddedLocal o (x .context) → Built κ ps others (bookLaid (m .book) (m .starts) l) x f (laid r (m .starts) (m .words))
       → RepresentsBook κ ps others m′ (addPlainFunction o (compileBase f x .state) name (compileBase f x .book) .book)
       × (m′ .book .full ≡ 0 → place ≡ addPlainFunction o (compileBase f x .state) name (compileBase f x .book) .place)
-
--- `compile_function_definition`
-pub record CompilesFunctionDefinition (tree : List ℕ) (at end place : ℕ) (m m′ : BookMemory) : Type 0 where
-  pub places : (kind : ℕ) (f : FunctionDefinition) → FunctionAt kind f tree at → at + sizeF f ≡ end → Bounded f
-      → SimulatesPlaced m m′ place (compileFunctionDefinition f)
-
--- a function of an implement definition, and those from a place up to the end
-pub record ImplementsFunction (tree : List ℕ) (at end : ℕ) (m m′ : BookMemory) : Type 0 where
-  pub simulates : (f : FunctionDefinition) → FunctionAt 14 f tree at → at + sizeF f ≡ end → Bounded f → SimulatesBook m m′ (implementing f)
-
-pub record ImplementsFunctions (tree : List ℕ) (at end : ℕ) (m m′ : BookMemory) : Type 0 where
-  pub simulates : (fs : List FunctionDefinition) → RunAt (FunctionAt 14) sizeF fs tree at → at + runSize sizeF fs ≡ end → All Bounded fs
-      → SimulatesBook m m′ (implementingAll fs)
-
--- the methods of a model: of functions with numbers from `first` on, below `most`
-pub record ImplementsMethods (tree : List ℕ) (at end model first most : ℕ) (m m′ : BookMemory) : Type 0 where
-  pub simulates : (fs : List FunctionDefinition) → RunAt (FunctionAt 14) sizeF fs tree at → at + runSize sizeF fs ≡ end → first + length fs ≤ most
-      → SimulatesBook m m′ (addMethods (some model) (numbered first fs))
-
--- `compile_implement_definition`
-pub record CompilesImplementDefinition (tree : List ℕ) (at end : ℕ) (m m′ : BookMemory) : Type 0 where
-  pub simulates : (model : Token) (fs : List FunctionDefinition) → Headed tree at 16 (1 + runSize sizeF fs) model
-      → RunAt (FunctionAt 14) sizeF fs tree (at + 1) → at + (1 + runSize sizeF fs) ≡ end → All Bounded fs
-      → SimulatesBook m m′ (compileImplementDefinition model fs)

@@ -11,11 +11,15 @@ ghost use Rattle.book_compiler.specs.Leaves.{OnCode, OnNames};
 ghost use Rattle.book_compiler.specs.Members.{MeetsSs};
 ghost use Rattle.book_compiler.specs.RepresentsBook.{bookLaid};
 ghost use Rattle.book_compiler.specs.FunctionSteps.{CompilesParameter, CompilesParameters, CompilesBase, MakesFunction, AddsBookFunction};
-ghost use Rattle.book_compiler.specs.FunctionSteps.{DropsBookFunction, AddsPlainFunction, CompilesFunctionDefinition};
+ghost use Rattle.book_compiler.specs.FunctionSteps.{DropsBookFunction, AddsPlainFunction};
+ghost use Rattle.book_compiler.specs.DefinitionSteps.{CompilesFunctionDefinition, ImplementsFunction, ImplementsFunctions, ImplementsMethods};
+ghost use Rattle.book_compiler.specs.DefinitionSteps.{CompilesImplementDefinition};
 use crate::book;
 use crate::cells;
 use crate::function_state;
 use crate::locals;
+use crate::methods;
+use crate::models;
 use crate::statements::compile_statement;
 use bodies::skip;
 use building::context;
@@ -339,4 +343,104 @@ pub(crate) fn compile_function_definition(
         };
     }
     add_plain(starts, memory, b, s, found, name)
+}
+
+// A function of an implement definition.
+fn implement_function(
+    tree: &[u64],
+    at: usize,
+    end: usize,
+    starts: &[usize; 15],
+    memory: &mut [u64],
+    book: Book,
+) -> Book
+    ensures { λ r. ⌜ ImplementsFunction (now (tree .entry)) at end (bookLaid book (now (starts .entry)) (now (memory .entry)))
+        (bookLaid r (now (starts .entry)) (now (memory .exit))) ⌝ }
+{
+    let name = field(tree, at, record::VALUE);
+    let s = make(tree, at, end, starts, memory, book);
+    add_function(starts, memory, book, s, name)
+}
+
+// The functions of an implement definition, from a place up to the end.
+fn implement_functions(
+    tree: &[u64],
+    at: usize,
+    end: usize,
+    starts: &[usize; 15],
+    memory: &mut [u64],
+    book: Book,
+) -> Book
+    ensures { λ r. ⌜ ImplementsFunctions (now (tree .entry)) at end (bookLaid book (now (starts .entry)) (now (memory .entry)))
+        (bookLaid r (now (starts .entry)) (now (memory .exit))) ⌝ }
+{
+    let mut i = at;
+    let mut b = book;
+    while i < end {
+        let next = skip(tree, i, end);
+        b = implement_function(tree, i, next, starts, memory, b);
+        i = next;
+    }
+    b
+}
+
+// The methods of a model: the functions from number `first` on.
+fn implement_methods(
+    tree: &[u64],
+    at: usize,
+    end: usize,
+    starts: &[usize; 15],
+    memory: &mut [u64],
+    book: Book,
+    model: u64,
+    first: usize,
+) -> Book
+    ensures { λ r. ⌜ ImplementsMethods (now (tree .entry)) at end model first (book .functions) (bookLaid book (now (starts .entry)) (now (memory .entry)))
+        (bookLaid r (now (starts .entry)) (now (memory .exit))) ⌝ }
+{
+    let mut i = at;
+    let mut f = first;
+    let mut b = book;
+    while i < end {
+        if f >= book.functions {
+            return b;
+        }
+        let name = field(tree, i, record::VALUE);
+        b = methods::insert_method(starts, memory, b, model, name, f as u64);
+        f += 1;
+        i = skip(tree, i, end);
+    }
+    b
+}
+
+// `compile_implement_definition`: the functions, then the model, then its methods.
+pub(crate) fn compile_implement_definition(
+    tree: &[u64],
+    at: usize,
+    end: usize,
+    starts: &[usize; 15],
+    memory: &mut [u64],
+    book: Book,
+) -> Book
+    ensures { λ r. ⌜ CompilesImplementDefinition (now (tree .entry)) at end (bookLaid book (now (starts .entry)) (now (memory .entry)))
+        (bookLaid r (now (starts .entry)) (now (memory .exit))) ⌝ }
+{
+    if book.full != 0 {
+        return book;
+    }
+    if at < end {
+        let first = at + 1;
+        let b1 = implement_functions(tree, first, end, starts, memory, book);
+        let m = models::find_model_index_by_local_name(tree, at, starts, memory, b1);
+        let b2 = m.book;
+        let found = m.found;
+        if b2.full != 0 {
+            return b2;
+        }
+        if let Found::At(model) = found {
+            return implement_methods(tree, first, end, starts, memory, b2, model, book.functions);
+        }
+        return b2;
+    }
+    book
 }

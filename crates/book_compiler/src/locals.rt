@@ -1,12 +1,19 @@
 // `backend/compiler.rs`: a book's context locals (area 7) and `compile_local_definition` over one memory.
+ghost use Prim.Native.Nat.{_+_};
 ghost use Rattle.definition.specs.Book.{defineContextLocal};
 ghost use Rattle.documents.specs.Deeds.{LocalsSeek, LocalsValue};
 ghost use Rattle.book_compiler.specs.RepresentsBook.{bookLaid};
 ghost use Rattle.book_compiler.specs.BookLeaves.{DefinesContextLocal, SetsLocalValue};
+ghost use Rattle.book_compiler.specs.DefinitionSteps.{AddsLocalValue, GivesLocalValue, CompilesBinding, CompilesLocalDefinition};
+use crate::book;
 use building::context;
 use building::scopes::Found;
 use documents::book::Book;
 use documents::book::Sought;
+use words::object;
+use words::record;
+use words::record::field;
+use words::reply;
 
 // `define_local` of the compiler's state, on area 7; nothing is found with the mark set.
 fn define_entry(locals: &mut [u64], book: Book, name: u64) -> Sought
@@ -86,4 +93,109 @@ pub(crate) fn set_value(
             return;
         }
     }
+}
+
+// A constant that is the value of a local.
+fn add_value(
+    starts: &[usize; 15],
+    memory: &mut [u64],
+    book: Book,
+    found: Found,
+    kind: u64,
+    value: u64,
+) -> Book
+    ensures { λ r. ⌜ AddsLocalValue found kind value (bookLaid book (now (starts .entry)) (now (memory .entry)))
+        (bookLaid r (now (starts .entry)) (now (memory .exit))) ⌝ }
+{
+    let a = book::add_constant(starts, memory, book, kind, value);
+    let place = a.place;
+    let b = a.book;
+    set_value(starts, memory, b, found, place);
+    b
+}
+
+// The value of a local: a constant that stands, one to add, or none.
+fn give_value(
+    tree: &[u64],
+    at: usize,
+    starts: &[usize; 15],
+    memory: &mut [u64],
+    book: Book,
+    found: Found,
+) -> Book
+    ensures { λ r. ⌜ GivesLocalValue (now (tree .entry)) at found (bookLaid book (now (starts .entry)) (now (memory .entry)))
+        (bookLaid r (now (starts .entry)) (now (memory .exit))) ⌝ }
+{
+    let kind = field(tree, at, record::KIND);
+    let value = field(tree, at, record::VALUE);
+    let constant = bodies::standing(kind, value);
+    if kind == record::NULL {
+        set_value(starts, memory, book, found, constant);
+        return book;
+    }
+    if kind == record::BOOLEAN {
+        set_value(starts, memory, book, found, constant);
+        return book;
+    }
+    if kind == record::INTEGER {
+        return add_value(starts, memory, book, found, object::INTEGER, value);
+    }
+    if kind == record::FLOAT {
+        return add_value(starts, memory, book, found, object::FLOAT, value);
+    }
+    book::push_error(starts, memory, tree, at, book, reply::ERROR_CONSTANT_ONLY)
+}
+
+// A pair of a local definition: a repeated name is passed over before its value is looked at.
+fn compile_binding(
+    tree: &[u64],
+    at: usize,
+    next: usize,
+    starts: &[usize; 15],
+    memory: &mut [u64],
+    book: Book,
+) -> Book
+    ensures { λ r. ⌜ CompilesBinding (now (tree .entry)) at next (bookLaid book (now (starts .entry)) (now (memory .entry)))
+        (bookLaid r (now (starts .entry)) (now (memory .exit))) ⌝ }
+{
+    let name = field(tree, at, record::VALUE);
+    let d = define_local(starts, memory, book, name);
+    let b = d.book;
+    if b.full != 0 {
+        return b;
+    }
+    let kind = field(tree, next, record::KIND);
+    if kind == record::ABSENT {
+        return b;
+    }
+    let found = d.found;
+    if let Found::At(i) = found {
+        return give_value(tree, next, starts, memory, b, Found::At(i));
+    }
+    b
+}
+
+// Its pairs.
+pub(crate) fn compile_local_definition(
+    tree: &[u64],
+    at: usize,
+    end: usize,
+    starts: &[usize; 15],
+    memory: &mut [u64],
+    book: Book,
+) -> Book
+    ensures { λ r. ⌜ CompilesLocalDefinition (now (tree .entry)) (at + 1) end (bookLaid book (now (starts .entry)) (now (memory .entry)))
+        (bookLaid r (now (starts .entry)) (now (memory .exit))) ⌝ }
+{
+    if end <= at {
+        return book;
+    }
+    let mut i = at + 1;
+    let mut b = book;
+    while 1 < end - i {
+        let next = i + 1;
+        b = compile_binding(tree, i, next, starts, memory, b);
+        i = next + 1;
+    }
+    b
 }
