@@ -53,27 +53,33 @@ apart i j p q = go (eqb i j) refl
     go false e = refl
     go true e = sym (sym q ∙ ap isBookArea (sym (eqb-true i j e)) ∙ p)
 
--- a routine on one part: what it does to the counts and areas
-pub area-law : {κ : Limits} {ps ps′ : List ℕ} {others : ℕ → List ℕ} {i : ℕ} {R : List ℕ → List ℕ → Type 0} {m m′ : BookMemory} {b b′ : Book}
-    → i < 14 → isBookArea i ≡ true → OnArea i R m m′ → RepresentsBook κ ps others m b
-    → ((x : List ℕ) → R (areaOf m i) x → Keeping κ ps′ (withBookArea i (m′ .book) x (bookView m)) b′) → RepresentsBook κ ps′ others m′ b′
-area-law {κ} {ps} {ps′} {others} {i} {R} {m} {m′} {b} {b′} lt own o H law =
-    let p = o .on (H .fits) in
+-- a routine on one part: what it does to the counts and areas, of a memory with its layout
+pub area-kept : {κ : Limits} {ps : List ℕ} {others : ℕ → List ℕ} {i : ℕ} {R : List ℕ → List ℕ → Type 0} {m m′ : BookMemory} {b : Book}
+    → i < 14 → isBookArea i ≡ true → Fits (m .starts) (length (m .words)) → PreservesParts others m → OnArea i R m m′
+    → ((x : List ℕ) → R (areaOf m i) x → Keeping κ ps (withBookArea i (m′ .book) x (bookView m)) b) → RepresentsBook κ ps others m′ b
+area-kept {κ} {ps} {others} {i} {R} {m} {m′} {b} lt own suits same o law =
+    let p = o .on suits in
     let a = m .starts in
-    let here : Keeping κ ps′ (bookView (bookLaid (m′ .book) a (m′ .words))) b′ =
-    rw (p .is, put-view a (m .words) (p .words) (m .book) (m′ .book) (H .fits) i lt (p .long)) (law (p .words) (p .does)) in
-    let fits : Fits a (length (m′ .words)) = rw (p .is) (put-fits a (m .words) (p .words) (H .fits) i lt (p .long)) in
+    let here : Keeping κ ps (bookView (bookLaid (m′ .book) a (m′ .words))) b =
+    rw (p .is, put-view a (m .words) (p .words) (m .book) (m′ .book) suits i lt (p .long)) (law (p .words) (p .does)) in
+    let fits : Fits a (length (m′ .words)) = rw (p .is) (put-fits a (m .words) (p .words) suits i lt (p .long)) in
     let kept : PreservesParts others (bookLaid (m′ .book) a (m′ .words)) =
     record {
       same = λ j g q.
-          ap (part a j) (p .is) ∙ put-part a (m .words) (p .words) (H .fits) i lt (p .long) j g
-          ∙ ap (λ (t : Bool). cond t (p .words) (areaOf m j)) (apart i j own q) ∙ H .preserves .same j g q;
+          ap (part a j) (p .is) ∙ put-part a (m .words) (p .words) suits i lt (p .long) j g
+          ∙ ap (λ (t : Bool). cond t (p .words) (areaOf m j)) (apart i j own q) ∙ same .same j g q;
     } in
     record {
       fits = rw (o .same) fits;
       preserves = subst (λ (w : List ℕ). PreservesParts others (bookLaid (m′ .book) w (m′ .words))) (sym (o .same)) kept;
       keeping = rw (o .same) here;
     }
+
+-- and of one that stands for a book
+pub area-law : {κ : Limits} {ps ps′ : List ℕ} {others : ℕ → List ℕ} {i : ℕ} {R : List ℕ → List ℕ → Type 0} {m m′ : BookMemory} {b b′ : Book}
+    → i < 14 → isBookArea i ≡ true → OnArea i R m m′ → RepresentsBook κ ps others m b
+    → ((x : List ℕ) → R (areaOf m i) x → Keeping κ ps′ (withBookArea i (m′ .book) x (bookView m)) b′) → RepresentsBook κ ps′ others m′ b′
+area-law lt own o H law = area-kept lt own (H .fits) (H .preserves) o law
 
 -- so its deed, its number and what it finds on the counts and areas are those on the memory
 module _ {i : ℕ} {R : List ℕ → List ℕ → Type 0} {m m′ : BookMemory} (lt : i < 14) (own : isBookArea i ≡ true) (o : OnArea i R m m′) where

@@ -53,7 +53,7 @@ module _ {tree : List ℕ} {at end kind : ℕ} (kind-is : kind ≡ kindAt tree a
       go : (d : Definition) → ViewD 16 d → DefinitionAt d tree at → at + sizeD d ≡ end → All LimitedFunction (functionsIn d)
           → (κ : Limits) (others : ℕ → List ℕ) (x : Book) → RepresentsBook κ [] others m x → RepresentsBook κ [] others m′ (compileDefinition d x)
       go _ (v-ImplementDefinition {t = model} {fs = fs}) h q limited κ others x H =
-          D .implements model fs (h .0) (h .1) q (all-bounded limited) .meets κ [] others x H
+          D .simulates model fs (h .0) (h .1) q (all-bounded limited) .meets κ [] others x H
 
   -- what is none of the others
   pub definition-apply : (kind ≡ 10 → ⊥) → (kind ≡ 11 → ⊥) → (kind ≡ 12 → ⊥) → (kind ≡ 13 → ⊥) → (kind ≡ 14 → ⊥) → (kind ≡ 15 → ⊥) → (kind ≡ 16 → ⊥)

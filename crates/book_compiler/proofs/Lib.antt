@@ -22,3 +22,7 @@ pub mod BookEnding
 pub mod ModelDefinitions
 pub mod ApplyDefinitions
 pub mod DocumentDefinitions
+pub mod ImplementDefinitions
+pub mod Parameters
+pub mod MakingFunctions
+pub mod FunctionDefinitions

@@ -1,9 +1,10 @@
 -- What the routines of a book's definitions promise over one memory: whatever book it stands for before, it stands for the definition's after
 -- Private contracts alone cite this file: whoever reads the promises need not believe it
-use Prim.Native.Nat.{ℕ, _+_}
+use Prim.Native.Nat.{ℕ, _+_, _≤_}
 use mathlib.Core.Path.{_≡_}
-use mathlib.Core.Option.{Option}
+use mathlib.Core.Option.{Option, some}
 use mathlib.Core.List.{List, [], _∷_}
+use lib.ListN.{length}
 use Rattle.words.specs.Ast.{Token, Binding, Alias, FunctionDefinition, IncludeDefinition, ApplyDefinition}
 use Rattle.words.specs.Areas.{modelsArea, propertiesArea, booksArea}
 use Rattle.words.specs.Object.{constantOf}
@@ -13,7 +14,7 @@ use Rattle.definition.specs.Uses.{Limits}
 use Rattle.definition.specs.Book.{Book, Deed, Placed, setLocalValue, addBookConstant, valueOf, compileValue, compileBinding, compileLocalDefinition}
 use Rattle.definition.specs.Book.{compileAlias, compileIncludeDefinition, compileInclude, publish, propertyCount, addProperty, compileProperties}
 use Rattle.definition.specs.Book.{compileModelDefinition, findModelIndexByLocalName, compileApplyDefinition, compileFunctionDefinition}
-use Rattle.definition.specs.Book.{compileImplementDefinition}
+use Rattle.definition.specs.Book.{addMethods, compileImplementDefinition}
 use Rattle.definition.specs.Within.{All}
 use Rattle.building.specs.declared.scopes.Found.{Found}
 use Rattle.building.specs.declared.taking.Taken.{Taken}
@@ -22,6 +23,7 @@ use Rattle.documents.specs.declared.book.Book as struct
 use Rattle.documents.specs.Shelf.{Shelved}
 use Rattle.documents.specs.Deeds.{Valuable, Located}
 use Rattle.documents.specs.Adding.{Bounded}
+use Rattle.documents.specs.Implementing.{implementing, implementingAll, numbered}
 use Rattle.documents.specs.Modelling.{placeModel}
 use Rattle.documents.proofs.Counts.{withModelCount, withPropertyCount}
 use Rattle.book_compiler.specs.RepresentsBook.{BookMemory, RepresentsBook, OnArea, SimulatesBook, SimulatesPlaced, SimulatesSought}
@@ -124,8 +126,21 @@ pub record CompilesFunctionDefinition (tree : List ℕ) (at end place : ℕ) (m 
   pub places : (kind : ℕ) (f : FunctionDefinition) → FunctionAt kind f tree at → at + sizeF f ≡ end → Bounded f
       → SimulatesPlaced m m′ place (compileFunctionDefinition f)
 
+-- a function of an implement definition, and those from a place up to the end
+pub record ImplementsFunction (tree : List ℕ) (at end : ℕ) (m m′ : BookMemory) : Type 0 where
+  pub simulates : (f : FunctionDefinition) → FunctionAt 14 f tree at → at + sizeF f ≡ end → Bounded f → SimulatesBook m m′ (implementing f)
+
+pub record ImplementsFunctions (tree : List ℕ) (at end : ℕ) (m m′ : BookMemory) : Type 0 where
+  pub simulates : (fs : List FunctionDefinition) → RunAt (FunctionAt 14) sizeF fs tree at → at + runSize sizeF fs ≡ end → All Bounded fs
+      → SimulatesBook m m′ (implementingAll fs)
+
+-- the methods of a model: of functions with numbers from `first` on, below `most`
+pub record ImplementsMethods (tree : List ℕ) (at end model first most : ℕ) (m m′ : BookMemory) : Type 0 where
+  pub simulates : (fs : List FunctionDefinition) → RunAt (FunctionAt 14) sizeF fs tree at → at + runSize sizeF fs ≡ end → first + length fs ≤ most
+      → SimulatesBook m m′ (addMethods (some model) (numbered first fs))
+
 -- `compile_implement_definition`, of the one at a place
 pub record CompilesImplementDefinition (tree : List ℕ) (at end : ℕ) (m m′ : BookMemory) : Type 0 where
-  pub implements : (model : Token) (fs : List FunctionDefinition) → Headed tree at 16 (1 + runSize sizeF fs) model
+  pub simulates : (model : Token) (fs : List FunctionDefinition) → Headed tree at 16 (1 + runSize sizeF fs) model
       → RunAt (FunctionAt 14) sizeF fs tree (at + 1) → at + (1 + runSize sizeF fs) ≡ end → All Bounded fs
       → SimulatesBook m m′ (compileImplementDefinition model fs)

@@ -6,3 +6,4 @@ pub mod BookLeaves
 pub mod DefinitionSteps
 pub mod BookOrder
 pub mod Promise
+pub mod FunctionSteps

@@ -89,11 +89,11 @@ fn find_constant_index_by_include(
 
 // A pair of an include: an unfound public name leaves its local without value.
 fn compile_alias(
-    starts: &[usize; 15],
-    memory: &mut [u64],
     tree: &[u64],
     at: usize,
     next: usize,
+    starts: &[usize; 15],
+    memory: &mut [u64],
     file: u64,
     book: Book,
 ) -> Book
@@ -118,11 +118,11 @@ fn compile_alias(
 
 // The pairs of an include.
 fn compile_aliases(
-    starts: &[usize; 15],
-    memory: &mut [u64],
     tree: &[u64],
     at: usize,
     end: usize,
+    starts: &[usize; 15],
+    memory: &mut [u64],
     book: Book,
 ) -> Book
     ensures { λ r. ⌜ CompilesAliases (now (tree .entry)) (at + 1) end (valueAt (now (tree .entry)) at)
@@ -136,7 +136,7 @@ fn compile_aliases(
     let mut b = book;
     while 1 < end - i {
         let next = i + 1;
-        b = compile_alias(starts, memory, tree, i, next, file, b);
+        b = compile_alias(tree, i, next, starts, memory, file, b);
         i = next + 1;
     }
     b
@@ -200,11 +200,11 @@ fn gives_values(
 
 // The same over the memory.
 fn include_gives_values(
-    starts: &[usize; 15],
-    memory: &[u64],
     tree: &[u64],
     at: usize,
     end: usize,
+    starts: &[usize; 15],
+    memory: &[u64],
     book: Book,
 ) -> bool
     ensures { λ r. ⌜ GivesIncluded (now (tree .entry)) at end r (bookLaid book (now (starts .entry)) (now (memory .entry))) ⌝ }
@@ -234,11 +234,11 @@ fn include_gives_values(
 
 // In strict mode it is asked of all names first (2026-07), and row 11 takes the place of a full area's mark.
 pub(crate) fn compile_include_definition(
-    starts: &[usize; 15],
-    memory: &mut [u64],
     tree: &[u64],
     at: usize,
     end: usize,
+    starts: &[usize; 15],
+    memory: &mut [u64],
     book: Book,
 ) -> Book
     ensures { λ r. ⌜ CompilesIncludeDefinition (now (tree .entry)) at end (bookLaid book (now (starts .entry)) (now (memory .entry)))
@@ -250,10 +250,10 @@ pub(crate) fn compile_include_definition(
     if tree.len() <= at {
         return book;
     }
-    if !include_gives_values(starts, memory, tree, at, end, book) {
+    if !include_gives_values(tree, at, end, starts, memory, book) {
         let mut b = book;
         b.full = reply::FIRST_NOT_PUBLIC + at as u64;
         return b;
     }
-    compile_aliases(starts, memory, tree, at, end, book)
+    compile_aliases(tree, at, end, starts, memory, book)
 }

@@ -116,10 +116,10 @@ fn add_value(
 
 // The value of a local: a constant that stands, one to add, or none.
 fn give_value(
-    starts: &[usize; 15],
-    memory: &mut [u64],
     tree: &[u64],
     at: usize,
+    starts: &[usize; 15],
+    memory: &mut [u64],
     book: Book,
     found: Found,
 ) -> Book
@@ -148,11 +148,11 @@ fn give_value(
 
 // A pair of a local definition: a repeated name is passed over before its value is looked at.
 fn compile_binding(
-    starts: &[usize; 15],
-    memory: &mut [u64],
     tree: &[u64],
     at: usize,
     next: usize,
+    starts: &[usize; 15],
+    memory: &mut [u64],
     book: Book,
 ) -> Book
     ensures { λ r. ⌜ CompilesBinding (now (tree .entry)) at next (bookLaid book (now (starts .entry)) (now (memory .entry)))
@@ -170,18 +170,18 @@ fn compile_binding(
     }
     let found = d.found;
     if let Found::At(i) = found {
-        return give_value(starts, memory, tree, next, b, Found::At(i));
+        return give_value(tree, next, starts, memory, b, Found::At(i));
     }
     b
 }
 
 // Its pairs.
 pub(crate) fn compile_local_definition(
-    starts: &[usize; 15],
-    memory: &mut [u64],
     tree: &[u64],
     at: usize,
     end: usize,
+    starts: &[usize; 15],
+    memory: &mut [u64],
     book: Book,
 ) -> Book
     ensures { λ r. ⌜ CompilesLocalDefinition (now (tree .entry)) (at + 1) end (bookLaid book (now (starts .entry)) (now (memory .entry)))
@@ -194,7 +194,7 @@ pub(crate) fn compile_local_definition(
     let mut b = book;
     while 1 < end - i {
         let next = i + 1;
-        b = compile_binding(starts, memory, tree, i, next, b);
+        b = compile_binding(tree, i, next, starts, memory, b);
         i = next + 1;
     }
     b

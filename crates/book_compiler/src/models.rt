@@ -138,10 +138,10 @@ fn take_property(starts: &[usize; 15], memory: &mut [u64], book: Book, name: u64
 
 // A name that is there already is an error and takes no entry.
 fn add_property(
-    starts: &[usize; 15],
-    memory: &mut [u64],
     tree: &[u64],
     at: usize,
+    starts: &[usize; 15],
+    memory: &mut [u64],
     first: usize,
     book: Book,
 ) -> Book
@@ -161,11 +161,11 @@ fn add_property(
 
 // The properties of a model that is not there yet.
 fn add_properties(
-    starts: &[usize; 15],
-    memory: &mut [u64],
     tree: &[u64],
     at: usize,
     end: usize,
+    starts: &[usize; 15],
+    memory: &mut [u64],
     book: Book,
 ) -> Book
     ensures { λ r. ⌜ AddsModelProperties (now (tree .entry)) at end (bookLaid book (now (starts .entry)) (now (memory .entry)))
@@ -175,7 +175,7 @@ fn add_properties(
     let mut i = at;
     let mut b = book;
     while i < end {
-        b = add_property(starts, memory, tree, i, first, b);
+        b = add_property(tree, i, starts, memory, first, b);
         i += 1;
     }
     b
@@ -236,10 +236,10 @@ fn find_local_model(starts: &[usize; 15], memory: &[u64], book: Book, i: usize) 
 }
 
 pub(crate) fn find_model_index_by_local_name(
-    starts: &[usize; 15],
-    memory: &mut [u64],
     tree: &[u64],
     at: usize,
+    starts: &[usize; 15],
+    memory: &mut [u64],
     book: Book,
 ) -> Sought
     ensures { λ r. ⌜ FindsModelIndex (now (tree .entry)) at (r .found) (bookLaid book (now (starts .entry)) (now (memory .entry)))
@@ -273,11 +273,11 @@ pub(crate) fn find_model_index_by_local_name(
 
 // With an unknown source the target is still looked at.
 pub(crate) fn compile_apply_definition(
-    starts: &[usize; 15],
-    memory: &mut [u64],
     tree: &[u64],
     at: usize,
     end: usize,
+    starts: &[usize; 15],
+    memory: &mut [u64],
     book: Book,
 ) -> Book
     ensures { λ r. ⌜ CompilesApplyDefinition (now (tree .entry)) at end (bookLaid book (now (starts .entry)) (now (memory .entry)))
@@ -289,9 +289,9 @@ pub(crate) fn compile_apply_definition(
     if end - at < 3 {
         return book;
     }
-    let s = find_model_index_by_local_name(starts, memory, tree, at + 1, book);
+    let s = find_model_index_by_local_name(tree, at + 1, starts, memory, book);
     let from = s.found;
-    let t = find_model_index_by_local_name(starts, memory, tree, at + 2, s.book);
+    let t = find_model_index_by_local_name(tree, at + 2, starts, memory, s.book);
     let to = t.found;
     if let Found::At(source) = from {
         if let Found::At(target) = to {
@@ -348,11 +348,11 @@ fn place_model(starts: &[usize; 15], memory: &mut [u64], book: Book, name: u64) 
 }
 
 pub(crate) fn compile_model_definition(
-    starts: &[usize; 15],
-    memory: &mut [u64],
     tree: &[u64],
     at: usize,
     end: usize,
+    starts: &[usize; 15],
+    memory: &mut [u64],
     book: Book,
 ) -> Placed
     ensures { λ r. ⌜ CompilesModelDefinition (now (tree .entry)) at end (r .place) (bookLaid book (now (starts .entry)) (now (memory .entry)))
@@ -362,6 +362,6 @@ pub(crate) fn compile_model_definition(
         return Placed { place: 0, book };
     }
     let name = field(tree, at, record::VALUE);
-    let b = add_properties(starts, memory, tree, at + 1, end, book);
+    let b = add_properties(tree, at + 1, end, starts, memory, book);
     place_model(starts, memory, b, name)
 }

@@ -14,12 +14,12 @@ use borrow.Author.Needs.{needs}
 use native.Mathlib.Omega.{arith}
 
 abbrev Inv-loop : tie.InvT-loop
-Inv-loop starts memory₀ tree at end file i₀ b₀ memory i b = (i ≤ end) × (length memory ≡ length memory₀) × ((m : BookMemory) → CompilesAliases tree i end file
+Inv-loop tree at end starts memory₀ file i₀ b₀ memory i b = (i ≤ end) × (length memory ≡ length memory₀) × ((m : BookMemory) → CompilesAliases tree i end file
     (bookLaid b starts memory) m
     → CompilesAliases tree i₀ end file (bookLaid b₀ starts memory₀) m)
 
 abbrev μ-loop : tie.MeasureT-loop
-μ-loop starts memory₀ tree at end file i₀ b₀ memory i b = end - i
+μ-loop tree at end starts memory₀ file i₀ b₀ memory i b = end - i
 
 returns : tie.Need-returns Inv-loop μ-loop
 returns c = aliases-end (c .before .before .before .args .tree .now) (c .before .before .before .args .at + 1) (c .before .before .before .args .end) (valueAt

@@ -12,12 +12,12 @@ use Rattle.book_compiler.proofs.locals.compile_local_definition.Tie as 
 use native.Mathlib.Omega.{arith}
 
 abbrev Inv-loop : tie.InvT-loop
-Inv-loop starts memory₀ tree at end i₀ b₀ memory i b = (i ≤ end) × (length memory ≡ length memory₀) × ((m : BookMemory) → CompilesLocalDefinition tree i end
+Inv-loop tree at end starts memory₀ i₀ b₀ memory i b = (i ≤ end) × (length memory ≡ length memory₀) × ((m : BookMemory) → CompilesLocalDefinition tree i end
     (bookLaid b starts memory) m
     → CompilesLocalDefinition tree i₀ end (bookLaid b₀ starts memory₀) m)
 
 abbrev μ-loop : tie.MeasureT-loop
-μ-loop starts memory₀ tree at end i₀ b₀ memory i b = end - i
+μ-loop tree at end starts memory₀ i₀ b₀ memory i b = end - i
 
 returns : tie.Need-returns Inv-loop μ-loop
 returns c = bindings-end (c .before .before .before .args .tree .now) (c .before .before .before .args .at + 1) (c .before .before .before .args .end) (omega

@@ -11,12 +11,12 @@ use Rattle.book_compiler.proofs.models.add_properties.Tie as tie
 use native.Mathlib.Omega.{arith}
 
 abbrev Inv-loop : tie.InvT-loop
-Inv-loop starts memory₀ tree at end first i₀ b₀ memory i b = (length memory ≡ length memory₀) × ((m : BookMemory) → AddsPropertiesFrom tree i end first
+Inv-loop tree at end starts memory₀ first i₀ b₀ memory i b = (length memory ≡ length memory₀) × ((m : BookMemory) → AddsPropertiesFrom tree i end first
     (bookLaid b starts memory) m
     → AddsPropertiesFrom tree at end first (bookLaid b₀ starts memory₀) m)
 
 abbrev μ-loop : tie.MeasureT-loop
-μ-loop starts memory₀ tree at end first i₀ b₀ memory i b = end - i
+μ-loop tree at end starts memory₀ first i₀ b₀ memory i b = end - i
 
 loop-holds : tie.Need-loop-holds Inv-loop μ-loop
 loop-holds c = (refl, λ m h. h)

@@ -1,9 +1,7 @@
-// Where it stands: goes to crates/book_compiler/src/definitions.rt when `functions::compile_function_definition` and `functions::compile_implement_definition`
-// are there, each (starts, memory, tree, at, end, book), with the contracts `CompilesFunctionDefinition` and `CompilesImplementDefinition` of
-// specs/DefinitionSteps.antt. Its lemmas are proved (proofs/DocumentDefinitions.antt), and over those two contracts so are the three functions.
 // `backend/compiler.rs`: definitions and `compile_document` over one memory.
 ghost use Rattle.book_compiler.specs.RepresentsBook.{bookLaid, CompilesDefinition, CompilesDefinitions, CompilesDocument};
 use crate::functions;
+use crate::implements;
 use crate::includes;
 use crate::locals;
 use crate::models;
@@ -13,11 +11,11 @@ use words::record::field;
 
 // By its kind; what is public is then published.
 fn compile_definition(
-    starts: &[usize; 15],
-    memory: &mut [u64],
     tree: &[u64],
     at: usize,
     end: usize,
+    starts: &[usize; 15],
+    memory: &mut [u64],
     book: Book,
 ) -> Book
     ensures { λ r. ⌜ CompilesDefinition (now (tree .entry)) at end (bookLaid book (now (starts .entry)) (now (memory .entry)))
@@ -25,42 +23,42 @@ fn compile_definition(
 {
     let kind = field(tree, at, record::KIND);
     if kind == record::LOCAL_DEFINITION {
-        return locals::compile_local_definition(starts, memory, tree, at, end, book);
+        return locals::compile_local_definition(tree, at, end, starts, memory, book);
     }
     if kind == record::INCLUDE_DEFINITION {
-        return includes::compile_include_definition(starts, memory, tree, at, end, book);
+        return includes::compile_include_definition(tree, at, end, starts, memory, book);
     }
     if kind == record::MODEL_DEFINITION {
-        let p = models::compile_model_definition(starts, memory, tree, at, end, book);
+        let p = models::compile_model_definition(tree, at, end, starts, memory, book);
         return p.book;
     }
     if kind == record::PUBLIC_MODEL_DEFINITION {
         let name = field(tree, at, record::VALUE);
-        let p = models::compile_model_definition(starts, memory, tree, at, end, book);
+        let p = models::compile_model_definition(tree, at, end, starts, memory, book);
         return models::publish(starts, memory, p, name);
     }
     if kind == record::FUNCTION_DEFINITION {
-        let p = functions::compile_function_definition(starts, memory, tree, at, end, book);
+        let p = functions::compile_function_definition(tree, at, end, starts, memory, book);
         return p.book;
     }
     if kind == record::PUBLIC_FUNCTION_DEFINITION {
         let name = field(tree, at, record::VALUE);
-        let p = functions::compile_function_definition(starts, memory, tree, at, end, book);
+        let p = functions::compile_function_definition(tree, at, end, starts, memory, book);
         return models::publish(starts, memory, p, name);
     }
     if kind == record::IMPLEMENT_DEFINITION {
-        return functions::compile_implement_definition(starts, memory, tree, at, end, book);
+        return implements::compile_implement_definition(tree, at, end, starts, memory, book);
     }
-    models::compile_apply_definition(starts, memory, tree, at, end, book)
+    models::compile_apply_definition(tree, at, end, starts, memory, book)
 }
 
 // The definitions from a place up to the end.
 fn compile_definitions(
-    starts: &[usize; 15],
-    memory: &mut [u64],
     tree: &[u64],
     at: usize,
     end: usize,
+    starts: &[usize; 15],
+    memory: &mut [u64],
     book: Book,
 ) -> Book
     ensures { λ r. ⌜ CompilesDefinitions (now (tree .entry)) at end (bookLaid book (now (starts .entry)) (now (memory .entry)))
@@ -70,7 +68,7 @@ fn compile_definitions(
     let mut b = book;
     while i < end {
         let next = bodies::skip(tree, i, end);
-        b = compile_definition(starts, memory, tree, i, next, b);
+        b = compile_definition(tree, i, next, starts, memory, b);
         i = next;
     }
     b
@@ -78,11 +76,11 @@ fn compile_definitions(
 
 // Of the document at a place: its index is the number of books compiled.
 pub(crate) fn compile_document(
-    starts: &[usize; 15],
-    memory: &mut [u64],
     tree: &[u64],
     at: usize,
     end: usize,
+    starts: &[usize; 15],
+    memory: &mut [u64],
     before: Book,
     index: u64,
 ) -> Book
@@ -97,5 +95,5 @@ pub(crate) fn compile_document(
         return b;
     }
     let first = at + 1;
-    compile_definitions(starts, memory, tree, first, end, b)
+    compile_definitions(tree, first, end, starts, memory, b)
 }
