@@ -264,8 +264,10 @@ compile-into {strict} {tree} lengths w {w₀} {w′} {a} {r} twelve a-is cleared
     let over-is : leftOver lengths w′ ≡ part starts 13 w′ = left-over-is lengths w′ twelve ∙ ap (λ (n : ℕ). part (startsOf lengths n) 13 w′) long′ in
     let over-long : length (part starts 13 w′) ≡ length (leftOver lengths w) =
     part-lengths w w′ f long′ 13 (omega arith) ∙ ap (λ (l : List ℕ). length l) (sym (left-over-is lengths w twelve)) in
+    let C′ : Compiles strict tree (areasIn lengths w) (areasIn lengths w′) r = rw (areas-are lengths w twelve, after-are) C in
     record {
-      compiles = rw (areas-are lengths w twelve, after-are) C;
-      words = memory-is lengths w′ twelve ∙ ap (λ (l : List ℕ). flat (areasIn lengths w′) ++ l)
-          (over-is ∙ R′ .left-over f₀ z ∙ ap (λ (n : ℕ). replicate n 0) over-long);
+      compiles = C′;
+      words = memory-is lengths w′ twelve
+          ∙ ap (λ (l : List ℕ). flat (areasIn lengths w′) ++ l) (over-is ∙ R′ .left-over f₀ z ∙ ap (λ (n : ℕ). replicate n 0) over-long)
+          ∙ ap (λ (m : Areas). flat m ++ replicate (length (leftOver lengths w)) 0) (C′ .words);
     }
