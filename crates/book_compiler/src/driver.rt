@@ -1,12 +1,19 @@
 // `backend/dependency_solver.rs`: the books of a bundle, one after the other, over one memory. Private: their promise is relational.
 // Part i has the words from starts[i] up to starts[i + 1].
 ghost use mathlib.Core.Path.{_≡_};
-ghost use Prim.Native.Nat.{_≤_};
+ghost use mathlib.Core.Bool.{true};
+ghost use lib.ListN.{length, replicate};
+ghost use Prim.Native.Nat.{_/_, _≤_};
 ghost use Rattle.words.specs.Areas.{constantsArea, booksArea};
 ghost use Rattle.words.specs.Record.{mostRecords};
-ghost use Rattle.books.specs.Solving.{TakesBooks};
+ghost use Rattle.books.specs.Solving.{TakesBooks, Narrows};
 ghost use Rattle.books.specs.Driving.{Fronts, Fresh, FirstConstants, begunBook};
-ghost use Rattle.book_compiler.specs.BookOrder.{LentPart};
+ghost use Rattle.book_compiler.specs.RepresentsBook.{bookLaid};
+ghost use Rattle.book_compiler.specs.BookOrder.{LentPart, Drives, Works, Runs};
+use crate::definitions::compile_document;
+use crate::ending;
+use crate::ending::Ended;
+use crate::order;
 use crate::solver;
 use building::scopes::Found;
 use building::taking;
@@ -14,7 +21,9 @@ use building::taking::Taken;
 use documents::book::Book;
 use tree::Shape;
 use words::areas;
+use words::record;
 use words::reply;
+use words::reply::Reply;
 
 // A row of 01 and its place; row 0 for none.
 pub struct Row {
@@ -123,4 +132,167 @@ fn begun(t: Taken, constants: usize, strict: bool) -> Book
         entry_point: 0,
         strict,
     }
+}
+
+// `compile_to`: the books one after the other, from the first that is ready; `from` of them stand.
+fn drive(
+    tree: &[u64],
+    end: usize,
+    from: usize,
+    count: usize,
+    start: Book,
+    starts: &[usize; 15],
+    memory: &mut [u64],
+    compiled: &mut [u64],
+) -> Ended
+    requires { ⌜ start .full ≡ 0 ⌝ }
+    ensures { λ r. ⌜ Drives (now (tree .entry)) end from count (now (compiled .entry)) (bookLaid start (now (starts .entry)) (now (memory .entry)))
+        (bookLaid (r .book) (now (starts .entry)) (now (memory .exit))) (r .row) (r .place) ⌝ }
+{
+    let mut b = start;
+    let mut done = from;
+    while done < count {
+        let next = order::next_book(tree, end, done, count, compiled, starts, memory);
+        if count <= next.index {
+            let x = order::ring(done, count, starts, memory);
+            let mut left = b;
+            left.full = x.full;
+            left.errors = x.count;
+            let place = (count - done) as u64;
+            return Ended {
+                book: left,
+                row: reply::RING,
+                place,
+            };
+        }
+        let last = bodies::skip(tree, next.at, end);
+        b = compile_document(tree, next.at, last, starts, memory, b, done as u64);
+        if b.full != 0 {
+            return Ended {
+                book: b,
+                row: 0,
+                place: 0,
+            };
+        }
+        if b.errors != 0 {
+            return Ended {
+                book: b,
+                row: reply::BOOK_FAULTY,
+                place: next.file,
+            };
+        }
+        solver::add(compiled, next.file);
+        done += 1;
+    }
+    Ended {
+        book: b,
+        row: 0,
+        place: done as u64,
+    }
+}
+
+// The books that are needed, into a memory of zeros, with an empty set for those compiled.
+fn work(
+    tree: &[u64],
+    strict: bool,
+    chosen: &[u64],
+    starts: &[usize; 15],
+    memory: &mut [u64],
+    compiled: &mut [u64],
+) -> Ended
+    requires { ⌜ now compiled ≡ replicate (length (now chosen)) 0 ⌝ }
+    ensures { λ r. ⌜ Works strict (now (tree .entry)) (now (chosen .entry)) (now (starts .entry)) (now (memory .entry))
+        (bookLaid (r .book) (now (starts .entry)) (now (memory .exit))) (r .row) (r .place) ⌝ }
+{
+    let end = tree.len() / 4;
+    let x = begin_constants(starts, memory);
+    if record::MOST_RECORDS < end {
+        let none = begun(x, 0, strict);
+        return Ended {
+            book: none,
+            row: 0,
+            place: 0,
+        };
+    }
+    let t = begin_books(tree, end, chosen, x.full, starts, memory);
+    let start = begun(t, x.count, strict);
+    if t.full != 0 {
+        return Ended {
+            book: start,
+            row: 0,
+            place: 0,
+        };
+    }
+    drive(tree, end, 0, t.count, start, starts, memory, compiled)
+}
+
+// The call from a memory of zeros and three empty sets: rows 2 to 6, the work, its end. The third set, cleared, is that of the books compiled.
+fn run_in(
+    tree: &[u64],
+    strict: bool,
+    chosen: &mut [u64],
+    present: &mut [u64],
+    next: &mut [u64],
+    starts: &[usize; 15],
+    memory: &mut [u64],
+) -> Reply
+    requires { ⌜ Fresh (now tree) (now chosen) × (now present ≡ now chosen) × (now next ≡ now chosen) ⌝ }
+    ensures { λ r. ⌜ Runs strict (now (tree .entry)) (now (starts .entry)) (now (memory .entry)) (now (memory .exit)) r ⌝ }
+{
+    let row = check_bundle(tree, chosen, present, next);
+    if row.number != 0 {
+        return Reply::refused(row.number, row.place);
+    }
+    areas::clear_from(next, 0);
+    let ended = work(tree, strict, chosen, starts, memory, next);
+    ending::finish(ended, starts, memory)
+}
+
+// With sets of 64 words: 1.5 KiB in all.
+fn run_short(tree: &[u64], strict: bool, starts: &[usize; 15], memory: &mut [u64]) -> Reply
+    requires { ⌜ Narrows (now tree) 0 (length (now tree) / 4) true ⌝ }
+    ensures { λ r. ⌜ Runs strict (now (tree .entry)) (now (starts .entry)) (now (memory .entry)) (now (memory .exit)) r ⌝ }
+{
+    let mut chosen = [0; 64];
+    let mut present = [0; 64];
+    let mut next = [0; 64];
+    run_in(
+        tree,
+        strict,
+        &mut chosen,
+        &mut present,
+        &mut next,
+        starts,
+        memory,
+    )
+}
+
+// With sets that have a bit for every file number: 384 KiB in all.
+fn run_long(tree: &[u64], strict: bool, starts: &[usize; 15], memory: &mut [u64]) -> Reply
+    ensures { λ r. ⌜ Runs strict (now (tree .entry)) (now (starts .entry)) (now (memory .entry)) (now (memory .exit)) r ⌝ }
+{
+    let mut chosen = [0; 16384];
+    let mut present = [0; 16384];
+    let mut next = [0; 16384];
+    run_in(
+        tree,
+        strict,
+        &mut chosen,
+        &mut present,
+        &mut next,
+        starts,
+        memory,
+    )
+}
+
+// The call from a memory of zeros. Its sets of file numbers are short where the bundle's numbers are small: clearing and scanning long ones takes longer than
+// compiling a small bundle, and a call that does not need them does not reserve their words.
+pub(crate) fn run(tree: &[u64], strict: bool, starts: &[usize; 15], memory: &mut [u64]) -> Reply
+    ensures { λ r. ⌜ Runs strict (now (tree .entry)) (now (starts .entry)) (now (memory .entry)) (now (memory .exit)) r ⌝ }
+{
+    let end = tree.len() / 4;
+    if solver::narrow(tree, end) {
+        return run_short(tree, strict, starts, memory);
+    }
+    run_long(tree, strict, starts, memory)
 }
