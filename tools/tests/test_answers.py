@@ -66,6 +66,20 @@ class Source(unittest.TestCase):
         self.assertIn("one()", shared)
 
 
+class Names(unittest.TestCase):
+    FOLDER = "+expressions-compile_block+statements-compile_for"
+
+    def test_a_member_of_a_cycle_over_two_modules(self):
+        self.assertEqual(tool.cycle_of(self.FOLDER), ["expressions-compile_block", "statements-compile_for"])
+        self.assertEqual(tool.members_of(self.FOLDER), ["compile_block", "compile_for"])
+        self.assertEqual(tool.dashed("statements-compile_for"), "statements·compile-for")
+        self.assertEqual(tool.plain_name("statements·compile-for"), "compile-for")
+
+    def test_a_member_of_a_cycle_of_one_module(self):
+        self.assertEqual(tool.members_of("scan/+find+skip_all"), ["find", "skip_all"])
+        self.assertEqual(tool.dashed("skip_all"), "skip-all")
+
+
 RECORDS = """\
 pub record Args : Type 0 where
     pub list : List ℕ

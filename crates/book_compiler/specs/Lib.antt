@@ -2,3 +2,8 @@ pub mod Represents
 pub mod Leaves
 pub mod Members
 pub mod RepresentsBook
+pub mod BookLeaves
+pub mod DefinitionSteps
+pub mod BookOrder
+pub mod Promise
+pub mod FunctionSteps

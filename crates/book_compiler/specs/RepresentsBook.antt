@@ -75,7 +75,8 @@ pub record SimulatesPlaced (m m′ : BookMemory) (place : ℕ) (deed : Book → 
 -- the same of what may be found
 pub record SimulatesSought (m m′ : BookMemory) (found : Found) (deed : Book → MaybePlaced) : Type 0 where
   pub meets : (κ : Limits) (ps : List ℕ) (others : ℕ → List ℕ) (b : Book) → RepresentsBook κ ps others m b → RepresentsBook κ ps others m′ (deed b .book)
-  pub sought : (κ : Limits) (ps : List ℕ) (others : ℕ → List ℕ) (b : Book) → RepresentsBook κ ps others m b → m′ .book .full ≡ 0 → found ≡ foundOf (deed b .place)
+  pub sought : (κ : Limits) (ps : List ℕ) (others : ℕ → List ℕ) (b : Book) → RepresentsBook κ ps others m b → m′ .book .full ≡ 0
+      → found ≡ foundOf (deed b .place)
 
 -- `compile_definition`: of the one that stands at a place and ends at the end
 pub record CompilesDefinition (tree : List ℕ) (at end : ℕ) (m m′ : BookMemory) : Type 0 where

@@ -1,21 +1,23 @@
-// Expressions without parts, and what an expression does when its parts are there. `start` and `count` are those of the book's context locals.
+// The compilers of expressions. `start` and `count` are those of the book's context locals.
 ghost use Rattle.words.specs.Codes.{numberOf};
 ghost use Rattle.words.specs.Object.{constantOf};
 ghost use Rattle.words.specs.Opcode.{PushConstant};
 ghost use Rattle.definition.specs.Compiler.{emitConstant, emitGlobal, emitName};
 ghost use Rattle.bodies.specs.Cells.{stateOf};
-ghost use Rattle.bodies.specs.Meets.{operationOf};
 ghost use Rattle.book_compiler.specs.Represents.{laid, Acts, Does};
-ghost use Rattle.book_compiler.specs.Members.{MeetsLeaf, Operates, Finishes};
-ghost use mathlib.Core.Path.{_≡_};
-ghost use Prim.Native.Nat.{_-_};
+ghost use Rattle.book_compiler.specs.Members.{MeetsLeaf, MeetsE, MeetsInfix, MeetsIf, MeetsTarget};
 use crate::cells;
 use crate::function_state;
+use crate::operations::finish_expression;
+use crate::operations::operation;
+use crate::statements::compile_block;
+use bodies::skip;
 use bodies::standing;
 use building::scopes::Found;
 use words::object;
 use words::opcode::OpCode;
 use words::record;
+use words::record::field;
 use words::reply;
 
 // An instruction over a new or an old constant.
@@ -142,111 +144,250 @@ fn leaf(
     function_state::emit(starts, memory, cells, instruction, position);
 }
 
-// The operation of an infix value between 1 and 18.
-fn operation_of(value: u64) -> u64
-    ensures { λ r. ⌜ r ≡ operationOf value ⌝ }
-{
-    if value == 0 {
-        return 0;
-    }
-    if value < 6 {
-        return value - 1;
-    }
-    if value < 11 {
-        return value - 6;
-    }
-    if value < 13 {
-        return 5;
-    }
-    if value < 17 {
-        return value - 7;
-    }
-    if value == 17 {
-        return 257;
-    }
-    258
-}
-
-// What an infix does when both sides are there.
-fn operation(
+// `compile_expression`
+pub(crate) fn compile_expression(
+    tree: &[u64],
+    at: usize,
+    end: usize,
     starts: &[usize; 15],
     memory: &mut [u64],
     cells: &mut [u64; 15],
-    value: u64,
-    position: u64,
+    start: usize,
+    count: usize,
 )
-    ensures { λ _. ⌜ Operates value position (laid (stateOf (now (cells .entry))) (now (starts .entry)) (now (memory .entry)))
+    ensures { λ _. ⌜ MeetsE (now (tree .entry)) at end start count (laid (stateOf (now (cells .entry))) (now (starts .entry)) (now (memory .entry)))
         (laid (stateOf (now (cells .exit))) (now (starts .entry)) (now (memory .exit))) ⌝ }
 {
-    let number = operation_of(value);
-    let instruction = OpCode::Operation.to_instruction(number);
-    function_state::emit(starts, memory, cells, instruction, position);
-    if value == record::INFIX_NOT_EQUAL {
-        function_state::emit_opcode(starts, memory, cells, OpCode::Not, position);
+    let full = cells::full(cells);
+    if full != 0 {
+        return;
+    }
+    if at < end {
+        let kind = field(tree, at, record::KIND);
+        let position = field(tree, at, record::POSITION);
+        let value = field(tree, at, record::VALUE);
+        if kind < record::ARRAY {
+            leaf(starts, memory, cells, start, count, kind, position, value);
+            return;
+        }
+        if kind == record::INFIX {
+            compile_infix_expression(
+                tree,
+                at + 1,
+                end,
+                starts,
+                memory,
+                cells,
+                start,
+                count,
+                position,
+                value,
+            );
+            return;
+        }
+        if kind == record::IF {
+            compile_if_expression(tree, at + 1, end, starts, memory, cells, start, count);
+            return;
+        }
+        let mut i = at + 1;
+        let mut n: u64 = 0;
+        while i < end {
+            let next = skip(tree, i, end);
+            compile_expression(tree, i, next, starts, memory, cells, start, count);
+            i = next;
+            n += 1;
+        }
+        finish_expression(starts, memory, cells, kind, position, value, n);
         return;
     }
 }
 
-// What an expression with a list of n parts does when they are there. A call's function is the first of its list.
-fn finish_expression(
+// `compile_infix_expression`: its sides stand from `at` on; `position` and `value` are the infix's.
+fn compile_infix_expression(
+    tree: &[u64],
+    at: usize,
+    end: usize,
     starts: &[usize; 15],
     memory: &mut [u64],
     cells: &mut [u64; 15],
-    kind: u64,
+    start: usize,
+    count: usize,
     position: u64,
     value: u64,
-    n: u64,
 )
-    ensures { λ _. ⌜ Finishes kind position value n (laid (stateOf (now (cells .entry))) (now (starts .entry)) (now (memory .entry)))
+    ensures { λ _. ⌜ MeetsInfix (now (tree .entry)) at end position value start count
+        (laid (stateOf (now (cells .entry))) (now (starts .entry)) (now (memory .entry)))
         (laid (stateOf (now (cells .exit))) (now (starts .entry)) (now (memory .exit))) ⌝ }
 {
-    if kind == record::ARRAY {
-        let instruction = OpCode::Array.to_instruction(n);
-        function_state::emit(starts, memory, cells, instruction, position);
-        return;
-    }
-    if kind == record::CALL {
-        let parameters = less_one(n);
-        let instruction = OpCode::Call.to_instruction(parameters);
-        function_state::emit(starts, memory, cells, instruction, position);
-        return;
-    }
-    if kind == record::INSTANCE_GET {
-        function_state::emit_opcode(starts, memory, cells, OpCode::InstanceGet, position);
-        return;
-    }
-    if kind == record::INDEX_GET {
-        function_state::emit_opcode(starts, memory, cells, OpCode::IndexGet, position);
-        return;
-    }
-    if kind == record::PREFIX {
-        if value == record::PREFIX_MINUS {
-            function_state::emit_opcode(starts, memory, cells, OpCode::Negative, position);
+    if at < end {
+        let middle = skip(tree, at, end);
+        if middle < end {
+            if value == record::INFIX_ASSIGN {
+                compile_expression(tree, middle, end, starts, memory, cells, start, count);
+                compile_assign_expression_left_part(
+                    tree,
+                    at,
+                    middle,
+                    starts,
+                    memory,
+                    cells,
+                    start,
+                    count,
+                    position,
+                    value,
+                );
+                return;
+            }
+            if record::INFIX_OR < value {
+                function_state::push_error(
+                    starts,
+                    memory,
+                    cells,
+                    reply::ERROR_UNKNOWN_OPERATION,
+                    position,
+                    record::INFIX,
+                    value,
+                );
+                return;
+            }
+            compile_expression(tree, at, middle, starts, memory, cells, start, count);
+            compile_expression(tree, middle, end, starts, memory, cells, start, count);
+            operation(starts, memory, cells, value, position);
+            if record::INFIX_PERCENT < value {
+                if value < record::INFIX_EQUAL {
+                    compile_assign_expression_left_part(
+                        tree,
+                        at,
+                        middle,
+                        starts,
+                        memory,
+                        cells,
+                        start,
+                        count,
+                        position,
+                        value,
+                    );
+                    return;
+                }
+            }
             return;
         }
-        if value == record::PREFIX_NOT {
-            function_state::emit_opcode(starts, memory, cells, OpCode::Not, position);
-            return;
-        }
-        function_state::push_error(
-            starts,
-            memory,
-            cells,
-            reply::ERROR_UNKNOWN_OPERATION,
-            position,
-            kind,
-            value,
-        );
         return;
     }
 }
 
-// All but the function itself are parameters.
-fn less_one(n: u64) -> u64
-    ensures { λ r. ⌜ r ≡ n - 1 ⌝ }
+// `compile_assign_expression_left_part`: `position` and `value` are the assignment's.
+fn compile_assign_expression_left_part(
+    tree: &[u64],
+    at: usize,
+    end: usize,
+    starts: &[usize; 15],
+    memory: &mut [u64],
+    cells: &mut [u64; 15],
+    start: usize,
+    count: usize,
+    position: u64,
+    value: u64,
+)
+    ensures { λ _. ⌜ MeetsTarget (now (tree .entry)) at end position value start count
+        (laid (stateOf (now (cells .entry))) (now (starts .entry)) (now (memory .entry)))
+        (laid (stateOf (now (cells .exit))) (now (starts .entry)) (now (memory .exit))) ⌝ }
 {
-    if n == 0 {
-        return 0;
+    let full = cells::full(cells);
+    if full != 0 {
+        return;
     }
-    n - 1
+    if at < end {
+        let kind = field(tree, at, record::KIND);
+        let place = field(tree, at, record::POSITION);
+        let text = field(tree, at, record::VALUE);
+        if kind == record::IDENTIFIER {
+            name(
+                starts,
+                memory,
+                cells,
+                start,
+                count,
+                OpCode::LocalSet,
+                OpCode::ContextSet,
+                OpCode::GlobalSet,
+                text,
+                position,
+            );
+            return;
+        }
+        if kind < record::INSTANCE_GET {
+            function_state::push_error(
+                starts,
+                memory,
+                cells,
+                reply::ERROR_CAN_NOT_ASSIGN,
+                position,
+                record::INFIX,
+                value,
+            );
+            return;
+        }
+        if record::INDEX_GET < kind {
+            function_state::push_error(
+                starts,
+                memory,
+                cells,
+                reply::ERROR_CAN_NOT_ASSIGN,
+                position,
+                record::INFIX,
+                value,
+            );
+            return;
+        }
+        let mut i = at + 1;
+        while i < end {
+            let next = skip(tree, i, end);
+            compile_expression(tree, i, next, starts, memory, cells, start, count);
+            i = next;
+        }
+        if kind < record::INDEX_GET {
+            function_state::emit_opcode(starts, memory, cells, OpCode::InstanceSet, place);
+            return;
+        }
+        function_state::emit_opcode(starts, memory, cells, OpCode::IndexSet, place);
+        return;
+    }
+}
+
+// `compile_if_expression`: the condition and the parts stand from `at` on. The false part comes before the true part.
+fn compile_if_expression(
+    tree: &[u64],
+    at: usize,
+    end: usize,
+    starts: &[usize; 15],
+    memory: &mut [u64],
+    cells: &mut [u64; 15],
+    start: usize,
+    count: usize,
+)
+    ensures { λ _. ⌜ MeetsIf (now (tree .entry)) at end start count (laid (stateOf (now (cells .entry))) (now (starts .entry)) (now (memory .entry)))
+        (laid (stateOf (now (cells .exit))) (now (starts .entry)) (now (memory .exit))) ⌝ }
+{
+    if at < end {
+        let yes = skip(tree, at, end);
+        if yes < end {
+            let no = skip(tree, yes, end);
+            compile_expression(tree, at, yes, starts, memory, cells, start, count);
+            let true_part = cells::get_next_instruction_index(cells);
+            function_state::emit_opcode_without_position(starts, memory, cells, OpCode::JumpIf);
+            compile_block(tree, no, end, starts, memory, cells, start, count);
+            let jump_to_end = cells::get_next_instruction_index(cells);
+            function_state::emit_opcode_without_position(starts, memory, cells, OpCode::Jump);
+            let next = cells::get_next_instruction_index(cells);
+            let taken = OpCode::JumpIf.to_instruction(next as u64);
+            function_state::replace_instruction(starts, memory, cells, true_part, taken);
+            compile_block(tree, yes, no, starts, memory, cells, start, count);
+            let last = cells::get_next_instruction_index(cells);
+            let over = OpCode::Jump.to_instruction(last as u64);
+            function_state::replace_instruction(starts, memory, cells, jump_to_end, over);
+            return;
+        }
+        return;
+    }
 }

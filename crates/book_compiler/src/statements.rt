@@ -1,17 +1,21 @@
-// A rescue, and the pieces of a loop.
+// The compilers of statements. `start` and `count` are those of the book's context locals.
 ghost use mathlib.Core.Path.{_≡_};
 ghost use Rattle.definition.specs.Compiler.{compileRescue};
 ghost use Rattle.bodies.specs.Cells.{stateOf};
 ghost use Rattle.bodies.specs.Looping.{foundOrZero};
 ghost use Rattle.book_compiler.specs.Represents.{laid, Acts};
-ghost use Rattle.book_compiler.specs.Members.{token, LoopStarts, LoopHead, LoopName, LoopEnd};
+ghost use Rattle.book_compiler.specs.Members.{token, LoopStarts, LoopHead, LoopName, LoopEnd, MeetsS, MeetsBlock, MeetsFor};
 use crate::cells;
 use crate::expressions;
+use crate::expressions::compile_expression;
 use crate::function_state;
+use bodies::skip;
 use building::function_state::FunctionState;
 use building::scopes::Found;
 use words::object;
 use words::opcode::OpCode;
+use words::record;
+use words::record::field;
 use words::reply;
 
 // A rescue part: only where a statement is not inside another.
@@ -145,4 +149,174 @@ fn end_loop(
     function_state::replace_instruction(starts, memory, cells, exit, out);
     function_state::exit_break_scope(starts, memory, cells, around.break_base, around.in_loop);
     function_state::exit_scope(starts, memory, cells, around.scope_base);
+}
+
+// `compile_statement`: one deeper, and back.
+pub(crate) fn compile_statement(
+    tree: &[u64],
+    at: usize,
+    end: usize,
+    starts: &[usize; 15],
+    memory: &mut [u64],
+    cells: &mut [u64; 15],
+    start: usize,
+    count: usize,
+)
+    ensures { λ _. ⌜ MeetsS (now (tree .entry)) at end start count (laid (stateOf (now (cells .entry))) (now (starts .entry)) (now (memory .entry)))
+        (laid (stateOf (now (cells .exit))) (now (starts .entry)) (now (memory .exit))) ⌝ }
+{
+    let full = cells::full(cells);
+    if full != 0 {
+        return;
+    }
+    if at < end {
+        let kind = field(tree, at, record::KIND);
+        let position = field(tree, at, record::POSITION);
+        let depth = cells::depth(cells);
+        cells::deeper(cells);
+        if kind == record::EXPRESSION_STATEMENT {
+            compile_expression(tree, at + 1, end, starts, memory, cells, start, count);
+            function_state::emit_opcode_without_position(starts, memory, cells, OpCode::Pop);
+            cells::with_depth(cells, depth);
+            return;
+        }
+        if kind == record::LOCAL_STATEMENT {
+            let mut i = at + 1;
+            while i < end {
+                let text = field(tree, i, record::VALUE);
+                let place = field(tree, i, record::POSITION);
+                let next = skip(tree, i + 1, end);
+                let found = function_state::define_local(starts, memory, cells, text);
+                if let Found::At(index) = found {
+                    let value_kind = field(tree, i + 1, record::KIND);
+                    if value_kind == record::ABSENT {
+                        i = next;
+                        continue;
+                    }
+                    compile_expression(tree, i + 1, next, starts, memory, cells, start, count);
+                    let instruction = OpCode::LocalInit.to_instruction(index);
+                    function_state::emit(starts, memory, cells, instruction, place);
+                    i = next;
+                    continue;
+                }
+                let name_kind = field(tree, i, record::KIND);
+                function_state::push_error(
+                    starts,
+                    memory,
+                    cells,
+                    reply::ERROR_VARIABLE_EXISTS,
+                    place,
+                    name_kind,
+                    text,
+                );
+                i = next;
+            }
+            cells::with_depth(cells, depth);
+            return;
+        }
+        if kind == record::FOR_STATEMENT {
+            compile_for_statement(
+                tree,
+                at + 1,
+                end,
+                starts,
+                memory,
+                cells,
+                start,
+                count,
+                position,
+            );
+            cells::with_depth(cells, depth);
+            return;
+        }
+        if kind == record::BREAK_STATEMENT {
+            function_state::emit_break(starts, memory, cells, position);
+            cells::with_depth(cells, depth);
+            return;
+        }
+        if kind == record::RESCUE_STATEMENT {
+            let value = field(tree, at, record::VALUE);
+            rescue(starts, memory, cells, position, kind, value);
+            cells::with_depth(cells, depth);
+            return;
+        }
+        function_state::emit_return(starts, memory, cells, position);
+        cells::with_depth(cells, depth);
+        return;
+    }
+}
+
+// A part of an if: its statements in a scope, then their value; null where there is no part.
+pub(crate) fn compile_block(
+    tree: &[u64],
+    at: usize,
+    end: usize,
+    starts: &[usize; 15],
+    memory: &mut [u64],
+    cells: &mut [u64; 15],
+    start: usize,
+    count: usize,
+)
+    ensures { λ _. ⌜ MeetsBlock (now (tree .entry)) at end start count (laid (stateOf (now (cells .entry))) (now (starts .entry)) (now (memory .entry)))
+        (laid (stateOf (now (cells .exit))) (now (starts .entry)) (now (memory .exit))) ⌝ }
+{
+    if at < end {
+        let around = cells::scope_base(cells);
+        cells::enter_scope(cells);
+        let mut i = at + 1;
+        while i < end {
+            let next = skip(tree, i, end);
+            compile_statement(tree, i, next, starts, memory, cells, start, count);
+            i = next;
+        }
+        function_state::exit_scope(starts, memory, cells, around);
+        function_state::remove_pop_or_push_null(starts, memory, cells);
+        return;
+    }
+    function_state::emit_null(starts, memory, cells);
+}
+
+// `compile_for_statement`: the name, the expression and the statements stand from `at` on; `position` is the for's.
+fn compile_for_statement(
+    tree: &[u64],
+    at: usize,
+    end: usize,
+    starts: &[usize; 15],
+    memory: &mut [u64],
+    cells: &mut [u64; 15],
+    start: usize,
+    count: usize,
+    position: u64,
+)
+    ensures { λ _. ⌜ MeetsFor (now (tree .entry)) at end position start count (laid (stateOf (now (cells .entry))) (now (starts .entry)) (now (memory .entry)))
+        (laid (stateOf (now (cells .exit))) (now (starts .entry)) (now (memory .exit))) ⌝ }
+{
+    if at < end {
+        let text = field(tree, at, record::VALUE);
+        let text_position = field(tree, at, record::POSITION);
+        let body = skip(tree, at + 1, end);
+        let around = cells::load(cells);
+        start_loop(cells);
+        compile_expression(tree, at + 1, body, starts, memory, cells, start, count);
+        begin_loop(starts, memory, cells, position, around.local_count);
+        let entry = name_loop(
+            starts,
+            memory,
+            cells,
+            position,
+            text,
+            text_position,
+            around.local_count,
+        );
+        let first = entry.first;
+        let exit = entry.exit;
+        let mut i = body;
+        while i < end {
+            let next = skip(tree, i, end);
+            compile_statement(tree, i, next, starts, memory, cells, start, count);
+            i = next;
+        }
+        end_loop(starts, memory, cells, around, first, exit);
+        return;
+    }
 }

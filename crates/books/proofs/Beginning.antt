@@ -126,7 +126,7 @@ module _ {tree set : List ℕ} {end full : ℕ} {o o₁ : List ℕ} {r : Taken} 
           rw (B .marked ne .0) (over-stays κ (using′ booksArea (length numbers)) us M ne)
 
 -- behind zeros are zeros
-zero-drop : (i : ℕ) (a : List ℕ) → Zero a → Zero (drop i a)
+pub zero-drop : (i : ℕ) (a : List ℕ) → Zero a → Zero (drop i a)
 zero-drop i a z =
     let zs : drop i a ≡ replicate (length a - i) 0 = ap (λ (y : List ℕ). drop i y) z ∙ drop-zeros i (length a) in
     zs ∙ ap (λ (y : ℕ). replicate y 0) (sym (ap (λ (y : List ℕ). length y) zs ∙ length-replicate {A = ℕ} (length a - i) 0))
@@ -135,17 +135,17 @@ module _ (strict : Bool) {tree set : List ℕ} {c k f m p t l u n b e o : List �
     (B : TakesBooks tree (length tree / 4) set (x .full) o r o₁) (same : length k₁ ≡ length k) where
   module _ {root : Document} {others : List Document} (A : Accepted tree set root others) (zeros : Cleared c k f m p t l u n b e o) (κ : Limits)
       (lent : (s : struct.Book) → Lent κ s c k f m p t l u n b e o) where
-    abbrev numbers : List ℕ
+    abbrev pub numbers : List ℕ
     numbers = needed [] root others
 
-    marks : Marks (firstOver κ (begunUses (length numbers))) (r .full)
+    pub marks : Marks (firstOver κ (begunUses (length numbers))) (r .full)
     marks =
         mark-books B (root ∷ others) numbers (A .bundle) (needed-ascends root others) (needed-below root others (A .bundle .numbers)) (A .chosen) κ
         (using′ constantsArea 3 ∷ []) (lent (begunBook strict r 0) .books) (mark-constants κ (zeros .emptied .constants) (lent
         (begunBook strict r 0) .fitted .constants) C)
 
     -- the definition's work from there
-    as-work : compileNeeded numbers (root ∷ others) (newContext strict) ≡ drive (length numbers) (root
+    pub as-work : compileNeeded numbers (root ∷ others) (newContext strict) ≡ drive (length numbers) (root
         ∷ others) [] numbers (newContext strict) (begunUses (length numbers))
     unfolding compileNeeded
     as-work = let n : 0 + length numbers ≡ length numbers = omega arith in rw n
@@ -226,7 +226,7 @@ module _ (strict : Bool) {tree set : List ℕ} {c k f m p t l u n b e o : List �
       };
     }
 
-    driving : r .full ≡ 0 → {set₀ : List ℕ} → set₀ ≡ replicate (length set) 0
+    pub driving : r .full ≡ 0 → {set₀ : List ℕ} → set₀ ≡ replicate (length set) 0
         → Driving (root ∷ others) tree (length tree / 4) 0 (r .count) numbers (drop (length numbers) o) [] set₀ o₁ κ (begunBook strict r (x .count)) c k₁ f
         m p t l u n b
         e (newContext strict) (begunUses (length numbers))

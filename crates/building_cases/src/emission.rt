@@ -296,7 +296,7 @@ fn state_cases() {
     state_case(b"state, marked as full", &mut marked, 9);
 }
 
-pub fn cases() {
+pub(crate) fn cases() {
     emit_cases();
     remove_cases();
     return_cases();

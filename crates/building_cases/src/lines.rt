@@ -3,13 +3,13 @@ use building::scopes::Found;
 
 const OUTPUT: i32 = 1;
 
-pub fn begin(label: &[u8]) {
+pub(crate) fn begin(label: &[u8]) {
     io::write_all(OUTPUT, label);
     io::write_all(OUTPUT, b":");
 }
 
 // A part of a case that writes more than one line.
-pub fn begin_part(label: &[u8], part: &[u8]) {
+pub(crate) fn begin_part(label: &[u8], part: &[u8]) {
     io::write_all(OUTPUT, label);
     io::write_all(OUTPUT, b", ");
     begin(part);
@@ -20,13 +20,13 @@ fn number(n: u64) {
     io::print_decimal(OUTPUT, n);
 }
 
-pub fn answer(name: &[u8], n: u64) {
+pub(crate) fn answer(name: &[u8], n: u64) {
     io::write_all(OUTPUT, b" ");
     io::write_all(OUTPUT, name);
     number(n);
 }
 
-pub fn truth(name: &[u8], b: bool) {
+pub(crate) fn truth(name: &[u8], b: bool) {
     io::write_all(OUTPUT, b" ");
     io::write_all(OUTPUT, name);
     if b {
@@ -36,7 +36,7 @@ pub fn truth(name: &[u8], b: bool) {
     }
 }
 
-pub fn found(name: &[u8], found: Found) {
+pub(crate) fn found(name: &[u8], found: Found) {
     match found {
         Found::At(i) => answer(name, i),
         Found::Nothing => {
@@ -48,7 +48,7 @@ pub fn found(name: &[u8], found: Found) {
 }
 
 // The end of a line.
-pub fn area(full: u64, count: usize, words: &[u64]) {
+pub(crate) fn area(full: u64, count: usize, words: &[u64]) {
     answer(b"full", full);
     answer(b"entries", count as u64);
     io::write_all(OUTPUT, b" words");

@@ -141,7 +141,7 @@ fn name_cases() {
     name_case(b"names, name 0 beyond the area", &mut beyond_zero, 3, 5, 0);
 }
 
-pub fn cases() {
+pub(crate) fn cases() {
     name_cases();
     scope_cases();
 }

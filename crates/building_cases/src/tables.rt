@@ -63,7 +63,7 @@ fn function_case(label: &[u8], functions: &mut [u64], full: u64) {
     lines::area(b.full, b.count, functions);
 }
 
-pub fn cases() {
+pub(crate) fn cases() {
     let mut none = [0u64; 2];
     pool_case(b"pool, no room", &mut none, 0);
     let mut one = [0u64; 3];

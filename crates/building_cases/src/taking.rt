@@ -103,7 +103,7 @@ fn give_up_cases() {
     give_up_case(b"give_up, width 9", 9, 0, 7);
 }
 
-pub fn cases() {
+pub(crate) fn cases() {
     take_cases();
     wide_take_cases();
     give_up_cases();

@@ -58,7 +58,7 @@ module _ (bits : List ℕ) (n : ℕ) (l : n / 64 < length bits) where
       go (no q) = ap (λ (y : ℕ). eqb (y / 2 ^ (m % 64) % 2) 1) (getD-set-other bits (n / 64) (m / 64) (bitOr word (2 ^ (n % 64))) 0 q) ∙ h
       go (yes q) =
           let b : word / 2 ^ (m % 64) % 2 ≡ 1 =
-              ap (λ (i : ℕ). getD bits i 0 / 2 ^ (m % 64) % 2) (sym q) ∙ eqb-true (getD bits (m / 64) 0 / 2 ^ (m % 64) % 2) 1 h in
+          ap (λ (i : ℕ). getD bits i 0 / 2 ^ (m % 64) % 2) (sym q) ∙ eqb-true (getD bits (m / 64) 0 / 2 ^ (m % 64) % 2) 1 h in
           ap (λ (i : ℕ). eqb (getD after i 0 / 2 ^ (m % 64) % 2) 1) q
           ∙ ap (λ (y : ℕ). eqb (y / 2 ^ (m % 64) % 2) 1) (getD-set-same bits (n / 64) (bitOr word (2 ^ (n % 64))) 0 l)
           ∙ ap (λ (y : ℕ). eqb y 1) (bits-or word (2 ^ (n % 64)) (m % 64)

@@ -29,7 +29,7 @@ use words::areas::entries_in;
 use words::areas::width_of;
 use words::reply::Totals;
 
-pub fn zeros_from(words: &[u64], from: usize) -> bool
+pub(crate) fn zeros_from(words: &[u64], from: usize) -> bool
     ensures { λ r. ⌜ r ≡ zeros (drop from (now (words .entry))) ⌝ }
 {
     let mut i = from;
@@ -43,7 +43,7 @@ pub fn zeros_from(words: &[u64], from: usize) -> bool
 }
 
 // Whether the entries up to a total lie in the area, and zeros follow.
-pub fn lies_in(area: u64, words: &[u64], total: u64) -> bool
+pub(crate) fn lies_in(area: u64, words: &[u64], total: u64) -> bool
     ensures { λ r. ⌜ r ≡ (leb total (entriesIn (widthOf area) (length (now (words .entry)))) && zeros (drop (total * widthOf area) (now (words .entry)))) ⌝ }
 {
     let entries = entries_in(area, words.len());
@@ -86,7 +86,7 @@ fn entry_fine(area: u64, words: &[u64], i: usize, totals: Totals) -> bool
     book_fine(words, i, totals)
 }
 
-pub fn entries_fine(area: u64, words: &[u64], totals: Totals) -> bool
+pub(crate) fn entries_fine(area: u64, words: &[u64], totals: Totals) -> bool
     requires { ⌜ HasEntries area ⌝ }
     ensures { λ r. ⌜ r ≡ entriesFine (alone area (now (words .entry)) totals) area ⌝ }
 {

@@ -45,7 +45,7 @@ fn count_marked(constants: &[u64], total: u64) -> u64
     count
 }
 
-pub fn constants_whole(constants: &[u64], totals: Totals) -> bool
+pub(crate) fn constants_whole(constants: &[u64], totals: Totals) -> bool
     requires { ⌜ entriesFine (alone constantsArea (now constants) totals) constantsArea ≡ true ⌝ }
     ensures { λ r. ⌜ r ≡ wholeKnown (alone constantsArea (now (constants .entry)) totals) constantsArea ⌝ }
 {

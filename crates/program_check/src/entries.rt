@@ -31,7 +31,7 @@ const MODEL: u64 = 5;
 const FUNCTION: u64 = 6;
 
 // Where the first holds, the second too.
-pub fn implies(a: bool, b: bool) -> bool
+pub(crate) fn implies(a: bool, b: bool) -> bool
     ensures { λ r. ⌜ r ≡ where′ a b ⌝ }
 {
     if a {
@@ -40,7 +40,7 @@ pub fn implies(a: bool, b: bool) -> bool
     true
 }
 
-pub fn is_text(n: u64) -> bool
+pub(crate) fn is_text(n: u64) -> bool
     ensures { λ r. ⌜ r ≡ isText n ⌝ }
 {
     (0 < n) & (n <= MOST_TEXT)
@@ -59,7 +59,7 @@ fn lies_below(start: u64, length: u64, total: u64) -> bool
     length <= total - start
 }
 
-pub fn constant_fine(constants: &[u64], i: usize, totals: Totals) -> bool
+pub(crate) fn constant_fine(constants: &[u64], i: usize, totals: Totals) -> bool
     ensures { λ r. ⌜ r ≡ entryFine (alone constantsArea (now (constants .entry)) totals) constantsArea i ⌝ }
 {
     let kind = entry_word(constants, CONSTANT_WORDS, i, 0);
@@ -73,7 +73,7 @@ pub fn constant_fine(constants: &[u64], i: usize, totals: Totals) -> bool
     (model & function & (mark < 2)) & ((kind <= FUNCTION) & null & boolean & text)
 }
 
-pub fn function_fine(functions: &[u64], i: usize, totals: Totals) -> bool
+pub(crate) fn function_fine(functions: &[u64], i: usize, totals: Totals) -> bool
     ensures { λ r. ⌜ r ≡ entryFine (alone functionsArea (now (functions .entry)) totals) functionsArea i ⌝ }
 {
     let rescue = entry_word(functions, FUNCTION_WORDS, i, 2);
@@ -86,7 +86,7 @@ pub fn function_fine(functions: &[u64], i: usize, totals: Totals) -> bool
     (inside & (rescue <= length) & (file < totals.books)) & ((instance < 2) & is_text(name))
 }
 
-pub fn model_fine(models: &[u64], i: usize, totals: Totals) -> bool
+pub(crate) fn model_fine(models: &[u64], i: usize, totals: Totals) -> bool
     ensures { λ r. ⌜ r ≡ entryFine (alone modelsArea (now (models .entry)) totals) modelsArea i ⌝ }
 {
     let file = entry_word(models, MODEL_WORDS, i, 0);
@@ -94,7 +94,7 @@ pub fn model_fine(models: &[u64], i: usize, totals: Totals) -> bool
     (file < totals.books) & is_text(name)
 }
 
-pub fn property_fine(properties: &[u64], i: usize, totals: Totals) -> bool
+pub(crate) fn property_fine(properties: &[u64], i: usize, totals: Totals) -> bool
     ensures { λ r. ⌜ r ≡ entryFine (alone propertiesArea (now (properties .entry)) totals) propertiesArea i ⌝ }
 {
     let model = entry_word(properties, PROPERTY_WORDS, i, 0);
@@ -102,7 +102,7 @@ pub fn property_fine(properties: &[u64], i: usize, totals: Totals) -> bool
     (model < totals.models) & is_text(name)
 }
 
-pub fn method_fine(methods: &[u64], i: usize, totals: Totals) -> bool
+pub(crate) fn method_fine(methods: &[u64], i: usize, totals: Totals) -> bool
     ensures { λ r. ⌜ r ≡ entryFine (alone methodsArea (now (methods .entry)) totals) methodsArea i ⌝ }
 {
     let model = entry_word(methods, METHOD_WORDS, i, 0);
@@ -111,7 +111,7 @@ pub fn method_fine(methods: &[u64], i: usize, totals: Totals) -> bool
     ((model < totals.models) & (function < totals.functions)) & is_text(name)
 }
 
-pub fn context_local_fine(locals: &[u64], i: usize, totals: Totals) -> bool
+pub(crate) fn context_local_fine(locals: &[u64], i: usize, totals: Totals) -> bool
     ensures { λ r. ⌜ r ≡ entryFine (alone contextLocalsArea (now (locals .entry)) totals) contextLocalsArea i ⌝ }
 {
     let file = entry_word(locals, CONTEXT_LOCAL_WORDS, i, 0);
@@ -123,7 +123,7 @@ pub fn context_local_fine(locals: &[u64], i: usize, totals: Totals) -> bool
     ((file < totals.books) & (mark < 2) & there) & (is_text(name) & none)
 }
 
-pub fn public_name_fine(publics: &[u64], i: usize, totals: Totals) -> bool
+pub(crate) fn public_name_fine(publics: &[u64], i: usize, totals: Totals) -> bool
     ensures { λ r. ⌜ r ≡ entryFine (alone publicNamesArea (now (publics .entry)) totals) publicNamesArea i ⌝ }
 {
     let file = entry_word(publics, PUBLIC_NAME_WORDS, i, 0);
@@ -132,7 +132,7 @@ pub fn public_name_fine(publics: &[u64], i: usize, totals: Totals) -> bool
     ((file < totals.books) & (constant < totals.constants)) & is_text(name)
 }
 
-pub fn book_fine(books: &[u64], i: usize, totals: Totals) -> bool
+pub(crate) fn book_fine(books: &[u64], i: usize, totals: Totals) -> bool
     ensures { λ r. ⌜ r ≡ entryFine (alone booksArea (now (books .entry)) totals) booksArea i ⌝ }
 {
     let number = entry_word(books, BOOK_WORDS, i, 0);

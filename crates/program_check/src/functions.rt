@@ -65,7 +65,7 @@ fn function_keeps(code: &[u64], functions: &[u64], j: usize, totals: Totals) -> 
     range_keeps(code, start, count, size, locals)
 }
 
-pub fn functions_keep(code: &[u64], functions: &[u64], totals: Totals) -> bool
+pub(crate) fn functions_keep(code: &[u64], functions: &[u64], totals: Totals) -> bool
     requires { ⌜ totals .code ≤ entriesIn 2 (length (now code)) ⌝ }
     ensures { λ r. ⌜ r ≡ functionsKeep (codeAnd (now (code .entry)) (now (functions .entry)) totals) ⌝ }
 {

@@ -244,7 +244,7 @@ fn is_operation(n: u64) -> bool
     (n < 10) | (n == 257) | (n == 258)
 }
 
-pub fn code_fine(code: &[u64], i: usize, totals: Totals) -> bool
+pub(crate) fn code_fine(code: &[u64], i: usize, totals: Totals) -> bool
     ensures { λ r. ⌜ r ≡ entryFine (alone codeArea (now (code .entry)) totals) codeArea i ⌝ }
 {
     let word = entry_word(code, CODE_WORDS, i, 0);
@@ -259,7 +259,7 @@ pub fn code_fine(code: &[u64], i: usize, totals: Totals) -> bool
 }
 
 // The length that an instruction's jump needs.
-pub fn jump_of(word: u64) -> u64
+pub(crate) fn jump_of(word: u64) -> u64
     ensures { λ r. ⌜ r ≡ jumpOf word ⌝ }
 {
     let class = class_of(word / OPCODE_UNIT);
@@ -270,7 +270,7 @@ pub fn jump_of(word: u64) -> u64
 }
 
 // The locals that an instruction needs. A read of local 0 needs none.
-pub fn locals_needed(word: u64) -> u64
+pub(crate) fn locals_needed(word: u64) -> u64
     ensures { λ r. ⌜ r ≡ localsNeeded word ⌝ }
 {
     let class = class_of(word / OPCODE_UNIT);

@@ -124,7 +124,7 @@ fn share_differs(
     share_differs_in(words, width, first, second, total, shares, share, &mut set)
 }
 
-pub fn keys_differ(
+pub(crate) fn keys_differ(
     words: &[u64],
     width: usize,
     first: usize,

@@ -27,7 +27,7 @@ use words::reply::Totals;
 // About so many entries have their keys looked at in one pass.
 const SHARE: u64 = 8192;
 
-pub fn code_area(code: &[u64], functions: &[u64], totals: Totals) -> bool
+pub(crate) fn code_area(code: &[u64], functions: &[u64], totals: Totals) -> bool
     ensures { λ r. ⌜ r ≡ areaFine (codeAnd (now (code .entry)) (now (functions .entry)) totals) codeArea ⌝ }
 {
     if !entries_fine(CODE, code, totals) {
@@ -36,7 +36,7 @@ pub fn code_area(code: &[u64], functions: &[u64], totals: Totals) -> bool
     functions_keep(code, functions, totals)
 }
 
-pub fn constants_area(constants: &[u64], totals: Totals) -> bool
+pub(crate) fn constants_area(constants: &[u64], totals: Totals) -> bool
     ensures { λ r. ⌜ r ≡ areaFine (alone constantsArea (now (constants .entry)) totals) constantsArea ⌝ }
 {
     if !entries_fine(CONSTANTS, constants, totals) {
@@ -46,7 +46,7 @@ pub fn constants_area(constants: &[u64], totals: Totals) -> bool
 }
 
 // The entry point counts with area 3: a function's number, or 0 where there is no function.
-pub fn functions_area(functions: &[u64], totals: Totals) -> bool
+pub(crate) fn functions_area(functions: &[u64], totals: Totals) -> bool
     ensures { λ r. ⌜ r ≡ areaFine (alone functionsArea (now (functions .entry)) totals) functionsArea ⌝ }
 {
     if !entries_fine(FUNCTIONS, functions, totals) {
@@ -56,7 +56,7 @@ pub fn functions_area(functions: &[u64], totals: Totals) -> bool
 }
 
 // One per model and name.
-pub fn methods_area(methods: &[u64], totals: Totals) -> bool
+pub(crate) fn methods_area(methods: &[u64], totals: Totals) -> bool
     ensures { λ r. ⌜ r ≡ areaFine (alone methodsArea (now (methods .entry)) totals) methodsArea ⌝ }
 {
     if !entries_fine(METHODS, methods, totals) {
@@ -73,7 +73,7 @@ pub fn methods_area(methods: &[u64], totals: Totals) -> bool
 }
 
 // One per file and name.
-pub fn publics_area(publics: &[u64], totals: Totals) -> bool
+pub(crate) fn publics_area(publics: &[u64], totals: Totals) -> bool
     ensures { λ r. ⌜ r ≡ areaFine (alone publicNamesArea (now (publics .entry)) totals) publicNamesArea ⌝ }
 {
     if !entries_fine(PUBLIC_NAMES, publics, totals) {
@@ -90,7 +90,7 @@ pub fn publics_area(publics: &[u64], totals: Totals) -> bool
 }
 
 // No number twice. A book has no word 1, which reads as 0; numbers are texts, so no two have one place.
-pub fn books_area(books: &[u64], totals: Totals) -> bool
+pub(crate) fn books_area(books: &[u64], totals: Totals) -> bool
     ensures { λ r. ⌜ r ≡ areaFine (alone booksArea (now (books .entry)) totals) booksArea ⌝ }
 {
     if !entries_fine(BOOKS, books, totals) {
@@ -100,7 +100,7 @@ pub fn books_area(books: &[u64], totals: Totals) -> bool
 }
 
 // Areas 9 and 10 have no entries.
-pub fn empty_area(area: u64, words: &[u64], total: u64) -> bool
+pub(crate) fn empty_area(area: u64, words: &[u64], total: u64) -> bool
     ensures { λ r. ⌜ r ≡ (leb total (entriesIn (widthOf area) (length (now (words .entry)))) && zeros (drop (total * widthOf area) (now (words .entry)))
         && eqb total 0) ⌝ }
 {

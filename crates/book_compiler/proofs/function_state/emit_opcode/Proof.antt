@@ -13,8 +13,8 @@ unfolding part withPart
 returns c =
     let c10 = c .before .before .before .before .before .before .before .before .before .before in
     record {
-      acts = on-part {i = 1} (c10 .args .starts .now) (c10 .args .memory .now) (c .before .before .emit-opcode .last .0)
-          (c .before .before .emit-opcode .ensures) (c .before .before .emit-opcode .kept .0);
+      acts = on-part {i = 1} (c10 .args .starts .now) (c10 .args .memory .now)
+          (c .before .before .emit-opcode .last .0) (c .before .before .emit-opcode .ensures) (c .before .before .emit-opcode .kept .0);
     }
 
 returns-2 : tie.Need-returns-2

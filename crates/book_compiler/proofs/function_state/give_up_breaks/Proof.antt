@@ -14,8 +14,8 @@ returns c =
     let c9 = c .before .before .before .before .before .before .before .before .before in
     record {
       state = refl;
-      acts = on-part {i = 10} (c9 .args .starts .now) (c9 .args .memory .now) (c .before .before .give-up-breaks .last .0)
-          (c .before .before .give-up-breaks .ensures) (c .before .before .give-up-breaks .kept .0);
+      acts = on-part {i = 10} (c9 .args .starts .now) (c9 .args .memory .now)
+          (c .before .before .give-up-breaks .last .0) (c .before .before .give-up-breaks .ensures) (c .before .before .give-up-breaks .kept .0);
     }
 
 returns-2 : tie.Need-returns-2

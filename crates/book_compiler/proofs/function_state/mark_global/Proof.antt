@@ -14,8 +14,8 @@ returns c =
     let c9 = c .before .before .before .before .before .before .before .before .before in
     record {
       state = refl;
-      acts = on-part {i = 2} (c9 .args .starts .now) (c9 .args .memory .now) (c .before .before .mark-global .last .0)
-          (c .before .before .mark-global .ensures) (c .before .before .mark-global .kept .0);
+      acts = on-part {i = 2} (c9 .args .starts .now) (c9 .args .memory .now)
+          (c .before .before .mark-global .last .0) (c .before .before .mark-global .ensures) (c .before .before .mark-global .kept .0);
     }
 
 returns-2 : tie.Need-returns-2

@@ -16,8 +16,8 @@ use borrow.Author.Needs.{needs}
 use native.Mathlib.Omega.{arith}
 
 abbrev Inv-loop : tie.InvT-loop
-Inv-loop starts memory₀ cells next instruction end i₀ memory i = (length memory ≡ length memory₀) × (Fits starts (length memory₀) → Patching
-    (codeWord instruction) i (laid (stateOf cells) starts memory₀) (laid (stateOf cells) starts memory))
+Inv-loop starts memory₀ cells next instruction end i₀ memory i = (length memory ≡ length memory₀)
+    × (Fits starts (length memory₀) → Patching (codeWord instruction) i (laid (stateOf cells) starts memory₀) (laid (stateOf cells) starts memory))
 
 abbrev μ-loop : tie.MeasureT-loop
 μ-loop starts memory₀ cells next instruction end i₀ memory i = end - i
@@ -36,8 +36,8 @@ loop-again c =
     )
 
 returns : tie.Need-returns Inv-loop μ-loop
-returns c = patching-end
-    (c .before .before .to-instruction .ensures ∙ ap (λ (i : ℕ). word (toInstruction Jump i)) (c .before .before .before .get-next-instruction-index .ensures))
+returns c = patching-end (c .before .before .to-instruction .ensures ∙ ap (λ (i : ℕ). word (toInstruction Jump i))
+    (c .before .before .before .get-next-instruction-index .ensures))
     (rw (c .before .before .before .before .load .ensures) at (c .loop-test .left)) (c .before .loop .inv .1)
 
 pub patch-breaks-spec : {M : Type 1} → statement M

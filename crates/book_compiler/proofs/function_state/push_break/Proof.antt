@@ -13,8 +13,8 @@ unfolding part withPart
 returns c =
     let c10 = c .before .before .before .before .before .before .before .before .before .before in
     record {
-      acts = on-part {i = 10} (c10 .args .starts .now) (c10 .args .memory .now) (c .before .before .push-break .last .0)
-          (c .before .before .push-break .ensures) (c .before .before .push-break .kept .0);
+      acts = on-part {i = 10} (c10 .args .starts .now) (c10 .args .memory .now)
+          (c .before .before .push-break .last .0) (c .before .before .push-break .ensures) (c .before .before .push-break .kept .0);
     }
 
 returns-2 : tie.Need-returns-2

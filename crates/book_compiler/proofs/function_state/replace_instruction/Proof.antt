@@ -13,8 +13,8 @@ unfolding part withPart
 returns c =
     let c9 = c .before .before .before .before .before .before .before .before .before in
     record {
-      acts = on-part {i = 1} (c9 .args .starts .now) (c9 .args .memory .now) (c .before .before .replace-instruction .last .0)
-          (c .before .before .replace-instruction .ensures) (c .before .before .replace-instruction .kept .0);
+      acts = on-part {i = 1} (c9 .args .starts .now) (c9 .args .memory .now)
+          (c .before .before .replace-instruction .last .0) (c .before .before .replace-instruction .ensures) (c .before .before .replace-instruction .kept .0);
     }
 
 returns-2 : tie.Need-returns-2

@@ -10,20 +10,9 @@ same-length : tie.Need-same-length
 same-length c =
     let c7 = c .before .before .before .before .before .before .before in
     let c12 = c7 .before .before .before .before .before in
-    let c15 = c12 .before .before .before in
-    let c20 = c15 .before .before .before .before .before in
-    let c23 = c20 .before .before .before in
-    let c29 = c23 .before .before .before .before .before .before in
-    let c32 = c29 .before .before .before in
-    let c33 = c32 .before in
-    omega (
-      arith,
-      c .before .before .exit-scope .kept,
-      c7 .exit-break-scope .kept,
-      c12 .replace-instruction .kept,
-      c20 .emit2 .kept,
-      c29 .emit .kept,
-    )
+    let c20 = c12 .before .before .before .before .before .before .before .before in
+    let c29 = c20 .before .before .before .before .before .before .before .before .before in
+    omega (arith, c29 .emit .kept, c20 .emit2 .kept, c12 .replace-instruction .kept, c7 .exit-break-scope .kept, c .before .before .exit-scope .kept)
 
 returns : tie.Need-returns
 returns c =

@@ -9,18 +9,16 @@ use native.Mathlib.Omega.{arith}
 same-length : tie.Need-same-length
 same-length c =
     let c7 = c .before .before .before .before .before .before .before in
-    let c10 = c7 .before .before .before in
-    let c13 = c10 .before .before .before in
+    let c13 = c7 .before .before .before .before .before .before in
     let c20 = c13 .before .before .before .before .before .before .before in
-    let c23 = c20 .before .before .before in
-    let c29 = c23 .before .before .before .before .before .before in
+    let c29 = c20 .before .before .before .before .before .before .before .before .before in
     omega (
       arith,
-      c .before .before .emit-opcode-without-position2 .kept,
-      c7 .emit2 .kept,
-      c13 .emit-opcode-without-position .kept,
-      c20 .emit .kept,
       c29 .define-local .kept,
+      c20 .emit .kept,
+      c13 .emit-opcode-without-position .kept,
+      c7 .emit2 .kept,
+      c .before .before .emit-opcode-without-position2 .kept,
     )
 
 returns : tie.Need-returns

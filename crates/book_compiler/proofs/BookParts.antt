@@ -1,0 +1,153 @@
+-- A routine that is lent one part of the memory does to the book what it does to its area. One law over the part's number. Assumes nothing.
+use Prim.Native.Nat.{ℕ, suc, _≤_, _<_}
+use native.Mathlib.Omega.{arith}
+use mathlib.Core.Path.{_≡_, refl, sym, ap, subst, _∙_}
+use mathlib.Core.Bool.{Bool, true, false, cond}
+use mathlib.Core.List.{List}
+use lib.ListN.{length, getD}
+use lib.Dec.{eqb}
+use borrow.Author.Tests.{eqb-true}
+use Rattle.memory.specs.Layout.{part, withPart, partCount, Fits}
+use Rattle.memory.proofs.Parts.{put-part, put-fits, ends-within}
+use Rattle.definition.specs.Uses.{Limits}
+use Rattle.definition.specs.Book.{Book, Deed, Placed, MaybePlaced}
+use Rattle.definition_laws.proofs.Steady.{Longer}
+use Rattle.building.specs.declared.scopes.Found.{Found}
+use Rattle.documents.specs.declared.book.Book as struct
+use Rattle.documents.specs.Shelf.{Shelf, shelf, Keeping, Shelved, Deeds, Places, Seeks}
+use Rattle.documents.proofs.Calm.{Calm, Calms}
+use Rattle.documents.proofs.Shelving.{keeping-longer, unfilled}
+use Rattle.book_compiler.specs.Represents.{Replaced}
+use Rattle.book_compiler.specs.RepresentsBook.{BookMemory, bookLaid, areaOf, bookView, isBookArea, PreservesParts, RepresentsBook, OnArea}
+use Rattle.book_compiler.specs.RepresentsBook.{SimulatesBook, SimulatesPlaced, SimulatesSought}
+use Rattle.book_compiler.specs.BookLeaves.{ReadsAreas}
+
+-- the counts and areas with other counts and another area i
+abbrev pub withBookArea : ℕ → struct.Book → List ℕ → Shelf → Shelf
+withBookArea i s x m =
+    shelf s (cond (eqb i 1) x (m .code)) (cond (eqb i 2) x (m .constants)) (cond (eqb i 3) x (m .functions)) (cond (eqb i 4) x (m .models))
+    (cond (eqb i 5) x (m .properties)) (cond (eqb i 6) x (m .methods)) (cond (eqb i 7) x (m .locals)) (cond (eqb i 8) x (m .publics))
+    (cond (eqb i 9) x (m .names)) (cond (eqb i 10) x (m .breaks)) (cond (eqb i 11) x (m .errors))
+
+put-view : (a w x : List ℕ) (s s′ : struct.Book) (f : Fits a (length w)) (i : ℕ) → i < 14 → length x ≡ length (part a i w)
+    → bookView (bookLaid s′ a (withPart a i x w)) ≡ withBookArea i s′ x (bookView (bookLaid s a w))
+put-view a w x s s′ f i h l =
+    rw (
+      put-part a w x f i h l 1 (omega arith),
+      put-part a w x f i h l 2 (omega arith),
+      put-part a w x f i h l 3 (omega arith),
+      put-part a w x f i h l 4 (omega arith),
+      put-part a w x f i h l 5 (omega arith),
+      put-part a w x f i h l 6 (omega arith),
+      put-part a w x f i h l 7 (omega arith),
+      put-part a w x f i h l 8 (omega arith),
+      put-part a w x f i h l 9 (omega arith),
+      put-part a w x f i h l 10 (omega arith),
+      put-part a w x f i h l 11 (omega arith),
+    ) refl
+
+apart : (i j : ℕ) → isBookArea i ≡ true → isBookArea j ≡ false → eqb i j ≡ false
+apart i j p q = go (eqb i j) refl
+  where
+    go : (t : Bool) → eqb i j ≡ t → t ≡ false
+    go false e = refl
+    go true e = sym (sym q ∙ ap isBookArea (sym (eqb-true i j e)) ∙ p)
+
+-- a routine on one part: what it does to the counts and areas, of a memory with its layout
+pub area-kept : {κ : Limits} {ps : List ℕ} {others : ℕ → List ℕ} {i : ℕ} {R : List ℕ → List ℕ → Type 0} {m m′ : BookMemory} {b : Book}
+    → i < 14 → isBookArea i ≡ true → Fits (m .starts) (length (m .words)) → PreservesParts others m → OnArea i R m m′
+    → ((x : List ℕ) → R (areaOf m i) x → Keeping κ ps (withBookArea i (m′ .book) x (bookView m)) b) → RepresentsBook κ ps others m′ b
+area-kept {κ} {ps} {others} {i} {R} {m} {m′} {b} lt own suits same o law =
+    let p = o .on suits in
+    let a = m .starts in
+    let here : Keeping κ ps (bookView (bookLaid (m′ .book) a (m′ .words))) b =
+    rw (p .is, put-view a (m .words) (p .words) (m .book) (m′ .book) suits i lt (p .long)) (law (p .words) (p .does)) in
+    let fits : Fits a (length (m′ .words)) = rw (p .is) (put-fits a (m .words) (p .words) suits i lt (p .long)) in
+    let kept : PreservesParts others (bookLaid (m′ .book) a (m′ .words)) =
+    record {
+      same = λ j g q.
+          ap (part a j) (p .is) ∙ put-part a (m .words) (p .words) suits i lt (p .long) j g
+          ∙ ap (λ (t : Bool). cond t (p .words) (areaOf m j)) (apart i j own q) ∙ same .same j g q;
+    } in
+    record {
+      fits = rw (o .same) fits;
+      preserves = subst (λ (w : List ℕ). PreservesParts others (bookLaid (m′ .book) w (m′ .words))) (sym (o .same)) kept;
+      keeping = rw (o .same) here;
+    }
+
+-- and of one that stands for a book
+pub area-law : {κ : Limits} {ps ps′ : List ℕ} {others : ℕ → List ℕ} {i : ℕ} {R : List ℕ → List ℕ → Type 0} {m m′ : BookMemory} {b b′ : Book}
+    → i < 14 → isBookArea i ≡ true → OnArea i R m m′ → RepresentsBook κ ps others m b
+    → ((x : List ℕ) → R (areaOf m i) x → Keeping κ ps′ (withBookArea i (m′ .book) x (bookView m)) b′) → RepresentsBook κ ps′ others m′ b′
+area-law lt own o H law = area-kept lt own (H .fits) (H .preserves) o law
+
+-- so its deed, its number and what it finds on the counts and areas are those on the memory
+module _ {i : ℕ} {R : List ℕ → List ℕ → Type 0} {m m′ : BookMemory} (lt : i < 14) (own : isBookArea i ≡ true) (o : OnArea i R m m′) where
+  pub area-simulates : {deed : Deed} → ((x : List ℕ) → R (areaOf m i) x → Deeds (bookView m) (withBookArea i (m′ .book) x (bookView m)) deed)
+      → SimulatesBook m m′ deed
+  area-simulates law = record { meets = λ κ ps others b H. area-law lt own o H (λ x r. law x r .meets κ ps b (H .keeping)) }
+
+  pub area-places : {place : ℕ} {deed : Book → Placed}
+      → ((x : List ℕ) → R (areaOf m i) x → Places (bookView m) (withBookArea i (m′ .book) x (bookView m)) place deed) → SimulatesPlaced m m′ place deed
+  area-places law = record {
+    meets = λ κ ps others b H. area-law lt own o H (λ x r. law x r .meets κ ps b (H .keeping));
+    placed = λ κ ps others b H z. let p = o .on (H .fits) in law (p .words) (p .does) .placed κ ps b (H .keeping) z;
+  }
+
+  pub area-seeks : {found : Found} {deed : Book → MaybePlaced}
+      → ((x : List ℕ) → R (areaOf m i) x → Seeks (bookView m) (withBookArea i (m′ .book) x (bookView m)) found deed) → SimulatesSought m m′ found deed
+  area-seeks law = record {
+    meets = λ κ ps others b H. area-law lt own o H (λ x r. law x r .meets κ ps b (H .keeping));
+    sought = λ κ ps others b H z. let p = o .on (H .fits) in law (p .words) (p .does) .sought κ ps b (H .keeping) z;
+  }
+
+-- what a routine that was lent part i does to it, once the memory has its layout
+pub area-part : {i : ℕ} {R : List ℕ → List ℕ → Type 0} {s s′ : struct.Book} (a w x : List ℕ) → R (part a i w) x → length x ≡ length (part a i w)
+    → OnArea i R (bookLaid s a w) (bookLaid s′ a (withPart a i x w))
+area-part a w x r l = record { same = refl; on = λ f. record { words = x; does = r; long = l; is = refl } }
+
+-- and one that was not lent it, since it does not fit
+pub area-wide : {i : ℕ} → i < 14 → {R : List ℕ → List ℕ → Type 0} {s s′ : struct.Book} (a w w′ : List ℕ) → length w < getD a (suc i) 0
+    → OnArea i R (bookLaid s a w) (bookLaid s′ a w′)
+area-wide {i} h a w w′ n = record { same = refl; on = λ f. absurd (omega (arith, ends-within f i h)) }
+
+pub area-back : {i : ℕ} → i < 14 → {R : List ℕ → List ℕ → Type 0} {s s′ : struct.Book} (a w w′ : List ℕ) → getD a (suc i) 0 < getD a i 0
+    → OnArea i R (bookLaid s a w) (bookLaid s′ a w′)
+area-back {i} h a w w′ n = record { same = refl; on = λ f. absurd (omega (arith, f .ordered i h)) }
+
+-- with the mark set the memory stands for whatever is compiled further
+pub represents-longer : {κ : Limits} {ps ps′ : List ℕ} {others : ℕ → List ℕ} {m : BookMemory} {b b′ : Book} → Longer (b .uses) (b′ .uses)
+    → (m .book .full ≡ 0 → ⊥) → RepresentsBook κ ps others m b → RepresentsBook κ ps′ others m b′
+represents-longer l ne H = record { fits = H .fits; preserves = H .preserves; keeping = keeping-longer l ne (H .keeping) }
+
+-- not full after, not full before
+pub represents-unfilled : {κ : Limits} {ps ps′ : List ℕ} {others : ℕ → List ℕ} {m m′ : BookMemory} {b b′ : Book} → Longer (b .uses) (b′ .uses)
+    → RepresentsBook κ ps others m b → RepresentsBook κ ps′ others m′ b′ → m′ .book .full ≡ 0 → m .book .full ≡ 0
+represents-unfilled l H H′ z = unfilled l (H .keeping) (H′ .keeping) z
+
+pub simulates-full : {m : BookMemory} {deed : Deed} → Calms deed → (m .book .full ≡ 0 → ⊥) → SimulatesBook m m deed
+simulates-full C ne = record { meets = λ κ ps others b H. represents-longer (C b .uses) ne H }
+
+-- one after the other
+pub simulates-then : {m m₁ m′ : BookMemory} {d e : Deed} → SimulatesBook m m₁ d → SimulatesBook m₁ m′ e → SimulatesBook m m′ (λ b. e (d b))
+simulates-then {d = d} A B = record { meets = λ κ ps others b H. B .meets κ ps others (d b) (A .meets κ ps others b H) }
+
+-- a routine that was not lent part i to read
+pub areas-wide : {i : ℕ} → i < 14 → {R : Type 0} {s : struct.Book} (a w : List ℕ) → length w < getD a (suc i) 0 → ReadsAreas R (bookLaid s a w)
+areas-wide {i} h a w n = record { on = λ f. absurd (omega (arith, ends-within f i h)) }
+
+pub areas-back : {i : ℕ} → i < 14 → {R : Type 0} {s : struct.Book} (a w : List ℕ) → getD a (suc i) 0 < getD a i 0 → ReadsAreas R (bookLaid s a w)
+areas-back {i} h a w n = record { on = λ f. absurd (omega (arith, f .ordered i h)) }
+
+-- what a routine does to part i, said otherwise
+pub area-map : {i : ℕ} {R R′ : List ℕ → List ℕ → Type 0} {m m′ : BookMemory}
+    → (Fits (m .starts) (length (m .words)) → (x : List ℕ) → R (areaOf m i) x → R′ (areaOf m i) x) → OnArea i R m m′ → OnArea i R′ m m′
+area-map g o = record {
+  same = o .same;
+  on = λ f. let p = o .on f in record { words = p .words; does = g f (p .words) (p .does); long = p .long; is = p .is };
+}
+
+-- the memory as it was stands for another book
+pub represents-same : {κ : Limits} {ps ps′ : List ℕ} {others : ℕ → List ℕ} {m : BookMemory} {b b′ : Book} → RepresentsBook κ ps others m b
+    → Keeping κ ps′ (bookView m) b′ → RepresentsBook κ ps′ others m b′
+represents-same H K = record { fits = H .fits; preserves = H .preserves; keeping = K }

@@ -1,0 +1,16 @@
+-- `book_compiler::driver::first_constants` meets its contract. Assumes nothing.
+-- Made from Proof.answers by `answers make`: edit that file, and not this one.
+use Rattle.books.proofs.Beginning.{first-constants}
+use Rattle.book_compiler.proofs.driver.first_constants.Statement.{statement}
+use Rattle.book_compiler.proofs.driver.first_constants.Tie as tie
+use borrow.Author.Needs.{needs}
+
+returns : tie.Need-returns
+returns c =
+    let c6 = c .before .before .before .before .before .before in
+    let c10 = c6 .before .before .before .before in
+    first-constants (c10 .take3 .ensures) (c6 .take32 .ensures) (c .before .before .take33 .ensures)
+
+pub first-constants-spec : {M : Type 1} → statement M
+first-constants-spec =
+    tie.close (tie.spec (λ c κs. search needs) (λ c κs. search needs) (λ c κs. search needs) (λ c. search needs) returns)

@@ -1,0 +1,43 @@
+-- `book_compiler::functions::drop_function` meets its contract: it lends part 1. Assumes nothing.
+-- Made from Proof.answers by `answers make`: edit that file, and not this one.
+use Rattle.memory.specs.Layout.{part, withPart}
+use Rattle.book_compiler.proofs.Parts.{on-part, on-wide, on-back}
+use Rattle.book_compiler.proofs.functions.drop_function.Statement.{statement}
+use Rattle.book_compiler.proofs.functions.drop_function.Tie as tie
+use borrow.Author.Needs.{needs}
+use native.Mathlib.Omega.{arith}
+
+returns : tie.Need-returns
+unfolding part withPart
+returns c =
+    let c9 = c .before .before .before .before .before .before .before .before .before in
+    record {
+      acts = on-part {i = 1} (c9 .args .starts .now) (c9 .args .memory .now)
+          (c .before .before .drop-function .last .0) (c .before .before .drop-function .ensures) (c .before .before .drop-function .kept .0);
+    }
+
+returns-2 : tie.Need-returns-2
+returns-2 c =
+    let c5 = c .before .before .before .before .before in
+    record { acts = on-wide {i = 1} (omega arith) (c5 .args .starts .now) (c5 .args .memory .now) _ (c .if2 .left) }
+
+returns-3 : tie.Need-returns-3
+returns-3 c = record {
+  acts = on-back {i = 1} (omega arith) (c .before .before .before .before .args .starts .now)
+      (c .before .before .before .before .args .memory .now) _ (c .if1 .left);
+}
+
+pub drop-function-spec : {M : Type 1} → statement M
+drop-function-spec =
+    tie.close
+    (tie.spec
+    (λ c. search needs)
+    (λ c. search needs)
+    (λ c. search needs)
+    (λ c. search needs)
+    (λ c. search needs)
+    (λ c κs. search needs)
+    (λ c. search needs)
+    returns
+    returns-2
+    returns-3)

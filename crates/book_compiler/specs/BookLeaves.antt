@@ -1,0 +1,70 @@
+-- What a routine does to a book where it is lent one part of the memory
+-- Private contracts alone cite this file: whoever reads the promises need not believe it
+use Prim.Native.Nat.{ℕ}
+use mathlib.Core.Path.{_≡_}
+use mathlib.Core.Bool.{Bool}
+use mathlib.Core.List.{List, [], _∷_}
+use lib.ListN.{length}
+use Rattle.memory.specs.Layout.{Fits}
+use Rattle.words.specs.Ast.{Token}
+use Rattle.words.specs.Object.{constantOf}
+use Rattle.words.specs.Areas.{constantsArea, modelsArea, propertiesArea, methodsArea, contextLocalsArea, publicNamesArea, errorsArea, booksArea}
+use Rattle.definition.specs.Book.{pushBookError, addBookConstant, defineContextLocal}
+use Rattle.building.specs.declared.scopes.Found.{Found}
+use Rattle.building.specs.declared.taking.Taken.{Taken}
+use Rattle.building.specs.Taking.{Took}
+use Rattle.building.specs.Found.{foundOf, findContextLocalC}
+use Rattle.documents.specs.declared.book.Book as struct
+use Rattle.documents.specs.Deeds.{ErrorsDo, ConstantsPlace, LocalsSeek, LocalsValue}
+use Rattle.documents.specs.Including.{findPairC, includedC, AsksMode}
+use Rattle.documents.specs.Modelling.{InsertsMethod, CopiesMethods, Publishes, modelAtC}
+use Rattle.book_compiler.specs.RepresentsBook.{BookMemory, areaOf, OnArea}
+
+-- `push_error`, `add_constant`
+pub record PushesBookError (number : ℕ) (token : Token) (m m′ : BookMemory) : Type 0 where
+  pub acts : OnArea errorsArea (λ e e′. ErrorsDo (m .book) e (m′ .book) e′ (pushBookError number token)) m m′
+
+pub record AddsBookConstant (kind value place : ℕ) (m m′ : BookMemory) : Type 0 where
+  pub acts : OnArea constantsArea (λ k k′. ConstantsPlace (m .book) k (m′ .book) k′ place (addBookConstant (constantOf kind value))) m m′
+
+-- `define_local` of the compiler's state
+pub record DefinesContextLocal (name : ℕ) (found : Found) (m m′ : BookMemory) : Type 0 where
+  pub acts : OnArea contextLocalsArea (λ l l′. LocalsSeek (m .book) l (m′ .book) l′ found (defineContextLocal name)) m m′
+
+-- `local_values.insert`, where a local was found
+pub record SetsLocalValue (found : Found) (constant : ℕ) (m m′ : BookMemory) : Type 0 where
+  pub same : m′ .book ≡ m .book
+  pub acts : OnArea contextLocalsArea (λ l l′. LocalsValue (m .book) l l′ found constant) m m′
+
+-- a method of a model; all methods of a model under another
+pub record InsertsBookMethod (model name function : ℕ) (m m′ : BookMemory) : Type 0 where
+  pub acts : OnArea methodsArea (λ t t′. InsertsMethod model name function (m .book) t (m′ .book) t′) m m′
+
+pub record CopiesBookMethods (source target : ℕ) (m m′ : BookMemory) : Type 0 where
+  pub acts : OnArea methodsArea (λ t t′. CopiesMethods source target (m .book) t (m′ .book) t′) m m′
+
+-- `public_indices.insert`
+pub record PublishesName (place name : ℕ) (m m′ : BookMemory) : Type 0 where
+  pub acts : OnArea publicNamesArea (λ u u′. Publishes place name (m .book) u (m′ .book) u′) m m′
+
+-- a read of a memory that has its layout
+pub record ReadsAreas (R : Type 0) (m : BookMemory) : Type 0 where
+  pub on : Fits (m .starts) (length (m .words)) → R
+
+-- the context local of a name, and the model that a context local is
+pub record FindsBookLocal (name : ℕ) (found : Found) (m : BookMemory) : Type 0 where
+  pub reads : ReadsAreas (found ≡ foundOf (findContextLocalC (m .book .«first_local») (m .book .locals) name (areaOf m contextLocalsArea))) m
+
+pub record FindsLocalModel (i : ℕ) (found : Found) (m : BookMemory) : Type 0 where
+  pub reads : ReadsAreas (found ≡ foundOf (modelAtC i (areaOf m contextLocalsArea) (areaOf m constantsArea))) m
+
+-- `find_constant_index_by_include`, and whether an include gives values (2026-07)
+pub record FindsIncluded (file name : ℕ) (found : Found) (m : BookMemory) : Type 0 where
+  pub reads : ReadsAreas (found ≡ foundOf (includedC (m .book .file) (m .book .publics) file name (areaOf m booksArea) (areaOf m publicNamesArea))) m
+
+pub record GivesIncluded (tree : List ℕ) (at end : ℕ) (r : Bool) (m : BookMemory) : Type 0 where
+  pub reads : ReadsAreas (AsksMode tree at end (areaOf m booksArea) (areaOf m publicNamesArea) (m .book) r) m
+
+-- a property of the model that is not there yet, whose properties start at entry `first`
+pub record FindsProperty (first name : ℕ) (found : Found) (m : BookMemory) : Type 0 where
+  pub reads : ReadsAreas (found ≡ foundOf (findPairC 2 first (m .book .properties) (m .book .models) name (areaOf m propertiesArea))) m

@@ -1,0 +1,31 @@
+-- The promise of the compile call over one lent memory: what `Compiles` of `definition` says of twelve areas, said of the areas in the memory; and the words
+-- behind them are 0
+use Prim.Native.Nat.{ℕ}
+use mathlib.Core.Path.{_≡_}
+use mathlib.Core.Bool.{Bool}
+use mathlib.Core.List.{List, [], _∷_, _++_}
+use lib.ListN.{length, take, getD, replicate}
+use Rattle.memory.specs.Layout as layout
+use Rattle.words.specs.declared.reply.Reply as struct
+use Rattle.definition.specs.Answer.{areasOf}
+use Rattle.definition.specs.Program.{flat}
+use Rattle.definition.specs.Promise.{lengthsOf, answering, Compiles}
+use Rattle.definition.specs.Within.{Areas}
+
+-- areas 1 to 12 in a memory, by number; no area has number 0
+abbrev pub areasIn : List ℕ → List ℕ → Areas
+areasIn lengths memory = [] ∷ take 12 (layout.areasOf lengths memory)
+
+-- the words behind them: part 13
+abbrev pub leftOver : List ℕ → List ℕ → List ℕ
+leftOver lengths memory = getD (layout.areasOf lengths memory) 12 []
+
+-- the areas that the call leaves in a memory
+abbrev pub answerAreas : Bool → List ℕ → List ℕ → List ℕ → Areas
+answerAreas strict tree lengths before = areasOf (lengthsOf (areasIn lengths before)) (answering strict tree (areasIn lengths before))
+
+pub record CompilesInto (strict : Bool) (tree lengths before after : List ℕ) (r : struct.Reply) : Type 0 where
+  -- 01's three demands, of the areas in the memory: the lengths that the answer sees are theirs, cut where they pass the memory's end
+  pub compiles : Compiles strict tree (areasIn lengths before) (areasIn lengths after) r
+  -- every word: the answer's areas, one after the other, and then zeros, as many as words were left over
+  pub words : after ≡ flat (answerAreas strict tree lengths before) ++ replicate (length (leftOver lengths before)) 0

@@ -1,0 +1,78 @@
+// The book under compilation over one memory: its errors and constants, each lent its part. The entry of area i has the words from starts[i] on.
+ghost use mathlib.Core.Path.{_≡_};
+ghost use Rattle.words.specs.Record.{tokenAt};
+ghost use Rattle.building.specs.State.{begun};
+ghost use Rattle.documents.specs.Deeds.{resumedBook};
+ghost use Rattle.book_compiler.specs.RepresentsBook.{bookLaid};
+ghost use Rattle.book_compiler.specs.BookLeaves.{PushesBookError, AddsBookConstant};
+use building::function_state;
+use building::function_state::FunctionState;
+use building::pool;
+use documents::book::Book;
+use documents::book::Placed;
+
+// The state that functions, constants and errors work on, and back.
+pub(crate) fn working(book: Book) -> FunctionState
+    ensures { λ r. ⌜ r ≡ begun (book .full) (book .code) (book .constants) (book .errors) ⌝ }
+{
+    function_state::new(book.full, book.code, book.constants, book.errors)
+}
+
+pub(crate) fn resumed(book: Book, state: FunctionState) -> Book
+    ensures { λ r. ⌜ r ≡ resumedBook book state ⌝ }
+{
+    let mut b = book;
+    b.full = state.full;
+    b.code = state.code;
+    b.constants = state.constants;
+    b.errors = state.errors;
+    b
+}
+
+// An error at the token that a record is.
+pub(crate) fn push_error(
+    starts: &[usize; 15],
+    memory: &mut [u64],
+    tree: &[u64],
+    at: usize,
+    book: Book,
+    number: u64,
+) -> Book
+    ensures { λ r. ⌜ PushesBookError number (tokenAt (now (tree .entry)) at) (bookLaid book (now (starts .entry)) (now (memory .entry)))
+        (bookLaid r (now (starts .entry)) (now (memory .exit))) ⌝ }
+{
+    let start = starts[11];
+    let end = starts[12];
+    if start <= end {
+        if end <= memory.len() {
+            let before = working(book);
+            let state = bodies::fault(tree, at, &mut memory[start..end], before, number);
+            return resumed(book, state);
+        }
+    }
+    book
+}
+
+pub(crate) fn add_constant(
+    starts: &[usize; 15],
+    memory: &mut [u64],
+    book: Book,
+    kind: u64,
+    value: u64,
+) -> Placed
+    ensures { λ r. ⌜ AddsBookConstant kind value (r .place) (bookLaid book (now (starts .entry)) (now (memory .entry)))
+        (bookLaid (r .book) (now (starts .entry)) (now (memory .exit))) ⌝ }
+{
+    let start = starts[2];
+    let end = starts[3];
+    if start <= end {
+        if end <= memory.len() {
+            let before = working(book);
+            let a = pool::add_constant(&mut memory[start..end], before, kind, value);
+            let place = a.index;
+            let after = resumed(book, a.state);
+            return Placed { place, book: after };
+        }
+    }
+    Placed { place: 0, book }
+}
