@@ -1,4 +1,5 @@
 // The compilers of expressions. `start` and `count` are those of the book's context locals.
+ghost use mathlib.Core.Path.{_≡_};
 ghost use Rattle.words.specs.Codes.{numberOf};
 ghost use Rattle.words.specs.Object.{constantOf};
 ghost use Rattle.words.specs.Opcode.{PushConstant};
