@@ -66,38 +66,103 @@ impl Reply {
 /// The words of each area up to the last entry; what follows is zero.
 pub type Areas = [Vec<u64>; AREAS];
 
-/// The twelve areas as a call is lent them.
-pub type Lent<'a> = [&'a mut [u64]; AREAS];
+/// Lengths as a memory of this many words has them: one that passes its end is cut there.
+pub fn cut(lengths: &Lengths, size: usize) -> Lengths {
+    let mut left = size;
+    lengths.map(|length| {
+        let words = length.min(left);
+        left -= words;
+        words
+    })
+}
 
-/// Words before and after each area that no call may touch.
+/// The areas of a memory, and what is left over behind them.
+pub type Parts<'a> = ([&'a mut [u64]; AREAS], &'a mut [u64]);
+
+/// What a call is lent: the words of each area, and the memory in which they follow each other.
+pub struct Lent<'a> {
+    pub lengths: Lengths,
+    pub memory: &'a mut [u64],
+}
+
+impl<'a> Lent<'a> {
+    /// The same, for a call within a call.
+    pub fn again(&mut self) -> Lent<'_> {
+        Lent { lengths: self.lengths, memory: self.memory }
+    }
+
+    /// The lengths of the areas in the memory.
+    pub fn cut(&self) -> Lengths {
+        cut(&self.lengths, self.memory.len())
+    }
+
+    pub fn parts(self) -> Parts<'a> {
+        let lengths = self.cut();
+        let mut rest = self.memory;
+        let areas = lengths.map(|words| {
+            let (area, after) = std::mem::take(&mut rest).split_at_mut(words);
+            rest = after;
+            area
+        });
+        (areas, rest)
+    }
+
+    /// Writes the areas' words, and zeros everywhere else.
+    pub fn write(self, made: &Areas) -> [&'a [u64]; AREAS] {
+        self.memory.fill(0);
+        let (mut areas, _) = self.parts();
+        areas.iter_mut().zip(made).for_each(|(area, made)| area[..made.len()].copy_from_slice(made));
+        areas.map(|area| &*area)
+    }
+}
+
+/// Words before and after the memory that no call may touch.
 const BESIDE: usize = 8;
 
-/// Memory to lend: each area stands between words of its own, and all of them hold anything before a call.
+/// Memory to lend. It stands between words of its own, and all of it holds anything before a call.
 pub struct Memory {
-    words: Areas,
+    words: Vec<u64>,
+    lengths: Lengths,
     stale: u64,
 }
 
 impl Memory {
+    /// As long as the areas together.
     pub fn new(lengths: &Lengths, stale: u64) -> Memory {
-        Memory { words: std::array::from_fn(|i| vec![stale; lengths[i] + 2 * BESIDE]), stale }
+        Memory::of(lengths, lengths.iter().sum(), stale)
+    }
+
+    /// Of this many words, whatever the lengths.
+    pub fn of(lengths: &Lengths, size: usize, stale: u64) -> Memory {
+        Memory { words: vec![stale; size + 2 * BESIDE], lengths: *lengths, stale }
     }
 
     pub fn lend(&mut self) -> Lent<'_> {
-        self.words.each_mut().map(|words| {
-            let end = words.len() - BESIDE;
-            &mut words[BESIDE..end]
-        })
+        let end = self.words.len() - BESIDE;
+        Lent { lengths: self.lengths, memory: &mut self.words[BESIDE..end] }
+    }
+
+    /// All words that are lent.
+    pub fn lent(&self) -> &[u64] {
+        &self.words[BESIDE..self.words.len() - BESIDE]
     }
 
     pub fn area(&self, i: usize) -> &[u64] {
-        &self.words[i][BESIDE..self.words[i].len() - BESIDE]
+        let lengths = cut(&self.lengths, self.lent().len());
+        let start: usize = lengths[..i].iter().sum();
+        &self.lent()[start..start + lengths[i]]
     }
 
-    /// Whether the words beside the areas are as they were.
+    /// The words behind the last area.
+    pub fn left_over(&self) -> &[u64] {
+        let used: usize = cut(&self.lengths, self.lent().len()).iter().sum();
+        &self.lent()[used..]
+    }
+
+    /// Whether the words beside the memory are as they were.
     pub fn is_kept_beside(&self) -> bool {
         let kept = |words: &[u64]| words.iter().all(|&word| word == self.stale);
-        self.words.iter().all(|words| kept(&words[..BESIDE]) && kept(&words[words.len() - BESIDE..]))
+        kept(&self.words[..BESIDE]) && kept(&self.words[self.words.len() - BESIDE..])
     }
 }
 

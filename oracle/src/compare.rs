@@ -2,7 +2,7 @@
 
 use crate::alive::alive;
 use crate::areas::{
-    answer, area, capacities, Answer, Areas, Counts, Delivery, Lengths, Lent, Memory, Reply, AREAS, ENTRY_WORDS,
+    answer, area, capacities, cut, Answer, Areas, Counts, Delivery, Lengths, Lent, Memory, Reply, AREAS, ENTRY_WORDS,
     UNLIMITED,
 };
 use crate::books::has_late_include;
@@ -20,11 +20,11 @@ const MAX_CODE: usize = 4_000_000;
 
 const AREA_FULL: u64 = 9;
 
-/// A side that answers a bundle in lent areas. The model is one; the static library of this
+/// A side that answers a bundle in lent memory. The model is one; the static library of this
 /// repository is another (src/ours.rs).
 pub trait Side {
     fn name(&self) -> &str;
-    fn compile<'a>(&mut self, words: &[u64], areas: Lent<'a>) -> Answered<'a>;
+    fn compile<'a>(&mut self, words: &[u64], lent: Lent<'a>) -> Answered<'a>;
 
     /// What the typed views say of an answer.
     fn view(&self, answered: &Answered) -> Result<Viewed, String> {
@@ -39,13 +39,9 @@ impl Side for Model {
         "model"
     }
 
-    fn compile<'a>(&mut self, words: &[u64], mut areas: Lent<'a>) -> Answered<'a> {
-        let run = compile(words, &areas.each_ref().map(|area| area.len()));
-        for (area, made) in areas.iter_mut().zip(&run.areas) {
-            area[..made.len()].copy_from_slice(made);
-            area[made.len()..].fill(0);
-        }
-        Answered { reply: run.reply.into(), areas: areas.map(|area| &*area) }
+    fn compile<'a>(&mut self, words: &[u64], lent: Lent<'a>) -> Answered<'a> {
+        let run = compile(words, &lent.cut());
+        Answered { reply: run.reply.into(), areas: lent.write(&run.areas) }
     }
 }
 
@@ -252,9 +248,19 @@ fn judge_lengths(case: &Case, free: &Run, lengths: &Lengths) -> Result<u64, Stri
     Ok(if expected.row == AREA_FULL { expected.place } else { 0 })
 }
 
-/// One call of a third side in stale memory: the reply, every word of every area, what the typed views
-/// say, the words beside the areas, and the input left alone. `areas` are the words expected up to the
-/// last entry.
+/// Words left over behind the last area, in one way of lending.
+const LEFT_OVER: usize = 9;
+
+/// The ways of lending areas of these lengths, as lengths and words of memory: with words left over; with lengths that pass the
+/// memory's end, from the last area on that has a word; and exactly.
+pub fn ways(lengths: &Lengths) -> [(Lengths, usize); 3] {
+    let size = lengths.iter().sum();
+    let last = lengths.iter().rposition(|&length| length > 0).unwrap_or(0);
+    let passing = std::array::from_fn(|i| if i < last { lengths[i] } else { usize::MAX });
+    [(*lengths, size + LEFT_OVER), (passing, size), (*lengths, size)]
+}
+
+/// Calls of a third side with areas of these lengths, in each way of lending them.
 fn judge_call(
     side: &mut dyn Side,
     words: &[u64],
@@ -262,11 +268,24 @@ fn judge_call(
     reply: &Reply,
     areas: &Areas,
 ) -> Result<(), String> {
+    ways(lengths).iter().try_for_each(|(lengths, size)| judge_lent(side, words, lengths, *size, reply, areas))
+}
+
+/// One call of a third side in stale memory: the reply, every word of every area, what the typed views
+/// say, the words left over and those beside the memory, and the input left alone. `areas` are the words
+/// expected up to the last entry.
+fn judge_lent(
+    side: &mut dyn Side,
+    words: &[u64],
+    lengths: &Lengths,
+    size: usize,
+    reply: &Reply,
+    areas: &Areas,
+) -> Result<(), String> {
     let kept = words.to_vec();
-    let mut memory = Memory::new(lengths, STALE);
-    let lent = memory.lend();
-    let places = lent.each_ref().map(|area| area.as_ptr_range());
-    let answered = side.compile(words, lent);
+    let mut memory = Memory::of(lengths, size, STALE);
+    let places: [_; AREAS] = std::array::from_fn(|i| memory.area(i).as_ptr_range());
+    let answered = side.compile(words, memory.lend());
     let met: Reply = answered.reply.into();
     if met != *reply {
         return Err(format!("lengths {lengths:?}: the model {reply:?}, {} {met:?}", side.name()));
@@ -294,8 +313,11 @@ fn judge_call(
         let message = difference(("the views", &viewed), ("the model", &expected));
         return Err(format!("lengths {lengths:?}: {message}"));
     }
+    if memory.left_over().iter().any(|&word| word != 0) {
+        return Err(format!("lengths {lengths:?}: {} leaves words behind the areas", side.name()));
+    }
     if !memory.is_kept_beside() {
-        return Err(format!("lengths {lengths:?}: {} writes beside the areas", side.name()));
+        return Err(format!("lengths {lengths:?}: {} writes beside the memory", side.name()));
     }
     if kept != words {
         return Err(format!("lengths {lengths:?}: {} changes the input", side.name()));
@@ -307,6 +329,13 @@ fn judge_call(
 pub fn judge_side(side: &mut dyn Side, words: &[u64], lengths: &Lengths) -> Result<Reply, String> {
     let run = compile(words, lengths);
     judge_call(side, words, lengths, &run.reply, &run.areas)?;
+    Ok(run.reply)
+}
+
+/// The same in a memory of this many words, which may be fewer than the lengths have: they are cut at its end.
+fn judge_cut(side: &mut dyn Side, words: &[u64], lengths: &Lengths, size: usize) -> Result<Reply, String> {
+    let run = compile(words, &cut(lengths, size));
+    judge_lent(side, words, lengths, size, &run.reply, &run.areas)?;
     Ok(run.reply)
 }
 
@@ -364,13 +393,16 @@ fn judge_all(case: &Case, stream: u64, side: &mut Option<&mut dyn Side>) -> Resu
         }
         return Ok(judged);
     }
-    let mut random = Random::new(stream);
+    let (mut random, mut sizes) = (Random::new(stream), Random::new(!stream));
     let peaks = free.peaks();
     for _ in 0..3 {
         let lengths = lengths(&mut random, &peaks);
         judged.full.push(judge_lengths(case, &free, &lengths)?);
         if let Some(side) = side {
             let reply = judge_side(*side, &case.words, &lengths)?;
+            judged.calls.push((reply.row, reply.place));
+            let size = sizes.index(lengths.iter().sum::<usize>() + 1);
+            let reply = judge_cut(*side, &case.words, &lengths, size)?;
             judged.calls.push((reply.row, reply.place));
         }
     }

@@ -379,12 +379,13 @@ mod tests {
             "the writer"
         }
 
-        fn compile<'a>(&mut self, words: &[u64], areas: Lent<'a>) -> Answered<'a> {
-            let mut areas = areas;
+        fn compile<'a>(&mut self, words: &[u64], lent: Lent<'a>) -> Answered<'a> {
+            let mut lent = lent;
             if !self.spoils {
-                return Model.compile(words, areas);
+                return Model.compile(words, lent);
             }
-            let reply = Model.compile(words, areas.each_mut().map(|area| &mut **area)).reply;
+            let reply = Model.compile(words, lent.again()).reply;
+            let (areas, _) = lent.parts();
             // Position 1 for an error 11, and line 2^31 for another.
             if let Some(number @ 1..) = areas[area::ERRORS - 1].first().copied() {
                 areas[area::ERRORS - 1][1] = if number == RING { 1 } else { 1 << 63 };

@@ -170,11 +170,11 @@ impl Side for Narrow<'_> {
         self.side.name()
     }
 
-    fn compile<'a>(&mut self, words: &[u64], areas: Lent<'a>) -> Answered<'a> {
+    fn compile<'a>(&mut self, words: &[u64], lent: Lent<'a>) -> Answered<'a> {
         let Narrow { side, stack, .. } = self;
         let work = || {
             let start = now();
-            let answered = side.compile(words, areas);
+            let answered = side.compile(words, lent);
             (answered, now() - start)
         };
         let (answered, seconds) = thread::scope(|scope| {

@@ -19,14 +19,15 @@ impl Side for Library {
         "the library"
     }
 
-    fn compile<'a>(&mut self, words: &[u64], areas: Lent<'a>) -> Answered<'a> {
-        calls::compile(words, areas)
+    fn compile<'a>(&mut self, words: &[u64], lent: Lent<'a>) -> Answered<'a> {
+        calls::compile(words, lent.lengths, lent.memory)
     }
 }
 
 impl Modes for Library {
-    fn compile_in<'a>(&mut self, strict: bool, words: &[u64], areas: Lent<'a>) -> Answered<'a> {
-        calls::compile_in(if strict { Mode::Strict } else { Mode::Present }, words, areas)
+    fn compile_in<'a>(&mut self, strict: bool, words: &[u64], lent: Lent<'a>) -> Answered<'a> {
+        let mode = if strict { Mode::Strict } else { Mode::Present };
+        calls::compile_in(mode, words, lent.lengths, lent.memory)
     }
 }
 

@@ -3,6 +3,7 @@
 
 use crate::areas::{capacities, Areas, Lengths, Lent, Memory, Reply, AREAS, ENTRY_WORDS, UNLIMITED};
 use crate::books::{needed, order};
+use crate::compare::ways;
 use crate::generate::{case, Sizes};
 use crate::model::{compile, compile_by, Rules, Run};
 use crate::random::Random;
@@ -19,7 +20,7 @@ const MOST_CODE: usize = 200_000;
 
 /// A side that compiles in a mode.
 pub trait Modes {
-    fn compile_in<'a>(&mut self, strict: bool, words: &[u64], areas: Lent<'a>) -> Answered<'a>;
+    fn compile_in<'a>(&mut self, strict: bool, words: &[u64], lent: Lent<'a>) -> Answered<'a>;
 }
 
 /// What was seen.
@@ -125,9 +126,13 @@ fn must(words: &[u64], free: &Run, tight: &Run, lengths: &Lengths) -> (u64, u64)
     foretold(row(free), row(tight), &order, found, full)
 }
 
-/// A call of the side in a mode, in stale memory: reply and every word.
+/// Calls of the side in a mode, in stale memory, in each way of lending: reply and every word.
 fn judge(side: &mut dyn Modes, strict: bool, words: &[u64], lengths: &Lengths, run: &Run) -> Result<(), String> {
-    let mut memory = Memory::new(lengths, STALE);
+    ways(lengths).iter().try_for_each(|(lengths, size)| judge_lent(side, strict, words, lengths, *size, run))
+}
+
+fn judge_lent(side: &mut dyn Modes, strict: bool, words: &[u64], lengths: &Lengths, size: usize, run: &Run) -> Result<(), String> {
+    let mut memory = Memory::of(lengths, size, STALE);
     let answered = side.compile_in(strict, words, memory.lend());
     let met: Reply = answered.reply.into();
     if met != run.reply {
@@ -139,8 +144,11 @@ fn judge(side: &mut dyn Modes, strict: bool, words: &[u64], lengths: &Lengths, r
             return Err(format!("strict {strict}, lengths {lengths:?}: area {} differs", i + 1));
         }
     }
+    if memory.left_over().iter().any(|&word| word != 0) {
+        return Err(format!("strict {strict}, lengths {lengths:?}: words are left behind the areas"));
+    }
     if !memory.is_kept_beside() {
-        return Err(format!("strict {strict}, lengths {lengths:?}: words beside the areas are written"));
+        return Err(format!("strict {strict}, lengths {lengths:?}: words beside the memory are written"));
     }
     Ok(())
 }
@@ -237,8 +245,8 @@ mod tests {
     struct Wrong(Option<Fault>);
 
     impl Modes for Wrong {
-        fn compile_in<'a>(&mut self, strict: bool, words: &[u64], mut areas: Lent<'a>) -> Answered<'a> {
-            let lengths = areas.each_ref().map(|area| area.len());
+        fn compile_in<'a>(&mut self, strict: bool, words: &[u64], lent: Lent<'a>) -> Answered<'a> {
+            let lengths = lent.cut();
             let strict = match self.0 {
                 Some(Fault::ModeUnread) => false,
                 Some(Fault::AlwaysStrict) => true,
@@ -257,6 +265,8 @@ mod tests {
                     _ => {}
                 }
             }
+            let (mut areas, rest) = lent.parts();
+            rest.fill(0);
             for (i, (area, made)) in areas.iter_mut().zip(&run.areas).enumerate() {
                 area[..made.len()].copy_from_slice(made);
                 let kept = usize::from(stale && i == 6 && !area.is_empty());

@@ -2,14 +2,14 @@
 //! comes back is read, and a call or a view that is wrong in one place is seen.
 
 use clover_back_end::Reply;
-use oracle::areas::{Answer, Delivery, ErrorAnswer, Lent, AREAS};
+use oracle::areas::{Answer, Delivery, ErrorAnswer, Lent, Parts, AREAS};
 use oracle::compare::{compare, judge_side, Model, Plan, Side};
 use oracle::generate::Sizes;
 use oracle::hostile::Narrow;
 use oracle::pieces::example;
 use oracle::views::{view, Answered, Viewed};
 
-type SpoilCall = fn(&mut Reply, &mut Lent);
+type SpoilCall = fn(&mut Reply, &mut Parts);
 type SpoilView = fn(&mut Viewed);
 
 /// The model's call with a fault, or with one in what the views say.
@@ -25,10 +25,11 @@ impl Side for StandIn {
         "a stand-in"
     }
 
-    fn compile<'a>(&mut self, words: &[u64], mut areas: Lent<'a>) -> Answered<'a> {
-        let mut reply = Model.compile(words, areas.each_mut().map(|area| &mut **area)).reply;
-        (self.call)(&mut reply, &mut areas);
-        Answered { reply, areas: areas.map(|area| &*area) }
+    fn compile<'a>(&mut self, words: &[u64], mut lent: Lent<'a>) -> Answered<'a> {
+        let mut reply = Model.compile(words, lent.again()).reply;
+        let mut parts = lent.parts();
+        (self.call)(&mut reply, &mut parts);
+        Answered { reply, areas: parts.0.map(|area| &*area) }
     }
 
     fn view(&self, answered: &Answered) -> Result<Viewed, String> {
@@ -55,24 +56,30 @@ fn a_right_call_is_alike() {
 
 #[test]
 fn wrong_calls_are_seen() {
-    let faults: [SpoilCall; 8] = [
-        |_, areas| {
+    let faults: [SpoilCall; 9] = [
+        |_, (areas, _)| {
             if let Some(last) = areas[11].last_mut() {
                 *last ^= 1;
             }
         },
-        // A word beside an area; the oracle's memory has some there.
-        |_, areas| unsafe { *areas[4].as_mut_ptr().add(areas[4].len()) = 0 },
+        // A word beside the memory; the oracle's has some there.
+        |_, (_, rest)| unsafe { *rest.as_mut_ptr().add(rest.len()) = 0 },
+        // A word behind the areas.
+        |_, (_, rest)| {
+            if let Some(last) = rest.last_mut() {
+                *last = 1;
+            }
+        },
         |reply, _| reply.totals.entry_point ^= u64::from(reply.number == 0),
         |reply, _| reply.place ^= u64::from(reply.number == 9),
         |reply, _| reply.place ^= u64::from(reply.number == 0),
         |reply, _| reply.totals.errors ^= u64::from(reply.number != 0),
-        |_, areas| {
+        |_, (areas, _)| {
             if let (true, Some(first)) = (!areas[8].is_empty(), areas[9].first_mut()) {
                 *first = 1;
             }
         },
-        |_, areas| areas.swap(8, 9),
+        |_, (areas, _)| areas.swap(8, 9),
     ];
     for call in faults {
         assert!(differences(StandIn { call, ..RIGHT }, 33, 60, Sizes::Mixed) > 0);

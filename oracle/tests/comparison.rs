@@ -130,11 +130,12 @@ impl Side for Wrong {
     }
 
     fn compile<'a>(&mut self, words: &[u64], mut lent: areas::Lent<'a>) -> Answered<'a> {
-        let reply = Model.compile(words, lent.each_mut().map(|area| &mut **area)).reply;
-        if let Some(last) = lent[0].last_mut() {
+        let reply = Model.compile(words, lent.again()).reply;
+        let (areas, _) = lent.parts();
+        if let Some(last) = areas[0].last_mut() {
             *last ^= 1;
         }
-        Answered { reply, areas: lent.map(|area| &*area) }
+        Answered { reply, areas: areas.map(|area| &*area) }
     }
 }
 

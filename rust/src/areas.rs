@@ -5,7 +5,6 @@ use crate::numbered::numbered;
 use crate::program::Program;
 use crate::records::RECORD_WORDS;
 use crate::reply::{Answer, Reply};
-use std::ops::Range;
 
 /// How many areas there are.
 pub const AREAS: usize = 12;
@@ -60,6 +59,17 @@ impl Area {
     pub(crate) fn each<T>(mut each: impl FnMut(Area) -> T) -> [T; AREAS] {
         std::array::from_fn(|at| each(Area::ALL[at]))
     }
+}
+
+/// The areas in a memory, by how many words each has. They follow each other in the order of their numbers; a length that passes
+/// the memory's end is cut there, and what is left over behind the last belongs to none.
+pub fn areas_in(lengths: [usize; AREAS], memory: &[u64]) -> [&[u64]; AREAS] {
+    let mut rest = memory;
+    lengths.map(|length| {
+        let (area, after) = rest.split_at(length.min(rest.len()));
+        rest = after;
+        area
+    })
 }
 
 /// Memory to lend to a compile call, all areas in one piece, and the program that the last call left
@@ -151,35 +161,29 @@ impl Areas {
         self.memory.is_empty()
     }
 
-    fn range(&self, area: Area) -> Range<usize> {
-        let before: usize = Area::ALL[..area.index()].iter().map(|&area| self.words_of(area)).sum();
-        before..before + self.words_of(area)
-    }
-
     fn words_of(&self, area: Area) -> usize {
         self.entries(area) * area.entry_words()
     }
 
     /// An area whole, as the last call left it.
     pub fn words(&self, area: Area) -> &[u64] {
-        &self.memory[self.range(area)]
+        areas_in(self.lengths(), &self.memory)[area.index()]
+    }
+
+    /// How many words each area has.
+    pub fn lengths(&self) -> [usize; AREAS] {
+        Area::each(|area| self.words_of(area))
     }
 
     /// All areas in one memory, one after the other by number, and the words of each.
     pub fn memory(&self) -> (&[u64], [usize; AREAS]) {
-        (&self.memory, Area::each(|area| self.words_of(area)))
+        (&self.memory, self.lengths())
     }
 
-    /// The areas as slices, in the order of their numbers, for a call that is made by hand.
-    pub fn lend(&mut self) -> [&mut [u64]; AREAS] {
+    /// The memory with all areas, for a call that is made by hand with their [lengths](Areas::lengths).
+    pub fn lend(&mut self) -> &mut [u64] {
         self.reply = None;
-        let lengths = Area::each(|area| self.words_of(area));
-        let mut rest = self.memory.as_mut_slice();
-        lengths.map(|length| {
-            let (area, after) = std::mem::take(&mut rest).split_at_mut(length);
-            rest = after;
-            area
-        })
+        &mut self.memory
     }
 
     #[cfg(feature = "link")]
@@ -189,7 +193,7 @@ impl Areas {
 
     /// The last call's reply with the areas; none since they were made, grown or lent by hand.
     pub fn answer(&self) -> Option<Answer<'_>> {
-        Some(Answer { reply: self.reply?, areas: Area::each(|area| self.words(area)) })
+        Some(Answer { reply: self.reply?, areas: areas_in(self.lengths(), &self.memory) })
     }
 
     /// The program that the last call delivered; none after a refusal.
@@ -224,13 +228,27 @@ mod tests {
     #[test]
     fn areas_lie_one_after_the_other() {
         let mut areas = Areas::with_entries(std::array::from_fn(|at| at + 1));
-        for (number, area) in (1..).zip(areas.lend()) {
-            area.fill(number);
-        }
+        let mut memory = areas.lengths().into_iter().zip(1..).flat_map(|(words, number)| vec![number; words]);
+        areas.lend().fill_with(|| memory.next().expect("as many words"));
+        assert_eq!(memory.next(), None);
         for &area in Area::ALL {
             let words = areas.words(area);
             assert_eq!(words.len(), area.number() as usize * area.entry_words());
             assert!(words.iter().all(|&word| word == area.number()));
         }
+    }
+
+    #[test]
+    fn lengths_are_cut_at_the_end() {
+        let memory = [1, 2, 3, 4, 5];
+        let mut lengths = [0; AREAS];
+        assert!(areas_in(lengths, &memory).iter().all(|area| area.is_empty()));
+        (lengths[1], lengths[4]) = (2, 2);
+        let areas = areas_in(lengths, &memory);
+        assert_eq!((areas[1], areas[4], areas[11]), (&[1, 2][..], &[3, 4][..], &[][..]));
+        (lengths[4], lengths[5]) = (usize::MAX, 1);
+        let areas = areas_in(lengths, &memory);
+        assert_eq!((areas[1], areas[4], areas[5]), (&[1, 2][..], &[3, 4, 5][..], &[][..]));
+        assert!(areas_in([usize::MAX; AREAS], &[]).iter().all(|area| area.is_empty()));
     }
 }

@@ -5,23 +5,21 @@
 //! ```
 //! use clover_back_end::{calls, AREAS};
 //!
-//! // One piece of memory, a twelfth of it for each area; file 2 is empty.
-//! let mut memory = vec![0u64; 32 * AREAS];
-//! let mut parts = memory.chunks_exact_mut(32);
-//! let areas = std::array::from_fn(|_| parts.next().expect("twelve parts"));
-//! let answer = calls::compile(&[1, 1, 0, 2], areas);
+//! // One memory, 32 words of it for each area; file 2 is empty.
+//! let mut memory = vec![0; 32 * AREAS];
+//! let answer = calls::compile(&[1, 1, 0, 2], [32; AREAS], &mut memory);
 //! assert_eq!((answer.reply.number, answer.reply.totals.books), (0, 1));
 //! assert_eq!(answer.program().expect("no refusal").books().count(), 1);
 //! ```
 
-use crate::areas::AREAS;
+use crate::areas::{areas_in, AREAS};
 use crate::mode::Mode;
 use crate::program::Totals;
 use crate::reply::{Answer, Checked, Converted, Reply, Tabled, Version};
 use std::sync::Once;
 
 /// The layout that this crate was written for. The first call holds the library's to it.
-pub const LAYOUT: u64 = 3;
+pub const LAYOUT: u64 = 4;
 
 extern "C" {
     fn clover_version() -> Version;
@@ -49,18 +47,8 @@ extern "C" {
     fn clover_compile(
         tree: *const u64, tree_words: usize,
         mode: u64,
-        code: *mut u64, code_words: usize,
-        constants: *mut u64, constants_words: usize,
-        functions: *mut u64, functions_words: usize,
-        models: *mut u64, models_words: usize,
-        properties: *mut u64, properties_words: usize,
-        methods: *mut u64, methods_words: usize,
-        locals: *mut u64, locals_words: usize,
-        publics: *mut u64, publics_words: usize,
-        names: *mut u64, names_words: usize,
-        breaks: *mut u64, breaks_words: usize,
-        errors: *mut u64, errors_words: usize,
-        books: *mut u64, books_words: usize,
+        lengths: Lengths,
+        memory: *mut u64, memory_words: usize,
     ) -> Reply;
 }
 
@@ -152,25 +140,18 @@ pub fn errors_in_words(errors: &[u64], file: u64, table: &[u64], bytes: &[u8], o
     reply
 }
 
-/// Compiles a bundle into areas in the order of their numbers, in the present mode. A tail shorter than an entry is zeroed.
-pub fn compile<'a>(tree: &[u64], areas: [&'a mut [u64]; AREAS]) -> Answer<'a> {
-    compile_in(Mode::Present, tree, areas)
+/// Compiles a bundle into the areas of one memory, in the present mode. The areas follow each other in the order of their
+/// numbers, so many words each; a length that passes the memory's end is cut there ([`areas_in`]). Every word of the memory is
+/// written: a tail shorter than an entry and what is left over behind the last area are zeroed.
+pub fn compile<'a>(tree: &[u64], lengths: [usize; AREAS], memory: &'a mut [u64]) -> Answer<'a> {
+    compile_in(Mode::Present, tree, lengths, memory)
 }
 
 /// The same in a mode.
-pub fn compile_in<'a>(mode: Mode, tree: &[u64], areas: [&'a mut [u64]; AREAS]) -> Answer<'a> {
+pub fn compile_in<'a>(mode: Mode, tree: &[u64], lengths: [usize; AREAS], memory: &'a mut [u64]) -> Answer<'a> {
     hold_to_layout();
-    let mut areas = areas;
-    let lent = areas.each_mut().map(|words| (words.as_mut_ptr(), words.len()));
-    // The slices outlive the call, and no two of them overlap: each is borrowed for itself.
-    #[rustfmt::skip]
-    let reply = unsafe {
-        clover_compile(
-            tree.as_ptr(), tree.len(), mode.word(),
-            lent[0].0, lent[0].1, lent[1].0, lent[1].1, lent[2].0, lent[2].1, lent[3].0, lent[3].1,
-            lent[4].0, lent[4].1, lent[5].0, lent[5].1, lent[6].0, lent[6].1, lent[7].0, lent[7].1,
-            lent[8].0, lent[8].1, lent[9].0, lent[9].1, lent[10].0, lent[10].1, lent[11].0, lent[11].1,
-        )
-    };
-    Answer { reply, areas: areas.map(|words| &*words) }
+    let (words, size) = (Lengths(lengths), memory.len());
+    // Both slices outlive the call, and the memory is another than the tree.
+    let reply = unsafe { clover_compile(tree.as_ptr(), tree.len(), mode.word(), words, memory.as_mut_ptr(), size) };
+    Answer { reply, areas: areas_in(lengths, memory) }
 }

@@ -113,7 +113,8 @@ impl Areas {
 
     /// The same in a mode. In strict mode a refusal by row 11 has the include's place and its first name that is not public.
     pub fn compile_in(&mut self, mode: Mode, tree: &[u64]) -> Result<(), Refusal> {
-        let answer = calls::compile_in(mode, tree, self.lend());
+        let lengths = self.lengths();
+        let answer = calls::compile_in(mode, tree, lengths, self.lend());
         let (reply, refusal) = (answer.reply, answer.program().err());
         self.keep(reply);
         refusal.map_or(Ok(()), |refusal| Err(with_reason(refusal, tree)))

@@ -2,7 +2,7 @@
 //! static library; this crate wraps its calls and gives types to what they write.
 //!
 //! A bundle of books goes in as records, four words each ([`records`] writes them); a program comes
-//! out in memory that the caller lends ([`Areas`], or slices of its own through `calls`), read through
+//! out in memory that the caller lends ([`Areas`], or a slice of its own through `calls`), read through
 //! [`Program`]. Texts are numbers throughout; a [`Texts`] knows what they say.
 //!
 //! ```
@@ -65,7 +65,7 @@ mod standing;
 mod table;
 mod texts;
 
-pub use areas::{Area, Areas, AREAS};
+pub use areas::{areas_in, Area, Areas, AREAS};
 pub use column_file::{LineFault, LINE_BYTES};
 #[cfg(feature = "link")]
 pub use compiling::{

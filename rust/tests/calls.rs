@@ -18,25 +18,41 @@ fn seven() -> Records {
     tree
 }
 
-/// One piece of memory with a word between the areas, which are of so many words each.
-fn cut(memory: &mut [u64], words: usize) -> [&mut [u64]; AREAS] {
-    let mut parts = memory.chunks_exact_mut(words + 1);
-    std::array::from_fn(|_| &mut parts.next().expect("a part for each")[1..])
+/// Words before and behind the memory that no call may touch.
+const BESIDE: usize = 8;
+
+/// A call in stale memory of so many words, with words beside it that must stay; answers the reply and the memory.
+fn called(lengths: [usize; AREAS], size: usize) -> (Reply, Vec<u64>) {
+    let mut all = vec![STALE; size + 2 * BESIDE];
+    let answer = calls::compile(seven().words(), lengths, &mut all[BESIDE..BESIDE + size]);
+    assert!(answer.areas.iter().zip(lengths).all(|(area, length)| area.len() <= length));
+    let reply = answer.reply;
+    assert!(all[..BESIDE].iter().chain(&all[BESIDE + size..]).all(|&word| word == STALE));
+    (reply, all[BESIDE..BESIDE + size].to_vec())
+}
+
+/// What `seven` compiles to.
+fn delivered() -> Reply {
+    let totals = Totals { code: 2, constants: 5, functions: 1, context_locals: 1, books: 1, ..Totals::default() };
+    Reply { number: 0, place: 0, totals }
+}
+
+fn full(area: Area) -> Reply {
+    Reply { number: 9, place: area.number(), totals: Totals::default() }
 }
 
 #[test]
 fn the_library_is_of_this_layout() {
     let linked = calls::version();
-    assert_eq!((linked.version, linked.layout), (3, calls::LAYOUT));
+    assert_eq!((linked.version, linked.layout), (4, calls::LAYOUT));
 }
 
 #[test]
-fn areas_may_be_cut_from_one_piece() {
+fn one_memory_has_all_areas() {
     let words = 41;
-    let mut memory = vec![STALE; AREAS * (words + 1)];
-    let answer = calls::compile(seven().words(), cut(&mut memory, words));
-    let totals = Totals { code: 2, constants: 5, functions: 1, context_locals: 1, books: 1, ..Totals::default() };
-    assert_eq!(answer.reply, Reply { number: 0, place: 0, totals });
+    let mut memory = vec![STALE; AREAS * words];
+    let answer = calls::compile(seven().words(), [words; AREAS], &mut memory);
+    assert_eq!(answer.reply, delivered());
     let mut areas = Areas::with_entries([41; AREAS]);
     let own = compile(seven().words(), &mut areas).expect("no refusal");
     let program = answer.program().expect("no refusal");
@@ -47,23 +63,46 @@ fn areas_may_be_cut_from_one_piece() {
         assert_eq!(lent.len(), words);
         assert!(lent[program.words(area).len()..].iter().all(|&word| word == 0), "{area}");
     }
-    assert!(memory.chunks_exact(words + 1).all(|part| part[0] == STALE));
+}
+
+#[test]
+fn words_left_over_are_zeroed() {
+    let (reply, exact) = called([41; AREAS], 41 * AREAS);
+    assert_eq!(reply, delivered());
+    let (reply, longer) = called([41; AREAS], 41 * AREAS + 5);
+    assert_eq!(reply, delivered());
+    assert_eq!((&longer[..exact.len()], &longer[exact.len()..]), (&exact[..], &[0; 5][..]));
+}
+
+#[test]
+fn lengths_that_pass_the_end_are_cut() {
+    // The last area has one word, whatever its length says.
+    let mut lengths = [41; AREAS];
+    lengths[AREAS - 1] = usize::MAX;
+    assert_eq!(called(lengths, 41 * 11 + 1).0, delivered());
+    assert_eq!(called(lengths, 41 * 11).0, full(Area::Books));
+    // All areas behind the constants are empty, and the books are listed first.
+    assert_eq!(called([41; AREAS], 41 + 13), (full(Area::Books), vec![0; 41 + 13]));
+    // Room for two constants, of three that any program has.
+    assert_eq!(called([41; AREAS], 41 + 8), (full(Area::Constants), vec![0; 41 + 8]));
+    assert_eq!(called([usize::MAX; AREAS], 1000), (full(Area::Constants), vec![0; 1000]));
 }
 
 #[test]
 fn a_refusal_leaves_zeros() {
-    let mut memory = vec![STALE; AREAS * 8];
-    let answer = calls::compile(seven().words(), cut(&mut memory, 7));
-    assert_eq!(answer.reply, Reply { number: 9, place: 2, totals: Totals::default() });
+    let mut memory = vec![STALE; AREAS * 7];
+    let answer = calls::compile(seven().words(), [7; AREAS], &mut memory);
+    assert_eq!(answer.reply, full(Area::Constants));
     let refusal = answer.program().expect_err("five constants need 15 words");
     assert_eq!(refusal, Refusal::AreaFull { area: Area::Constants });
-    assert!(answer.areas.iter().all(|area| area.iter().all(|&word| word == 0)));
+    assert!(memory.iter().all(|&word| word == 0));
 }
 
 #[test]
 fn areas_of_no_length() {
-    let answer = calls::compile(seven().words(), std::array::from_fn(|_| &mut [][..]));
-    assert_eq!((answer.reply.number, answer.reply.place), (9, 2));
+    assert_eq!(called([0; AREAS], 0).0, full(Area::Constants));
+    assert_eq!(called([0; AREAS], 100), (full(Area::Constants), vec![0; 100]));
+    assert_eq!(called([usize::MAX; AREAS], 0).0, full(Area::Constants));
 }
 
 #[test]

@@ -1,9 +1,10 @@
 // The compile call on the oracle's stored cases, `oracle/sample/compile-N.txt`, which `tools/book-cases` puts into `stdin`. A case is a line with the
-// bytes of its name and of its numbers, then both. Areas of the stored lengths are lent full of stale words; the reply and every word of the twelve
-// areas must be as stored, zeros after a list's end. A line with the reply is written for each case, below it one for each part that differs, and the counts
-// at the end.
+// bytes of its name and of its numbers, then both. A memory of stale words is lent; the reply and every word of the memory must be as stored: the areas one
+// after the other, zeros after a list's end and behind the last area. A line with the reply is written for each case, below it one for each part that
+// differs, and the counts at the end.
 ghost use Prim.Native.Nat.{_≤_};
 ghost use lib.ListN.{length};
+use book_compiler::compile;
 use case_numbers::parse;
 use libc::STDIN_FILENO;
 use libc::STDOUT_FILENO;
@@ -22,7 +23,9 @@ const MOST_NAME: u64 = 256;
 
 const MOST_TEXT: u64 = 8192;
 
-const MOST_ROOM: u64 = 512;
+const MOST_MEMORY: u64 = 6144;
+
+const AREAS: u64 = 12;
 
 const REPLY_WORDS: u64 = 16;
 
@@ -86,7 +89,7 @@ fn say_difference(part: u64, i: usize, is: u64, was: u64) {
     say(b"\n");
 }
 
-// The words of a part, 0 the reply and else an area, are the n that stand after a place, and then zeros.
+// The words of a part, 0 the reply, 13 what is left over and else an area, are the n that stand after a place, and then zeros.
 fn same(part: u64, words: &[u64], numbers: &[u64], at: usize, n: u64) -> bool {
     if (words.len() as u64) < n {
         say_difference(part, words.len(), 0, n);
@@ -102,11 +105,6 @@ fn same(part: u64, words: &[u64], numbers: &[u64], at: usize, n: u64) -> bool {
         i += 1;
     }
     true
-}
-
-// An area is the list at a place.
-fn same_area(area: u64, words: &[u64], numbers: &[u64], at: usize) -> bool {
-    same(area, words, numbers, at, number_at(numbers, at))
 }
 
 // The reply is the words after a place.
@@ -133,69 +131,43 @@ fn same_reply(reply: Reply, numbers: &[u64], at: usize) -> bool {
     same(0, &words, numbers, at, REPLY_WORDS)
 }
 
-// Areas 1 to 6 are the lists from a place on.
-fn same_first(
-    code: &[u64],
-    constants: &[u64],
-    functions: &[u64],
-    models: &[u64],
-    properties: &[u64],
-    methods: &[u64],
-    numbers: &[u64],
-    at: usize,
-) -> bool {
-    let at2 = after(numbers, at);
-    let at3 = after(numbers, at2);
-    let at4 = after(numbers, at3);
-    let at5 = after(numbers, at4);
-    let at6 = after(numbers, at5);
-    let is1 = same_area(1, code, numbers, at);
-    let is2 = same_area(2, constants, numbers, at2);
-    let is3 = same_area(3, functions, numbers, at3);
-    let is4 = same_area(4, models, numbers, at4);
-    let is5 = same_area(5, properties, numbers, at5);
-    let is6 = same_area(6, methods, numbers, at6);
-    is1 && is2 && is3 && is4 && is5 && is6
+// Where a part of so many words ends that starts in a memory of so many: a length that passes the memory's end is cut there.
+fn end_of(start: usize, words: usize, size: usize) -> usize
+    requires { ⌜ start ≤ size ⌝ }
+    ensures { λ r. ⌜ (start ≤ r) × (r ≤ size) ⌝ }
+{
+    if words < size - start {
+        return start + words;
+    }
+    size
 }
 
-// Areas 7 to 12 are the lists from a place on, and no number stands after them.
-fn same_last(
-    locals: &[u64],
-    publics: &[u64],
-    names: &[u64],
-    breaks: &[u64],
-    errors: &[u64],
-    books: &[u64],
-    numbers: &[u64],
-    at: usize,
-) -> bool {
-    let at2 = after(numbers, at);
-    let at3 = after(numbers, at2);
-    let at4 = after(numbers, at3);
-    let at5 = after(numbers, at4);
-    let at6 = after(numbers, at5);
-    let end = after(numbers, at6);
-    let is1 = same_area(7, locals, numbers, at);
-    let is2 = same_area(8, publics, numbers, at2);
-    let is3 = same_area(9, names, numbers, at3);
-    let is4 = same_area(10, breaks, numbers, at4);
-    let is5 = same_area(11, errors, numbers, at5);
-    let is6 = same_area(12, books, numbers, at6);
-    if end != numbers.len() {
+// The areas of these lengths, which stand from a place on, follow each other in the memory and are the lists from another place on; what is left over is
+// zeros, and no number stands after the lists.
+fn same_areas(memory: &[u64], numbers: &[u64], lengths: usize, lists: usize) -> bool
+    requires { ⌜ lengths ≤ 1024 ⌝ }
+{
+    let size = memory.len();
+    let mut fine = true;
+    let mut area: u64 = 0;
+    let mut start: usize = 0;
+    let mut list = lists;
+    while area < AREAS {
+        let words = number_at(numbers, lengths + area as usize) as usize;
+        let end = end_of(start, words, size);
+        let n = number_at(numbers, list);
+        area += 1;
+        let is = same(area, &memory[start..end], numbers, list, n);
+        fine = fine && is;
+        start = end;
+        list = after(numbers, list);
+    }
+    let rest = same(area + 1, &memory[start..], numbers, 0, 0);
+    if list != numbers.len() {
         say(b"  the numbers end elsewhere\n");
         return false;
     }
-    is1 && is2 && is3 && is4 && is5 && is6
-}
-
-// The place after six lists.
-fn after_six(numbers: &[u64], at: usize) -> usize {
-    let at2 = after(numbers, at);
-    let at3 = after(numbers, at2);
-    let at4 = after(numbers, at3);
-    let at5 = after(numbers, at4);
-    let at6 = after(numbers, at5);
-    after(numbers, at6)
+    fine && rest
 }
 
 fn say_reply(reply: Reply) {
@@ -206,182 +178,47 @@ fn say_reply(reply: Reply) {
     say(b"\n");
 }
 
-// The reply is the words after a place, the areas the lists from another on.
-fn compare(
-    reply: Reply,
-    code: &[u64],
-    constants: &[u64],
-    functions: &[u64],
-    models: &[u64],
-    properties: &[u64],
-    methods: &[u64],
-    locals: &[u64],
-    publics: &[u64],
-    names: &[u64],
-    breaks: &[u64],
-    errors: &[u64],
-    books: &[u64],
-    numbers: &[u64],
-    last: usize,
-    lists: usize,
-) -> bool {
-    let seventh = after_six(numbers, lists);
-    say_reply(reply);
-    let is_reply = same_reply(reply, numbers, last);
-    let are_first = same_first(
-        code,
-        constants,
-        functions,
-        models,
-        properties,
-        methods,
-        numbers,
-        lists,
-    );
-    let are_last = same_last(
-        locals,
-        publics,
-        names,
-        breaks,
-        errors,
-        books,
-        numbers,
-        seventh,
-    );
-    is_reply && are_first && are_last
-}
-
-// The compile call, and what it must leave: the reply after the last length, and the lists.
-fn judge(
-    tree: &[u64],
-    strict: bool,
-    code: &mut [u64],
-    constants: &mut [u64],
-    functions: &mut [u64],
-    models: &mut [u64],
-    properties: &mut [u64],
-    methods: &mut [u64],
-    locals: &mut [u64],
-    publics: &mut [u64],
-    names: &mut [u64],
-    breaks: &mut [u64],
-    errors: &mut [u64],
-    books: &mut [u64],
-    numbers: &[u64],
-    last: usize,
-    lists: usize,
-) -> bool {
-    let reply = books::compile(
-        tree,
-        strict,
-        code,
-        constants,
-        functions,
-        models,
-        properties,
-        methods,
-        locals,
-        publics,
-        names,
-        breaks,
-        errors,
-        books,
-    );
-    compare(
-        reply,
-        code,
-        constants,
-        functions,
-        models,
-        properties,
-        methods,
-        locals,
-        publics,
-        names,
-        breaks,
-        errors,
-        books,
-        numbers,
-        last,
-        lists,
-    )
-}
-
-// The room of an area, from the place of its length.
-fn room(numbers: &[u64], at: usize) -> usize
-    ensures { λ r. ⌜ r ≤ 512 ⌝ }
-{
-    let n = number_at(numbers, at);
-    if n <= MOST_ROOM {
-        return n as usize;
-    }
-    512
-}
-
-// Lends the areas of a case, whose lengths stand from a place on.
-fn lend(tree: &[u64], strict: bool, numbers: &[u64], at: usize) -> bool
+// The lengths of the areas, from a place on.
+fn lengths_at(numbers: &[u64], at: usize) -> [usize; 12]
     requires { ⌜ at ≤ 1024 ⌝ }
 {
-    let last = at + 11;
-    let lists = at + 28;
-    let mut code = [7777777; 512];
-    let mut constants = [7777777; 512];
-    let mut functions = [7777777; 512];
-    let mut models = [7777777; 512];
-    let mut properties = [7777777; 512];
-    let mut methods = [7777777; 512];
-    let mut locals = [7777777; 512];
-    let mut publics = [7777777; 512];
-    let mut names = [7777777; 512];
-    let mut breaks = [7777777; 512];
-    let mut errors = [7777777; 512];
-    let mut books = [7777777; 512];
-    let n1 = room(numbers, at);
-    let n2 = room(numbers, at + 1);
-    let n3 = room(numbers, at + 2);
-    let n4 = room(numbers, at + 3);
-    let n5 = room(numbers, at + 4);
-    let n6 = room(numbers, at + 5);
-    let n7 = room(numbers, at + 6);
-    let n8 = room(numbers, at + 7);
-    let n9 = room(numbers, at + 8);
-    let n10 = room(numbers, at + 9);
-    let n11 = room(numbers, at + 10);
-    let n12 = room(numbers, at + 11);
-    judge(
-        tree,
-        strict,
-        &mut code[0..n1],
-        &mut constants[0..n2],
-        &mut functions[0..n3],
-        &mut models[0..n4],
-        &mut properties[0..n5],
-        &mut methods[0..n6],
-        &mut locals[0..n7],
-        &mut publics[0..n8],
-        &mut names[0..n9],
-        &mut breaks[0..n10],
-        &mut errors[0..n11],
-        &mut books[0..n12],
-        numbers,
-        last,
-        lists,
-    )
+    [
+        number_at(numbers, at) as usize,
+        number_at(numbers, at + 1) as usize,
+        number_at(numbers, at + 2) as usize,
+        number_at(numbers, at + 3) as usize,
+        number_at(numbers, at + 4) as usize,
+        number_at(numbers, at + 5) as usize,
+        number_at(numbers, at + 6) as usize,
+        number_at(numbers, at + 7) as usize,
+        number_at(numbers, at + 8) as usize,
+        number_at(numbers, at + 9) as usize,
+        number_at(numbers, at + 10) as usize,
+        number_at(numbers, at + 11) as usize,
+    ]
 }
 
-// No length is more than there is room for.
-fn fits(numbers: &[u64], at: usize) -> bool {
-    let mut i: usize = 0;
-    while i < 12 {
-        if stored(numbers, at, 12, i) > MOST_ROOM {
-            return false;
-        }
-        i += 1;
-    }
-    true
+// The compile call with lengths that stand from a place on, and what it must leave: the reply after the last length, and the lists.
+fn judge(tree: &[u64], strict: bool, memory: &mut [u64], numbers: &[u64], at: usize) -> bool
+    requires { ⌜ at ≤ 1024 ⌝ }
+{
+    let lengths = lengths_at(numbers, at);
+    let reply = compile(tree, strict, lengths, memory);
+    say_reply(reply);
+    let is_reply = same_reply(reply, numbers, at + 11);
+    let are_areas = same_areas(memory, numbers, at, at + 28);
+    is_reply && are_areas
 }
 
-fn case_in(strict: bool, numbers: &[u64]) -> u64 {
+// Lends a memory of so many words.
+fn lend(tree: &[u64], strict: bool, size: usize, numbers: &[u64], at: usize) -> bool
+    requires { ⌜ (at ≤ 1024) × (size ≤ 6144) ⌝ }
+{
+    let mut memory = [7777777; 6144];
+    judge(tree, strict, &mut memory[0..size], numbers, at)
+}
+
+fn case_in(strict: bool, size: u64, numbers: &[u64]) -> u64 {
     let end = after(numbers, 0);
     if end > MOST_NUMBERS {
         say(b"  no case\n");
@@ -391,25 +228,26 @@ fn case_in(strict: bool, numbers: &[u64]) -> u64 {
         say(b"  no case\n");
         return DIFFERS;
     }
-    if !fits(numbers, end - 1) {
+    if size > MOST_MEMORY {
         say(b"  no room\n");
         return DIFFERS;
     }
-    if lend(&numbers[1..end], strict, numbers, end) {
+    if lend(&numbers[1..end], strict, size as usize, numbers, end) {
         return AS_STORED;
     }
     DIFFERS
 }
 
-// The first number is the mode: 0 present, else strict.
+// The first number is the mode, 0 present, else strict; the second the words of the memory.
 fn case(numbers: &[u64]) -> u64 {
     let end = numbers.len();
-    if end < 1 {
+    if end < 2 {
         say(b"  no case\n");
         return DIFFERS;
     }
     let strict = number_at(numbers, 0) != 0;
-    case_in(strict, &numbers[1..end])
+    let size = number_at(numbers, 1);
+    case_in(strict, size, &numbers[2..end])
 }
 
 fn read_name(name: &mut [u8]) {

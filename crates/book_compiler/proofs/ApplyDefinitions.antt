@@ -20,12 +20,12 @@ use Rattle.definition_laws.proofs.Steady.{same, more}
 use Rattle.building.specs.declared.scopes.Found.{Found}
 use Rattle.building.specs.declared.scopes.Found.the-variants.{At, Nothing}
 use Rattle.building.specs.Found.{foundOf}
-use Rattle.documents.specs.declared.book.Book as struct
-use Rattle.documents.specs.Modelling.{FindsModel}
-use Rattle.documents.proofs.ModelCalm.{calm-methods, calm-find-model}
-use Rattle.documents.proofs.Pairs.{found-at, found-none}
-use Rattle.documents.proofs.Copying.{methods-none, keeping-marked}
-use Rattle.documents.proofs.FindWays as area
+use Rattle.compiler_laws.specs.declared.book.Book as struct
+use Rattle.compiler_laws.specs.ModelSteps.{FindsModel}
+use Rattle.compiler_laws.proofs.UnchangedByModels.{calm-methods, calm-find-model}
+use Rattle.compiler_laws.proofs.MapEntries.{found-at, found-none}
+use Rattle.compiler_laws.proofs.MethodsTogether.{methods-none, keeping-marked}
+use Rattle.compiler_laws.proofs.ModelsFound as area
 use Rattle.book_compiler.specs.RepresentsBook.{BookMemory, areaOf, RepresentsBook}
 use Rattle.book_compiler.specs.BookLeaves.{PushesBookError, FindsBookLocal, FindsLocalModel, CopiesBookMethods}
 use Rattle.book_compiler.specs.DefinitionSteps.{FindsModelIndex, CompilesApplyDefinition}

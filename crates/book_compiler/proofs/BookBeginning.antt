@@ -17,16 +17,16 @@ use Rattle.definition.specs.Book.{Context, newContext, opened, bookCount, compi
 use Rattle.definition.specs.DependencySolver.{needed}
 use Rattle.building.specs.declared.taking.Taken.{Taken}
 use Rattle.building.proofs.Notes.{over-longer}
-use Rattle.documents.specs.declared.book.Book as struct
-use Rattle.documents.specs.Shelf.{Shelf, shelf, Keeping}
-use Rattle.documents.specs.Documents.{Resting, openedBook, nobody}
-use Rattle.documents.proofs.Calm.{Calms}
-use Rattle.books.specs.Solving.{TakesBooks}
-use Rattle.books.specs.Driving.{Zero, begunBook, FirstConstants, Accepted, Cleared}
-use Rattle.books.specs.Driving as slices
-use Rattle.books.proofs.Beginning.{begunUses, zero-drop, marks, as-work, driving}
-use Rattle.books.proofs.BundleRange.{fine-limit}
-use Rattle.books.proofs.Steadfast.{drive-longer}
+use Rattle.compiler_laws.specs.declared.book.Book as struct
+use Rattle.compiler_laws.specs.BookAreas.{Shelf, shelf, Keeping}
+use Rattle.compiler_laws.specs.OpenedBooks.{Resting, openedBook, nobody}
+use Rattle.compiler_laws.proofs.UnchangedByBooks.{Calms}
+use Rattle.compiler_laws.specs.SolverSteps.{TakesBooks}
+use Rattle.compiler_laws.specs.BooksInOrder.{Zero, begunBook, FirstConstants, Accepted, Cleared}
+use Rattle.compiler_laws.specs.BooksInOrder as slices
+use Rattle.compiler_laws.proofs.CallBeginning.{begunUses, zero-drop, marks, as-work, driving}
+use Rattle.compiler_laws.proofs.BundleRange.{fine-limit}
+use Rattle.compiler_laws.proofs.NotesOfDocuments.{drive-longer}
 use Rattle.book_compiler.specs.RepresentsBook.{BookMemory, bookLaid, bookView, isBookArea}
 use Rattle.book_compiler.specs.BookOrder.{LentPart, AtRest, Lent, Driving, Drives, Works}
 use Rattle.book_compiler.proofs.LentParts.{lent-does, lent-part, lent-other, lent-length, lent-fits, part-lengths, zero-part}

@@ -22,12 +22,12 @@ use Rattle.definition.specs.Promise.{areas, lengthsOf, Compiles}
 use Rattle.definition.specs.Program.{flat}
 use Rattle.definition.specs.Within.{Areas}
 use Rattle.definition_laws.proofs.Strict.{none-there}
-use Rattle.documents.specs.declared.book.Book as book
-use Rattle.books.specs.Driving.{Zero, Emptied, Cleared, Fronts, MarkedFrom}
-use Rattle.books.specs.Driving as slices
-use Rattle.books.specs.Finishing.{totals, markRefusal}
-use Rattle.books.specs.Finishing as slices-end
-use Rattle.books.proofs.Ending.{cleared-zero, SameLengths, run-row, run-finished, compile-runs}
+use Rattle.compiler_laws.specs.declared.book.Book as book
+use Rattle.compiler_laws.specs.BooksInOrder.{Zero, Emptied, Cleared, Fronts, MarkedFrom}
+use Rattle.compiler_laws.specs.BooksInOrder as slices
+use Rattle.compiler_laws.specs.CallEnd.{totals, markRefusal}
+use Rattle.compiler_laws.specs.CallEnd as slices-end
+use Rattle.compiler_laws.proofs.CallEnd.{cleared-zero, SameLengths, run-row, run-finished, compile-runs}
 use Rattle.book_compiler.specs.RepresentsBook.{BookMemory, bookLaid, areaOf}
 use Rattle.book_compiler.specs.BookOrder.{ReadsPart, Came, came-delivered, came-faulty, came-ring, Outcome, Lent, Works, ClearsButErrors, Finishes}
 use Rattle.book_compiler.specs.BookOrder.{LentPart, ClearsPart, Runs, partsOf}

@@ -11,7 +11,7 @@ use Rattle.words.specs.Areas.{scopeNamesArea, breaksArea}
 use Rattle.definition.specs.Uses.{Limits}
 use Rattle.definition.specs.Book.{Book, Placed, pushBookError, addBookConstant, defineContextLocal, setLocalValue, addMethods, methodsIn, publish}
 use Rattle.building.specs.declared.scopes.Found.{Found}
-use Rattle.documents.specs.Deeds.{Valuable}
+use Rattle.compiler_laws.specs.BookSteps.{Valuable}
 use Rattle.book_compiler.specs.RepresentsBook.{BookMemory, areaOf, RepresentsBook, SimulatesBook, SimulatesPlaced, SimulatesSought}
 use Rattle.book_compiler.specs.BookLeaves.{PushesBookError, AddsBookConstant, DefinesContextLocal, SetsLocalValue, InsertsBookMethod}
 use Rattle.book_compiler.specs.BookLeaves.{CopiesBookMethods, PublishesName}

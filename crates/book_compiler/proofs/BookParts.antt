@@ -13,10 +13,10 @@ use Rattle.definition.specs.Uses.{Limits}
 use Rattle.definition.specs.Book.{Book, Deed, Placed, MaybePlaced}
 use Rattle.definition_laws.proofs.Steady.{Longer}
 use Rattle.building.specs.declared.scopes.Found.{Found}
-use Rattle.documents.specs.declared.book.Book as struct
-use Rattle.documents.specs.Shelf.{Shelf, shelf, Keeping, Shelved, Deeds, Places, Seeks}
-use Rattle.documents.proofs.Calm.{Calm, Calms}
-use Rattle.documents.proofs.Shelving.{keeping-longer, unfilled}
+use Rattle.compiler_laws.specs.declared.book.Book as struct
+use Rattle.compiler_laws.specs.BookAreas.{Shelf, shelf, Keeping, Shelved, Deeds, Places, Seeks}
+use Rattle.compiler_laws.proofs.UnchangedByBooks.{Calm, Calms}
+use Rattle.compiler_laws.proofs.BookStepsInOrder.{keeping-longer, unfilled}
 use Rattle.book_compiler.specs.Represents.{Replaced}
 use Rattle.book_compiler.specs.RepresentsBook.{BookMemory, bookLaid, areaOf, bookView, isBookArea, PreservesParts, RepresentsBook, OnArea}
 use Rattle.book_compiler.specs.RepresentsBook.{SimulatesBook, SimulatesPlaced, SimulatesSought}

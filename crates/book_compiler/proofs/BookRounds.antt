@@ -25,21 +25,21 @@ use Rattle.building.specs.Taking.{Took, taken}
 use Rattle.building.specs.Held.{Filled, Marks}
 use Rattle.building.proofs.Filling.{over-fits, over-here}
 use Rattle.building.proofs.Notes.{over-longer}
-use Rattle.bodies.specs.Meets.{skipC}
-use Rattle.bodies.proofs.Tokens.{skip-law}
-use Rattle.documents.specs.declared.book.Book as struct
-use Rattle.documents.specs.Shelf.{Shelved}
-use Rattle.documents.proofs.Calm.{Calms}
-use Rattle.documents.proofs.PuttingAway.{putAway, put-away}
-use Rattle.books.specs.Sets.{addBit, SetIs, Ascends}
-use Rattle.books.specs.Solving.{InSets, bookUnit, placeUnit, AllWait, Stands, FindsReady, Brings}
-use Rattle.books.specs.Driving.{Leaves, Rung, Rings}
-use Rattle.books.proofs.Steadfast.{calm-definitions, drive-longer, after-longer, loaded-more}
-use Rattle.books.proofs.Lefts.{all-ready, stood-at, added-at, leaves-are}
-use Rattle.books.proofs.StandsLaws.{without-length, without-ascends, without-missing, WaitSplit, wait-split, waits-grow, none-waits}
-use Rattle.books.proofs.BookWays.{apart}
-use Rattle.books.proofs.DriveWays.{ring-end, ring-more}
-use Rattle.books.proofs.FileLists.{addBit-length, set-add, add-grows}
+use Rattle.compiler_laws.specs.InsideFunction.{skipC}
+use Rattle.compiler_laws.proofs.Tokens.{skip-law}
+use Rattle.compiler_laws.specs.declared.book.Book as struct
+use Rattle.compiler_laws.specs.BookAreas.{Shelved}
+use Rattle.compiler_laws.proofs.UnchangedByBooks.{Calms}
+use Rattle.compiler_laws.proofs.BooksPutAway.{putAway, put-away}
+use Rattle.compiler_laws.specs.FileSets.{addBit, SetIs, Ascends}
+use Rattle.compiler_laws.specs.SolverSteps.{InSets, bookUnit, placeUnit, AllWait, Stands, FindsReady, Brings}
+use Rattle.compiler_laws.specs.BooksInOrder.{Leaves, Rung, Rings}
+use Rattle.compiler_laws.proofs.NotesOfDocuments.{calm-definitions, drive-longer, after-longer, loaded-more}
+use Rattle.compiler_laws.proofs.BooksLeft.{all-ready, stood-at, added-at, leaves-are}
+use Rattle.compiler_laws.proofs.BooksNeeded.{without-length, without-ascends, without-missing, WaitSplit, wait-split, waits-grow, none-waits}
+use Rattle.compiler_laws.proofs.WaitingBooks.{apart}
+use Rattle.compiler_laws.proofs.RingErrors.{ring-end, ring-more}
+use Rattle.compiler_laws.proofs.FileLists.{addBit-length, set-add, add-grows}
 use Rattle.book_compiler.specs.declared.order.Next.{Next}
 use Rattle.book_compiler.specs.RepresentsBook.{BookMemory, bookLaid, areaOf, RepresentsBook, RepresentsContext, CompilesDocument}
 use Rattle.book_compiler.specs.BookOrder.{LentPart, ReadsPart, withBooks, AtRest, Picked, PicksNext, RingsIn}

@@ -14,14 +14,14 @@ use Rattle.definition.specs.Uses.{Use, Limits}
 use Rattle.definition.specs.Book.{Context, Book, opened, compileDefinition, compileDefinitions}
 use Rattle.definition.specs.Within.{All, nil, _&_}
 use Rattle.definition_laws.proofs.Limits.{LimitedFunction, functionsIn}
-use Rattle.bodies.specs.Meets.{skipC}
-use Rattle.bodies.proofs.Tokens.{skip-law}
-use Rattle.documents.specs.declared.book.Book as struct
-use Rattle.documents.specs.Shelf.{Shelf, Keeping, Shelved}
-use Rattle.documents.specs.Documents.{openedBook, nobody}
-use Rattle.documents.proofs.Shelving.{shelved-calm}
-use Rattle.documents.proofs.MakingWays.{bounded, all-bounded}
-use Rattle.documents.proofs.DefinitionWays.{calm-definition}
+use Rattle.compiler_laws.specs.InsideFunction.{skipC}
+use Rattle.compiler_laws.proofs.Tokens.{skip-law}
+use Rattle.compiler_laws.specs.declared.book.Book as struct
+use Rattle.compiler_laws.specs.BookAreas.{Shelf, Keeping, Shelved}
+use Rattle.compiler_laws.specs.OpenedBooks.{openedBook, nobody}
+use Rattle.compiler_laws.proofs.BookStepsInOrder.{shelved-calm}
+use Rattle.compiler_laws.proofs.BuiltFunctions.{bounded, all-bounded}
+use Rattle.compiler_laws.proofs.DefinitionKinds.{calm-definition}
 use Rattle.book_compiler.specs.RepresentsBook.{BookMemory, bookLaid, RepresentsBook, CompilesDefinition, CompilesDefinitions, CompilesDocument}
 use Rattle.book_compiler.specs.BookLeaves.{PublishesName}
 use Rattle.book_compiler.specs.DefinitionSteps.{CompilesLocalDefinition, CompilesIncludeDefinition, CompilesModelDefinition, CompilesApplyDefinition}

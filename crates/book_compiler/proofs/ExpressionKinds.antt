@@ -14,10 +14,10 @@ use Rattle.definition_laws.proofs.Steady.{steady-expression}
 use Rattle.tree.specs.At.{Head, Headed, ExpressionAt, ExpressionsAt, sizeE, sizeEs}
 use Rattle.tree.proofs.View.{ViewE, seeE, headE, sizeE-pos}
 use Rattle.tree.proofs.View.ViewE.{v-Array, v-Prefix, v-Infix, v-If, v-IfElse, v-Call, v-InstanceGet, v-IndexGet}
-use Rattle.bodies.specs.Meets.{Counted, skipC}
-use Rattle.bodies.proofs.Balanced.{balanced-expression}
-use Rattle.bodies.proofs.Runs.{count-end, count-more}
-use Rattle.bodies.proofs.Tokens.{skip-law}
+use Rattle.compiler_laws.specs.InsideFunction.{Counted, skipC}
+use Rattle.compiler_laws.proofs.ScopesBalanced.{balanced-expression}
+use Rattle.compiler_laws.proofs.ChildCounts.{count-end, count-more}
+use Rattle.compiler_laws.proofs.Tokens.{skip-law}
 use Rattle.book_compiler.specs.Represents.{Memory, Acts, Does}
 use Rattle.book_compiler.specs.Members.{token, MeetsLeaf, Finishes, MeetsE, MeetsEs, MeetsList, MeetsInfix, MeetsIf}
 use Rattle.book_compiler.proofs.Steps.{acts-does, does-then, full-does}

@@ -18,12 +18,12 @@ use Rattle.building.specs.declared.function_state.FunctionState.{FunctionState}
 use Rattle.building.specs.declared.scopes.Found.{Found}
 use Rattle.building.specs.Found.{foundOf}
 use Rattle.building.proofs.Notes.{over-longer}
-use Rattle.documents.specs.declared.book.Book as struct
-use Rattle.documents.specs.Deeds.{resumedBook, AddedLocal}
-use Rattle.documents.specs.Adding.{Bounded, baseOf}
-use Rattle.documents.proofs.Calm.{Calm, calm-trans, calm-error, calm-constant, calm-local, calm-value}
-use Rattle.documents.proofs.DeedWays.{defined-added}
-use Rattle.documents.proofs.MakingWays.{added-fitted}
+use Rattle.compiler_laws.specs.declared.book.Book as struct
+use Rattle.compiler_laws.specs.BookSteps.{resumedBook, AddedLocal}
+use Rattle.compiler_laws.specs.AddingFunctions.{Bounded, baseOf}
+use Rattle.compiler_laws.proofs.UnchangedByBooks.{Calm, calm-trans, calm-error, calm-constant, calm-local, calm-value}
+use Rattle.compiler_laws.proofs.BookLeaves.{defined-added}
+use Rattle.compiler_laws.proofs.BuiltFunctions.{added-fitted}
 use Rattle.book_compiler.specs.Represents.{laid}
 use Rattle.book_compiler.specs.RepresentsBook.{BookMemory, bookLaid, RepresentsBook}
 use Rattle.book_compiler.specs.BookLeaves.{DefinesContextLocal}

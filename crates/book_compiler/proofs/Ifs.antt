@@ -16,10 +16,10 @@ use Rattle.tree.specs.At.{Head, ExpressionAt, StatementsAt, sizeE, sizeSs}
 use Rattle.tree.proofs.View.{headE, sizeE-pos}
 use Rattle.building.specs.declared.function_state.FunctionState.{FunctionState}
 use Rattle.building.specs.Emission.{nextC, emitLastC, replaceC}
-use Rattle.bodies.specs.Meets.{Inside, skipC}
-use Rattle.bodies.proofs.Balanced.{Balancing, balanced-expression, balanced-statements, balanced-part, balanced-no-part}
-use Rattle.bodies.proofs.Steps.{inside-after}
-use Rattle.bodies.proofs.Tokens.{skip-law}
+use Rattle.compiler_laws.specs.InsideFunction.{Inside, skipC}
+use Rattle.compiler_laws.proofs.ScopesBalanced.{Balancing, balanced-expression, balanced-statements, balanced-part, balanced-no-part}
+use Rattle.compiler_laws.proofs.StepsInOrder.{inside-after}
+use Rattle.compiler_laws.proofs.Tokens.{skip-law}
 use Rattle.book_compiler.specs.Represents.{Memory, laid, Represents, Does}
 use Rattle.book_compiler.specs.Leaves.{OnCode}
 use Rattle.book_compiler.specs.Members.{MeetsE, MeetsBlock, MeetsIf}

@@ -14,21 +14,21 @@ use Rattle.definition.specs.Uses.{Limits}
 use Rattle.definition.specs.Within.{All, _&_}
 use Rattle.definition.specs.Book.{Book, functionCount, Method, Methods, MaybePlaced, modelOf, getLocalValue, insertEntry, insertMethods, addMethods}
 use Rattle.definition.specs.Book.{compileBase, compileMethods, findModelBy, findModelIn, findModelIndexByLocalName, compileImplementDefinition}
-use Rattle.bodies.specs.Meets.{skipC}
-use Rattle.bodies.proofs.Tokens.{skip-law}
+use Rattle.compiler_laws.specs.InsideFunction.{skipC}
+use Rattle.compiler_laws.proofs.Tokens.{skip-law}
 use Rattle.building.specs.declared.function_state.FunctionState.{FunctionState}
 use Rattle.building.specs.declared.scopes.Found.{Found}
 use Rattle.building.specs.declared.scopes.Found.the-variants.{At, Nothing}
 use Rattle.building.specs.Found.{foundOf}
-use Rattle.documents.specs.declared.book.Book as struct
-use Rattle.documents.specs.Adding.{Bounded}
-use Rattle.documents.specs.Implementing.{implementing, implementingAll, numbered}
-use Rattle.documents.proofs.ModelCalm.{calm-methods}
-use Rattle.documents.proofs.Pairs.{found-at, found-none}
-use Rattle.documents.proofs.MakingWays.{functions-count}
-use Rattle.documents.proofs.Copying.{inserts-append, methods-then, methods-none}
-use Rattle.documents.proofs.MethodOrder.{Distinct, nobody, distinct-insert, inserts-entry}
-use Rattle.documents.proofs.ImplementWays.{all-more, calm-implement}
+use Rattle.compiler_laws.specs.declared.book.Book as struct
+use Rattle.compiler_laws.specs.AddingFunctions.{Bounded}
+use Rattle.compiler_laws.specs.ImplementSteps.{implementing, implementingAll, numbered}
+use Rattle.compiler_laws.proofs.UnchangedByModels.{calm-methods}
+use Rattle.compiler_laws.proofs.MapEntries.{found-at, found-none}
+use Rattle.compiler_laws.proofs.BuiltFunctions.{functions-count}
+use Rattle.compiler_laws.proofs.MethodsTogether.{inserts-append, methods-then, methods-none}
+use Rattle.compiler_laws.proofs.MethodOrder.{Distinct, nobody, distinct-insert, inserts-entry}
+use Rattle.compiler_laws.proofs.ImplementedMethods.{all-more, calm-implement}
 use Rattle.book_compiler.specs.Represents.{laid}
 use Rattle.book_compiler.specs.RepresentsBook.{BookMemory, bookLaid, RepresentsBook, SimulatesBook, SimulatesSought}
 use Rattle.book_compiler.specs.BookLeaves.{InsertsBookMethod}

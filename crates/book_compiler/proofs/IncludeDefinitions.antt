@@ -16,16 +16,16 @@ use Rattle.definition.specs.Book.{compileIncludeDefinition, publicNames, givesV
 use Rattle.building.specs.declared.scopes.Found.{Found}
 use Rattle.building.specs.declared.scopes.Found.the-variants.{At, Nothing}
 use Rattle.building.specs.Found.{foundOf}
-use Rattle.documents.specs.declared.book.Book as struct
-use Rattle.documents.specs.Shelf.{Shelved}
-use Rattle.documents.specs.Deeds.{AddedLocal}
-use Rattle.documents.specs.Including.{includedC, AsksMode}
-use Rattle.documents.proofs.Calm.{calm-local, calm-give, calm-alias, included-calm, calm-include-or-row-11}
-use Rattle.documents.proofs.Shelving.{shelved-calm}
-use Rattle.documents.proofs.DeedWays.{defined-added, fitted-locals}
-use Rattle.documents.proofs.Counts.{withMark}
-use Rattle.documents.proofs.Stocking.{keeping-over}
-use Rattle.documents.proofs.PublicNames.{included-law, names-law}
+use Rattle.compiler_laws.specs.declared.book.Book as struct
+use Rattle.compiler_laws.specs.BookAreas.{Shelved}
+use Rattle.compiler_laws.specs.BookSteps.{AddedLocal}
+use Rattle.compiler_laws.specs.IncludeSteps.{includedC, AsksMode}
+use Rattle.compiler_laws.proofs.UnchangedByBooks.{calm-local, calm-give, calm-alias, included-calm, calm-include-or-row-11}
+use Rattle.compiler_laws.proofs.BookStepsInOrder.{shelved-calm}
+use Rattle.compiler_laws.proofs.BookLeaves.{defined-added, fitted-locals}
+use Rattle.compiler_laws.proofs.BookCounts.{withMark}
+use Rattle.compiler_laws.proofs.AreaEntries.{keeping-over}
+use Rattle.compiler_laws.proofs.PublicNames.{included-law, names-law}
 use Rattle.book_compiler.specs.RepresentsBook.{BookMemory, bookLaid, areaOf, RepresentsBook}
 use Rattle.book_compiler.specs.BookLeaves.{DefinesContextLocal, SetsLocalValue, FindsIncluded, GivesIncluded}
 use Rattle.book_compiler.specs.DefinitionSteps.{SimulatesAmong, CompilesAlias, CompilesAliases, CompilesIncludeDefinition}

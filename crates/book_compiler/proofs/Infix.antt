@@ -18,11 +18,11 @@ use Rattle.tree.specs.At.{ExpressionAt, sizeE}
 use Rattle.tree.proofs.View.{ViewE, seeE, headE, sizeE-pos}
 use Rattle.tree.proofs.View.ViewE.{v-Identifier, v-InstanceGet, v-IndexGet}
 use Rattle.building.specs.Emission.{emitC}
-use Rattle.bodies.specs.Meets.{operated, operationOf, skipC}
-use Rattle.bodies.proofs.Balanced.{balanced-expression, balanced-operation}
-use Rattle.bodies.proofs.Steps.{inside-after}
-use Rattle.bodies.proofs.Tokens.{skip-law, positive}
-use Rattle.bodies.proofs.Runs.{eighteen, kind-plain}
+use Rattle.compiler_laws.specs.InsideFunction.{operated, operationOf, skipC}
+use Rattle.compiler_laws.proofs.ScopesBalanced.{balanced-expression, balanced-operation}
+use Rattle.compiler_laws.proofs.StepsInOrder.{inside-after}
+use Rattle.compiler_laws.proofs.Tokens.{skip-law, positive}
+use Rattle.compiler_laws.proofs.ChildCounts.{eighteen, kind-plain}
 use Rattle.book_compiler.specs.Represents.{Memory, Acts, Does}
 use Rattle.book_compiler.specs.Leaves.{OnCode, PushesError}
 use Rattle.book_compiler.specs.Members.{token, Operates, MeetsE, MeetsEs, MeetsInfix, MeetsTarget}

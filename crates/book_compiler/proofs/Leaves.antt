@@ -33,8 +33,8 @@ use Rattle.building.specs.Found.{foundOf, wrapped}
 use Rattle.building.proofs.PoolLaws.{add-constant-inside}
 use Rattle.building.proofs.ContextLaws.{find-context-law}
 use Rattle.building.proofs.StateLaws.{put-reads}
-use Rattle.bodies.specs.Meets.{Inside, standingOf}
-use Rattle.bodies.proofs.Leaves.{low-bits}
+use Rattle.compiler_laws.specs.InsideFunction.{Inside, standingOf}
+use Rattle.compiler_laws.proofs.ConstantLeaves.{low-bits}
 use Rattle.book_compiler.specs.Represents.{Memory, view, Represents, Acts, Does}
 use Rattle.book_compiler.specs.Leaves.{OnCode, AddsConstant, MarksGlobal, PushesError, FindsLocal, FindsContextLocal}
 use Rattle.book_compiler.specs.Members.{token, MeetsLeaf, Finishes}

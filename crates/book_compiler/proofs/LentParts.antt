@@ -15,10 +15,10 @@ use Rattle.words.specs.Areas.{booksArea, clearedFrom}
 use Rattle.definition.specs.Uses.{Use, Limits}
 use Rattle.definition.specs.Book.{Context, bookCount, opened}
 use Rattle.building.proofs.Filling.{drop-zeros}
-use Rattle.documents.specs.declared.book.Book as struct
-use Rattle.documents.specs.Shelf.{Shelf, shelf, Keeping}
-use Rattle.documents.specs.Documents.{openedBook, nobody}
-use Rattle.books.specs.Driving.{Zero}
+use Rattle.compiler_laws.specs.declared.book.Book as struct
+use Rattle.compiler_laws.specs.BookAreas.{Shelf, shelf, Keeping}
+use Rattle.compiler_laws.specs.OpenedBooks.{openedBook, nobody}
+use Rattle.compiler_laws.specs.BooksInOrder.{Zero}
 use Rattle.book_compiler.specs.Represents.{Replaced}
 use Rattle.book_compiler.specs.RepresentsBook.{bookLaid, bookView, isBookArea, RepresentsBook}
 use Rattle.book_compiler.specs.BookOrder.{LentPart, ReadsPart, AtRest, withBooks}

@@ -16,10 +16,10 @@ use Rattle.definition.specs.Book.{compileBinding, compileLocalDefinition, NoCon
 use Rattle.building.specs.declared.scopes.Found.{Found}
 use Rattle.building.specs.declared.scopes.Found.the-variants.{At, Nothing}
 use Rattle.building.specs.Found.{foundOf}
-use Rattle.bodies.specs.Meets.{standingOf}
-use Rattle.documents.specs.Deeds.{AddedLocal}
-use Rattle.documents.proofs.Calm.{calm-constant, calm-local, calm-binding-by}
-use Rattle.documents.proofs.DeedWays.{defined-added}
+use Rattle.compiler_laws.specs.InsideFunction.{standingOf}
+use Rattle.compiler_laws.specs.BookSteps.{AddedLocal}
+use Rattle.compiler_laws.proofs.UnchangedByBooks.{calm-constant, calm-local, calm-binding-by}
+use Rattle.compiler_laws.proofs.BookLeaves.{defined-added}
 use Rattle.book_compiler.specs.RepresentsBook.{BookMemory, RepresentsBook, SimulatesBook}
 use Rattle.book_compiler.specs.BookLeaves.{PushesBookError, AddsBookConstant, DefinesContextLocal, SetsLocalValue}
 use Rattle.book_compiler.specs.DefinitionSteps.{AddsLocalValue, GivesLocalValue, CompilesBinding, CompilesLocalDefinition}

@@ -32,13 +32,13 @@ use Rattle.building.specs.Scopes.{enterScopeC, exitScopeC, defineAnonymousC}
 use Rattle.building.specs.Held.{isOpen}
 use Rattle.building.proofs.ScopeLaws.{define-mark}
 use Rattle.building.proofs.Notes.{held-renoted}
-use Rattle.bodies.specs.Meets.{Inside, skipC}
-use Rattle.bodies.specs.Looping.{loopStart, loopHead, loopDefined, loopNext, loopName, loopEnd, foundOrZero, Around}
-use Rattle.bodies.proofs.Balanced.{balanced-trans, balanced-expression, balanced-statements}
-use Rattle.bodies.proofs.Steps.{inside-after}
-use Rattle.bodies.proofs.Tokens.{skip-law}
-use Rattle.bodies.proofs.Leaves.{low-bits}
-use Rattle.bodies.proofs.Loops.{steady-start, steady-head, steady-name, balanced-head, balanced-name}
+use Rattle.compiler_laws.specs.InsideFunction.{Inside, skipC}
+use Rattle.compiler_laws.specs.ForStatements.{loopStart, loopHead, loopDefined, loopNext, loopName, loopEnd, foundOrZero, Around}
+use Rattle.compiler_laws.proofs.ScopesBalanced.{balanced-trans, balanced-expression, balanced-statements}
+use Rattle.compiler_laws.proofs.StepsInOrder.{inside-after}
+use Rattle.compiler_laws.proofs.Tokens.{skip-law}
+use Rattle.compiler_laws.proofs.ConstantLeaves.{low-bits}
+use Rattle.compiler_laws.proofs.ForStatements.{steady-start, steady-head, steady-name, balanced-head, balanced-name}
 use Rattle.book_compiler.specs.declared.statements.LoopEntry.{LoopEntry}
 use Rattle.book_compiler.specs.Represents.{Memory, laid, Represents, Acts, Does}
 use Rattle.book_compiler.specs.Leaves.{OnCode, OnNames, OnBoth, DefinesLocal, LastPosition}

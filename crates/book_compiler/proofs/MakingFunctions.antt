@@ -35,14 +35,14 @@ use Rattle.building.proofs.BreakLaws.{drop-law}
 use Rattle.building.proofs.Notes.{held-longer}
 use Rattle.building.proofs.StateLaws.{touch-law}
 use Rattle.building.proofs.ScopeLaws.{end-law}
-use Rattle.documents.specs.declared.book.Book as struct
-use Rattle.documents.specs.Shelf.{shelf, Keeping}
-use Rattle.documents.specs.Deeds.{resumedBook, AddedLocal}
-use Rattle.documents.specs.Adding.{Bounded, ended, baseOf}
-use Rattle.documents.specs.Adding as adding
-use Rattle.documents.proofs.Counts.{entering}
-use Rattle.documents.proofs.Resuming.{codeSoFar, held-working, keeping-resumed}
-use Rattle.documents.proofs.MakingWays.{base-longer, functions-count, built-back, built-between}
+use Rattle.compiler_laws.specs.declared.book.Book as struct
+use Rattle.compiler_laws.specs.BookAreas.{shelf, Keeping}
+use Rattle.compiler_laws.specs.BookSteps.{resumedBook, AddedLocal}
+use Rattle.compiler_laws.specs.AddingFunctions.{Bounded, ended, baseOf}
+use Rattle.compiler_laws.specs.AddingFunctions as adding
+use Rattle.compiler_laws.proofs.BookCounts.{entering}
+use Rattle.compiler_laws.proofs.FunctionStates.{codeSoFar, held-working, keeping-resumed}
+use Rattle.compiler_laws.proofs.BuiltFunctions.{base-longer, functions-count, built-back, built-between}
 use Rattle.book_compiler.specs.Represents.{Memory, laid, view, isBuilt, Represents, On}
 use Rattle.book_compiler.specs.Leaves.{OnCode, OnNames}
 use Rattle.book_compiler.specs.RepresentsBook.{BookMemory, bookLaid, areaOf, isBookArea, PreservesParts, RepresentsBook, OnArea}

@@ -23,17 +23,17 @@ use Rattle.building.specs.declared.taking.Taken.{Taken}
 use Rattle.building.specs.Taking.{Took}
 use Rattle.building.proofs.ContextLaws.{took-law}
 use Rattle.building.proofs.PoolLaws.{entries-more}
-use Rattle.documents.specs.declared.book.Book as struct
-use Rattle.documents.specs.Shelf.{Shelf, shelf, Keeping}
-use Rattle.documents.specs.Deeds.{Valuable}
-use Rattle.documents.specs.Modelling as area
-use Rattle.documents.specs.Modelling.{placeModel}
-use Rattle.documents.proofs.Counts.{withModelCount}
-use Rattle.documents.proofs.Calm.{calm-local}
-use Rattle.documents.proofs.ModelCalm.{calm-property, calm-place-model}
-use Rattle.documents.proofs.DeedWays.{defined-added}
-use Rattle.documents.proofs.Stocking.{keeping-grown, stock-models, fitted-models}
-use Rattle.documents.proofs.PropertyWays.{models-count, property-full, property-there, property-new}
+use Rattle.compiler_laws.specs.declared.book.Book as struct
+use Rattle.compiler_laws.specs.BookAreas.{Shelf, shelf, Keeping}
+use Rattle.compiler_laws.specs.BookSteps.{Valuable}
+use Rattle.compiler_laws.specs.ModelSteps as area
+use Rattle.compiler_laws.specs.ModelSteps.{placeModel}
+use Rattle.compiler_laws.proofs.BookCounts.{withModelCount}
+use Rattle.compiler_laws.proofs.UnchangedByBooks.{calm-local}
+use Rattle.compiler_laws.proofs.UnchangedByModels.{calm-property, calm-place-model}
+use Rattle.compiler_laws.proofs.BookLeaves.{defined-added}
+use Rattle.compiler_laws.proofs.AreaEntries.{keeping-grown, stock-models, fitted-models}
+use Rattle.compiler_laws.proofs.AddedProperties.{models-count, property-full, property-there, property-new}
 use Rattle.book_compiler.specs.RepresentsBook.{BookMemory, areaOf, bookView, RepresentsBook, OnArea}
 use Rattle.book_compiler.specs.BookLeaves.{PushesBookError, AddsBookConstant, DefinesContextLocal, SetsLocalValue, FindsProperty}
 use Rattle.book_compiler.specs.DefinitionSteps.{TakesProperty, TakesModel, AddsModelProperty, AddsModelProperties, AddsModel, CompilesModelDefinition}

@@ -28,10 +28,10 @@ use Rattle.building.specs.Found.{foundOf, wrapped}
 use Rattle.building.specs.Held.{Held, isOpen}
 use Rattle.building.proofs.StateLaws.{parameters-law}
 use Rattle.building.proofs.Notes.{held-longer}
-use Rattle.bodies.specs.Meets.{Inside}
-use Rattle.bodies.proofs.Balanced.{balanced-bare}
-use Rattle.bodies.proofs.Steps.{same-locals}
-use Rattle.documents.specs.Making.{instanceBy, ParametersEnd}
+use Rattle.compiler_laws.specs.InsideFunction.{Inside}
+use Rattle.compiler_laws.proofs.ScopesBalanced.{balanced-bare}
+use Rattle.compiler_laws.proofs.StepsInOrder.{same-locals}
+use Rattle.compiler_laws.specs.MakingFunctions.{instanceBy, ParametersEnd}
 use Rattle.book_compiler.specs.Represents.{Memory, laid, view, Represents}
 use Rattle.book_compiler.specs.Leaves.{OnCode, DefinesLocal, PushesError, LastPosition}
 use Rattle.book_compiler.specs.Members.{token, MeetsSs}

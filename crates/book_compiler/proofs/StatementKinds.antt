@@ -32,12 +32,12 @@ use Rattle.building.specs.Found.{foundOf, wrapped}
 use Rattle.building.specs.Emission.{emitC, removePopC, emitLastC, emitNullC, emitReturnC, deeperC, depthC, rescueC}
 use Rattle.building.specs.Scopes.{enterScopeC, exitScopeC, defineC}
 use Rattle.building.proofs.StateLaws.{put-rescue}
-use Rattle.bodies.specs.Meets.{Inside, skipC}
-use Rattle.bodies.specs.Members.{inner}
-use Rattle.bodies.proofs.Balanced.{balanced-statement, balanced-statements, balanced-define, balanced-bare, balanced-valued, balanced-expression}
-use Rattle.bodies.proofs.Steps.{inside-after}
-use Rattle.bodies.proofs.Tokens.{skip-law}
-use Rattle.bodies.proofs.Leaves.{low-bits}
+use Rattle.compiler_laws.specs.InsideFunction.{Inside, skipC}
+use Rattle.compiler_laws.specs.StatementParts.{inner}
+use Rattle.compiler_laws.proofs.ScopesBalanced.{balanced-statement, balanced-statements, balanced-define, balanced-bare, balanced-valued, balanced-expression}
+use Rattle.compiler_laws.proofs.StepsInOrder.{inside-after}
+use Rattle.compiler_laws.proofs.Tokens.{skip-law}
+use Rattle.compiler_laws.proofs.ConstantLeaves.{low-bits}
 use Rattle.book_compiler.specs.Represents.{Memory, laid, Represents, Acts, Does}
 use Rattle.book_compiler.specs.Leaves.{OnCode, OnNames, DefinesLocal, PushesError}
 use Rattle.book_compiler.specs.Members.{token, MeetsE, MeetsS, MeetsSs, MeetsBlock, MeetsFor, MeetsVariable, MeetsVariables}

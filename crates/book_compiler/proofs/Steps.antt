@@ -9,8 +9,8 @@ use Rattle.definition.specs.Program.{Entries}
 use Rattle.definition_laws.proofs.Steady.{Longer, Steadily}
 use Rattle.building.proofs.Notes.{held-longer}
 use Rattle.building.proofs.Notes as notes
-use Rattle.bodies.proofs.Balanced.{Balancing}
-use Rattle.bodies.proofs.Steps.{inside-after, held-either}
+use Rattle.compiler_laws.proofs.ScopesBalanced.{Balancing}
+use Rattle.compiler_laws.proofs.StepsInOrder.{inside-after, held-either}
 use Rattle.book_compiler.specs.Represents.{Memory, view, Represents, Acts, Does}
 
 -- the mark was not set before where it is not set after

@@ -29,12 +29,12 @@ use Rattle.building.specs.declared.scopes.Found.the-variants.{At, Nothing}
 use Rattle.building.specs.Emission.{emitC}
 use Rattle.building.specs.Found.{foundOf, wrapped}
 use Rattle.building.specs.Scopes.{naming, Defines, defineC}
-use Rattle.bodies.specs.Meets.{Inside, skipC}
-use Rattle.bodies.specs.Cells.{defined}
-use Rattle.bodies.proofs.Balanced.{balanced-define, balanced-bare, balanced-valued, balanced-expression}
-use Rattle.bodies.proofs.Steps.{inside-after}
-use Rattle.bodies.proofs.Leaves.{low-bits}
-use Rattle.bodies.proofs.Tokens.{skip-law}
+use Rattle.compiler_laws.specs.InsideFunction.{Inside, skipC}
+use Rattle.compiler_laws.specs.Cells.{defined}
+use Rattle.compiler_laws.proofs.ScopesBalanced.{balanced-define, balanced-bare, balanced-valued, balanced-expression}
+use Rattle.compiler_laws.proofs.StepsInOrder.{inside-after}
+use Rattle.compiler_laws.proofs.ConstantLeaves.{low-bits}
+use Rattle.compiler_laws.proofs.Tokens.{skip-law}
 use Rattle.book_compiler.specs.Represents.{Memory, partOf, Represents, Does}
 use Rattle.book_compiler.specs.Leaves.{OnCode, DefinesLocal, PushesError}
 use Rattle.book_compiler.specs.Members.{token, MeetsE, MeetsVariable, MeetsVariables}

@@ -14,10 +14,10 @@ use Rattle.building.specs.declared.scopes.Found.{Found}
 use Rattle.building.specs.declared.taking.Taken.{Taken}
 use Rattle.building.specs.Taking.{Took}
 use Rattle.building.specs.Found.{foundOf, findContextLocalC}
-use Rattle.documents.specs.declared.book.Book as struct
-use Rattle.documents.specs.Deeds.{ErrorsDo, ConstantsPlace, LocalsSeek, LocalsValue}
-use Rattle.documents.specs.Including.{findPairC, includedC, AsksMode}
-use Rattle.documents.specs.Modelling.{InsertsMethod, CopiesMethods, Publishes, modelAtC}
+use Rattle.compiler_laws.specs.declared.book.Book as struct
+use Rattle.compiler_laws.specs.BookSteps.{ErrorsDo, ConstantsPlace, LocalsSeek, LocalsValue}
+use Rattle.compiler_laws.specs.IncludeSteps.{findPairC, includedC, AsksMode}
+use Rattle.compiler_laws.specs.ModelSteps.{InsertsMethod, CopiesMethods, Publishes, modelAtC}
 use Rattle.book_compiler.specs.RepresentsBook.{BookMemory, areaOf, OnArea}
 
 -- `push_error`, `add_constant`

@@ -23,12 +23,12 @@ use Rattle.definition.specs.Promise.{areas, Compiles}
 use Rattle.definition_laws.proofs.Limits.{LimitedDocument}
 use Rattle.building.specs.declared.taking.Taken.{Taken}
 use Rattle.building.specs.Held.{Filled, Marks, Sized}
-use Rattle.documents.specs.declared.book.Book as struct
-use Rattle.documents.specs.Shelf.{Fitted}
-use Rattle.books.specs.Sets.{Ascends}
-use Rattle.books.specs.Solving.{bookUnit, placeUnit, Distinct, Stands, FindsReady, Brings}
-use Rattle.books.specs.Driving.{Zero, Rings, Accepted, MarkedFrom}
-use Rattle.books.specs.Finishing.{totals, markRefusal}
+use Rattle.compiler_laws.specs.declared.book.Book as struct
+use Rattle.compiler_laws.specs.BookAreas.{Fitted}
+use Rattle.compiler_laws.specs.FileSets.{Ascends}
+use Rattle.compiler_laws.specs.SolverSteps.{bookUnit, placeUnit, Distinct, Stands, FindsReady, Brings}
+use Rattle.compiler_laws.specs.BooksInOrder.{Zero, Rings, Accepted, MarkedFrom}
+use Rattle.compiler_laws.specs.CallEnd.{totals, markRefusal}
 use Rattle.book_compiler.specs.declared.order.Next.{Next}
 use Rattle.book_compiler.specs.Represents.{Replaced}
 use Rattle.book_compiler.specs.RepresentsBook.{BookMemory, bookLaid, areaOf, bookView, RepresentsContext}

@@ -19,13 +19,13 @@ use Rattle.definition.specs.Within.{All}
 use Rattle.building.specs.declared.scopes.Found.{Found}
 use Rattle.building.specs.declared.taking.Taken.{Taken}
 use Rattle.building.specs.Taking.{Took}
-use Rattle.documents.specs.declared.book.Book as struct
-use Rattle.documents.specs.Shelf.{Shelved}
-use Rattle.documents.specs.Deeds.{Valuable, Located}
-use Rattle.documents.specs.Adding.{Bounded}
-use Rattle.documents.specs.Implementing.{implementing, implementingAll, numbered}
-use Rattle.documents.specs.Modelling.{placeModel}
-use Rattle.documents.proofs.Counts.{withModelCount, withPropertyCount}
+use Rattle.compiler_laws.specs.declared.book.Book as struct
+use Rattle.compiler_laws.specs.BookAreas.{Shelved}
+use Rattle.compiler_laws.specs.BookSteps.{Valuable, Located}
+use Rattle.compiler_laws.specs.AddingFunctions.{Bounded}
+use Rattle.compiler_laws.specs.ImplementSteps.{implementing, implementingAll, numbered}
+use Rattle.compiler_laws.specs.ModelSteps.{placeModel}
+use Rattle.compiler_laws.proofs.BookCounts.{withModelCount, withPropertyCount}
 use Rattle.book_compiler.specs.RepresentsBook.{BookMemory, RepresentsBook, OnArea, SimulatesBook, SimulatesPlaced, SimulatesSought}
 
 -- of a context local that was found: it is the definition's, where nothing is full

@@ -19,9 +19,9 @@ use Rattle.building.specs.declared.function_state.FunctionState.{FunctionState}
 use Rattle.building.specs.declared.scopes.Found.{Found}
 use Rattle.building.specs.Found.{foundOf}
 use Rattle.building.specs.Held.{LocalsHeld, isOpen}
-use Rattle.documents.specs.declared.book.Book as struct
-use Rattle.documents.specs.Deeds.{AddedLocal}
-use Rattle.documents.specs.Adding.{Bounded, ended, baseOf, AddsFunction}
+use Rattle.compiler_laws.specs.declared.book.Book as struct
+use Rattle.compiler_laws.specs.BookSteps.{AddedLocal}
+use Rattle.compiler_laws.specs.AddingFunctions.{Bounded, ended, baseOf, AddsFunction}
 use Rattle.book_compiler.specs.Represents.{Memory, laid, Represents}
 use Rattle.book_compiler.specs.RepresentsBook.{BookMemory, bookLaid, areaOf, RepresentsBook, OnArea}
 

@@ -16,7 +16,7 @@ use Rattle.building.specs.Found.{foundOf, findContextLocalC}
 use Rattle.building.specs.Emission.{Coded, coded, Breaking, breaking, lastPositionC, nextC, patchC}
 use Rattle.building.specs.Scopes.{Naming, naming, findLocalC, Defines}
 use Rattle.building.specs.Pool.{pooling, addConstantC, markGlobalC, erring, pushErrorC}
-use Rattle.bodies.specs.Cells.{defined}
+use Rattle.compiler_laws.specs.Cells.{defined}
 use Rattle.book_compiler.specs.Represents.{Memory, partOf, On}
 
 -- a method over the code alone

@@ -12,8 +12,8 @@ use Rattle.definition.specs.Compiler.{Work, next, emit, emitOpcode, skip, infix
 use Rattle.definition.specs.Compiler.{compilePrefixExpression, compileInfixExpression, compileIfExpression, compilePart, compileNoPart, compileStatement}
 use Rattle.definition.specs.Compiler.{compileStatements, compileVariables, compileBare, compileValued, compileForStatement}
 use Rattle.tree.specs.At.{Head, Leaf, ExpressionAt, ExpressionsAt, VariablesAt, StatementAt, StatementsAt, sizeE, sizeEs, sizeVs, sizeS, sizeSs}
-use Rattle.bodies.specs.Meets.{Counted, operated}
-use Rattle.bodies.specs.Looping.{loopStart, loopHead, loopDefined, loopNext, loopName, Around, loopEnd}
+use Rattle.compiler_laws.specs.InsideFunction.{Counted, operated}
+use Rattle.compiler_laws.specs.ForStatements.{loopStart, loopHead, loopDefined, loopNext, loopName, Around, loopEnd}
 use Rattle.building.specs.declared.function_state.FunctionState.{FunctionState}
 use Rattle.building.specs.Held.{isOpen}
 use Rattle.book_compiler.specs.declared.statements.LoopEntry.{LoopEntry}

@@ -12,7 +12,7 @@ use Rattle.definition.specs.Compiler.{Work, Step}
 use Rattle.definition.specs.Program.{Entries}
 use Rattle.building.specs.declared.function_state.FunctionState.{FunctionState}
 use Rattle.building.specs.Held.{Machine, machine, Held}
-use Rattle.bodies.specs.Meets.{Inside}
+use Rattle.compiler_laws.specs.InsideFunction.{Inside}
 
 -- the state of a function, the table of starts, and the memory's words
 pub record Memory : Type 0 where

@@ -17,9 +17,9 @@ use Rattle.definition.specs.Within.{All}
 use Rattle.definition_laws.proofs.Limits.{LimitedFunction, LimitedDocument, functionsIn}
 use Rattle.building.specs.declared.scopes.Found.{Found}
 use Rattle.building.specs.Found.{foundOf}
-use Rattle.documents.specs.declared.book.Book as struct
-use Rattle.documents.specs.Shelf.{Shelf, shelf, Keeping, Shelved}
-use Rattle.documents.specs.Documents.{openedBook, nobody}
+use Rattle.compiler_laws.specs.declared.book.Book as struct
+use Rattle.compiler_laws.specs.BookAreas.{Shelf, shelf, Keeping, Shelved}
+use Rattle.compiler_laws.specs.OpenedBooks.{openedBook, nobody}
 use Rattle.book_compiler.specs.Represents.{Replaced}
 
 -- the book's counts, the table of starts, and the memory's words

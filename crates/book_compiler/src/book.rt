@@ -1,15 +1,30 @@
 // The book under compilation over one memory: its errors and constants, each lent its part. The entry of area i has the words from starts[i] on.
 ghost use mathlib.Core.Path.{_≡_};
-ghost use Rattle.words.specs.Record.{tokenAt};
+ghost use Rattle.words.specs.Record.{tokenAt, kindAt, positionAt, valueAt};
+ghost use Rattle.building.specs.Pool.{erring, pushErrorC};
 ghost use Rattle.building.specs.State.{begun};
-ghost use Rattle.documents.specs.Deeds.{resumedBook};
+ghost use Rattle.compiler_laws.specs.BookSteps.{resumedBook};
 ghost use Rattle.book_compiler.specs.RepresentsBook.{bookLaid};
 ghost use Rattle.book_compiler.specs.BookLeaves.{PushesBookError, AddsBookConstant};
 use building::function_state;
 use building::function_state::FunctionState;
 use building::pool;
-use documents::book::Book;
-use documents::book::Placed;
+use building::scopes::Found;
+use compiler_laws::book::Book;
+use words::record;
+use words::record::field;
+
+// A constant's number, with the book.
+pub struct Placed {
+    pub place: u64,
+    pub book: Book,
+}
+
+// What may be found, with the book.
+pub struct Sought {
+    pub found: Found,
+    pub book: Book,
+}
 
 // The state that functions, constants and errors work on, and back.
 pub(crate) fn working(book: Book) -> FunctionState
@@ -29,6 +44,23 @@ pub(crate) fn resumed(book: Book, state: FunctionState) -> Book
     b
 }
 
+// An error at the token that a record is, with the state that errors work on.
+fn fault(
+    tree: &[u64],
+    at: usize,
+    errors: &mut [u64],
+    state: FunctionState,
+    number: u64,
+) -> FunctionState
+    ensures { λ r. ⌜ erring r (now (errors .exit)) ≡ pushErrorC number (positionAt (now (tree .entry)) at) (kindAt (now (tree .entry)) at)
+        (valueAt (now (tree .entry)) at) state (now (errors .entry)) ⌝ }
+{
+    let kind = field(tree, at, record::KIND);
+    let position = field(tree, at, record::POSITION);
+    let value = field(tree, at, record::VALUE);
+    pool::push_error(errors, state, number, position, kind, value)
+}
+
 // An error at the token that a record is.
 pub(crate) fn push_error(
     starts: &[usize; 15],
@@ -46,7 +78,7 @@ pub(crate) fn push_error(
     if start <= end {
         if end <= memory.len() {
             let before = working(book);
-            let state = bodies::fault(tree, at, &mut memory[start..end], before, number);
+            let state = fault(tree, at, &mut memory[start..end], before, number);
             return resumed(book, state);
         }
     }

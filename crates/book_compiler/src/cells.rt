@@ -13,7 +13,7 @@ ghost use Rattle.words.specs.Areas.{entryField};
 ghost use Rattle.building.specs.State.{withCode, withConstants, withScope, withDepth, withLoop};
 ghost use Rattle.book_compiler.specs.Leaves.{PushesBreak};
 ghost use Prim.Native.Nat.{min};
-ghost use Rattle.bodies.specs.Cells.{stateOf, wordsOf, defined, flagWord};
+ghost use Rattle.compiler_laws.specs.Cells.{stateOf, wordsOf, defined, flagWord};
 use building::function_state;
 use building::function_state::FunctionState;
 use building::pool;

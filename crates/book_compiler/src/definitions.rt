@@ -5,7 +5,8 @@ use crate::implements;
 use crate::includes;
 use crate::locals;
 use crate::models;
-use documents::book::Book;
+use crate::subtree;
+use compiler_laws::book::Book;
 use words::record;
 use words::record::field;
 
@@ -67,7 +68,7 @@ fn compile_definitions(
     let mut i = at;
     let mut b = book;
     while i < end {
-        let next = bodies::skip(tree, i, end);
+        let next = subtree::skip(tree, i, end);
         b = compile_definition(tree, i, next, starts, memory, b);
         i = next;
     }

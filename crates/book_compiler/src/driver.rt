@@ -6,8 +6,8 @@ ghost use lib.ListN.{length, replicate};
 ghost use Prim.Native.Nat.{_/_, _≤_};
 ghost use Rattle.words.specs.Areas.{constantsArea, booksArea};
 ghost use Rattle.words.specs.Record.{mostRecords};
-ghost use Rattle.books.specs.Solving.{TakesBooks, Narrows};
-ghost use Rattle.books.specs.Driving.{Fronts, Fresh, FirstConstants, begunBook};
+ghost use Rattle.compiler_laws.specs.SolverSteps.{TakesBooks, Narrows};
+ghost use Rattle.compiler_laws.specs.BooksInOrder.{Fronts, Fresh, FirstConstants, begunBook};
 ghost use Rattle.book_compiler.specs.RepresentsBook.{bookLaid};
 ghost use Rattle.book_compiler.specs.BookOrder.{LentPart, Drives, Works, Runs};
 use crate::definitions::compile_document;
@@ -15,10 +15,11 @@ use crate::ending;
 use crate::ending::Ended;
 use crate::order;
 use crate::solver;
+use crate::subtree;
 use building::scopes::Found;
 use building::taking;
 use building::taking::Taken;
-use documents::book::Book;
+use compiler_laws::book::Book;
 use tree::Shape;
 use words::areas;
 use words::record;
@@ -165,7 +166,7 @@ fn drive(
                 place,
             };
         }
-        let last = bodies::skip(tree, next.at, end);
+        let last = subtree::skip(tree, next.at, end);
         b = compile_document(tree, next.at, last, starts, memory, b, done as u64);
         if b.full != 0 {
             return Ended {

@@ -3,11 +3,11 @@
 ghost use mathlib.Core.Path.{_≡_};
 ghost use Rattle.words.specs.Areas.{constantsArea};
 ghost use Rattle.words.specs.Reply.{delivery};
-ghost use Rattle.books.specs.Driving.{markOf, MarkedFrom};
-ghost use Rattle.books.specs.Finishing.{totals, markRefusal};
+ghost use Rattle.compiler_laws.specs.BooksInOrder.{markOf, MarkedFrom};
+ghost use Rattle.compiler_laws.specs.CallEnd.{totals, markRefusal};
 ghost use Rattle.book_compiler.specs.RepresentsBook.{bookLaid};
 ghost use Rattle.book_compiler.specs.BookOrder.{ReadsPart, ClearsPart, ClearsButErrors, Finishes};
-use documents::book::Book;
+use compiler_laws::book::Book;
 use words::areas;
 use words::reply;
 use words::reply::Reply;

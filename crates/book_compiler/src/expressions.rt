@@ -1,18 +1,19 @@
 // The compilers of expressions. `start` and `count` are those of the book's context locals.
+ghost use mathlib.Core.Path.{_≡_};
 ghost use Rattle.words.specs.Codes.{numberOf};
 ghost use Rattle.words.specs.Object.{constantOf};
 ghost use Rattle.words.specs.Opcode.{PushConstant};
 ghost use Rattle.definition.specs.Compiler.{emitConstant, emitGlobal, emitName};
-ghost use Rattle.bodies.specs.Cells.{stateOf};
+ghost use Rattle.compiler_laws.specs.Cells.{stateOf};
 ghost use Rattle.book_compiler.specs.Represents.{laid, Acts, Does};
 ghost use Rattle.book_compiler.specs.Members.{MeetsLeaf, MeetsE, MeetsInfix, MeetsIf, MeetsTarget};
+ghost use Rattle.compiler_laws.specs.InsideFunction.{standingOf};
 use crate::cells;
 use crate::function_state;
 use crate::operations::finish_expression;
 use crate::operations::operation;
 use crate::statements::compile_block;
-use bodies::skip;
-use bodies::standing;
+use crate::subtree::skip;
 use building::scopes::Found;
 use words::object;
 use words::opcode::OpCode;
@@ -390,4 +391,17 @@ fn compile_if_expression(
         }
         return;
     }
+}
+
+// The constant that null and the booleans are.
+pub(crate) fn standing(kind: u64, value: u64) -> u64
+    ensures { λ r. ⌜ r ≡ standingOf kind value ⌝ }
+{
+    if kind == record::BOOLEAN {
+        if value == 1 {
+            return 1;
+        }
+        return 2;
+    }
+    0
 }

@@ -4,7 +4,7 @@ ghost use Rattle.words.specs.Codes.{codeWord, numberOf};
 ghost use Rattle.words.specs.Opcode.{word, toInstruction};
 ghost use Rattle.building.specs.Emission.{emitC, emitLastC, emitNullC, removePopC, emitReturnC, replaceC, emitBreakC, exitBreakC};
 ghost use Rattle.building.specs.Scopes.{exitScopeC};
-ghost use Rattle.bodies.specs.Cells.{stateOf};
+ghost use Rattle.compiler_laws.specs.Cells.{stateOf};
 ghost use Rattle.book_compiler.specs.Represents.{laid};
 ghost use Rattle.book_compiler.specs.Leaves.{OnCode, OnNames, OnBreaks, GivesUpBreaks, DefinesLocal, AddsConstant, MarksGlobal, PushesError};
 ghost use Rattle.book_compiler.specs.Leaves.{LastPosition, FindsLocal, FindsContextLocal, WaitingBreak, OnBoth, patched};

@@ -4,8 +4,9 @@ ghost use Rattle.book_compiler.specs.DefinitionSteps.{ImplementsFunction
 use crate::functions;
 use crate::methods;
 use crate::models;
+use crate::subtree;
 use building::scopes::Found;
-use documents::book::Book;
+use compiler_laws::book::Book;
 use words::record;
 use words::record::field;
 
@@ -24,7 +25,7 @@ fn implement_functions(
     let mut i = at;
     let mut b = book;
     while i < end {
-        let next = bodies::skip(tree, i, end);
+        let next = subtree::skip(tree, i, end);
         b = functions::implement_function(tree, i, next, starts, memory, b);
         i = next;
     }
@@ -55,7 +56,7 @@ fn implement_methods(
         let name = field(tree, i, record::VALUE);
         b = methods::insert_method(starts, memory, b, model, name, f as u64);
         f += 1;
-        i = bodies::skip(tree, i, end);
+        i = subtree::skip(tree, i, end);
     }
     b
 }

@@ -1,5 +1,4 @@
-// `backend/compiler.rs` and `backend/dependency_solver.rs` over one lent memory: parts by number, the state of a function in cells. It grows beside `bodies`,
-// `documents` and `books`, which it is to replace.
+// `backend/compiler.rs` and `backend/dependency_solver.rs` over one lent memory: parts by number, the state of a function in cells.
 ghost use Rattle.book_compiler.specs.Promise.{CompilesInto};
 
 mod book;
@@ -20,6 +19,7 @@ mod order;
 mod pairs;
 mod solver;
 mod statements;
+mod subtree;
 
 use memory::starts_of;
 use words::areas;

@@ -1,15 +1,16 @@
 // `backend/compiler.rs`: a book's context locals (area 7) and `compile_local_definition` over one memory.
 ghost use Prim.Native.Nat.{_+_};
 ghost use Rattle.definition.specs.Book.{defineContextLocal};
-ghost use Rattle.documents.specs.Deeds.{LocalsSeek, LocalsValue};
+ghost use Rattle.compiler_laws.specs.BookSteps.{LocalsSeek, LocalsValue};
 ghost use Rattle.book_compiler.specs.RepresentsBook.{bookLaid};
 ghost use Rattle.book_compiler.specs.BookLeaves.{DefinesContextLocal, SetsLocalValue};
 ghost use Rattle.book_compiler.specs.DefinitionSteps.{AddsLocalValue, GivesLocalValue, CompilesBinding, CompilesLocalDefinition};
 use crate::book;
+use crate::book::Sought;
+use crate::expressions;
 use building::context;
 use building::scopes::Found;
-use documents::book::Book;
-use documents::book::Sought;
+use compiler_laws::book::Book;
 use words::object;
 use words::record;
 use words::record::field;
@@ -128,7 +129,7 @@ fn give_value(
 {
     let kind = field(tree, at, record::KIND);
     let value = field(tree, at, record::VALUE);
-    let constant = bodies::standing(kind, value);
+    let constant = expressions::standing(kind, value);
     if kind == record::NULL {
         set_value(starts, memory, book, found, constant);
         return book;

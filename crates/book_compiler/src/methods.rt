@@ -1,12 +1,12 @@
 // A book's methods (area 6) over one memory.
 ghost use mathlib.Core.Path.{_≡_};
-ghost use Rattle.documents.specs.Modelling.{InsertsMethod, CopiesMethod, CopiesMethods};
+ghost use Rattle.compiler_laws.specs.ModelSteps.{InsertsMethod, CopiesMethod, CopiesMethods};
 ghost use Rattle.book_compiler.specs.RepresentsBook.{bookLaid};
 ghost use Rattle.book_compiler.specs.BookLeaves.{InsertsBookMethod, CopiesBookMethods};
 use crate::pairs;
 use building::scopes::Found;
 use building::taking;
-use documents::book::Book;
+use compiler_laws::book::Book;
 use words::areas;
 
 // The word of a method's entry that is its function.

@@ -1,21 +1,21 @@
 // `backend/compiler.rs`: models, their properties and public names, `compile_model_definition` and `compile_apply_definition` over one memory.
 ghost use mathlib.Core.Path.{_≡_};
 ghost use Rattle.building.specs.Found.{foundOf};
-ghost use Rattle.documents.specs.Modelling.{Publishes, modelAtC};
+ghost use Rattle.compiler_laws.specs.ModelSteps.{Publishes, modelAtC};
 ghost use Rattle.book_compiler.specs.RepresentsBook.{bookLaid};
 ghost use Rattle.book_compiler.specs.BookLeaves.{PublishesName, FindsProperty, FindsBookLocal, FindsLocalModel};
 ghost use Rattle.book_compiler.specs.DefinitionSteps.{TakesProperty, TakesModel, AddsModelProperty, AddsModelProperties, AddsModel};
 ghost use Rattle.book_compiler.specs.DefinitionSteps.{CompilesModelDefinition, FindsModelIndex, CompilesApplyDefinition};
 use crate::book;
+use crate::book::Placed;
+use crate::book::Sought;
 use crate::locals;
 use crate::methods;
 use crate::pairs;
 use building::context;
 use building::scopes::Found;
 use building::taking;
-use documents::book::Book;
-use documents::book::Placed;
-use documents::book::Sought;
+use compiler_laws::book::Book;
 use words::areas;
 use words::object;
 use words::record;

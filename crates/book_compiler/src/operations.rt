@@ -1,8 +1,8 @@
 // What an expression does when its parts are there: operations, lists, calls, and what is read of an instance or by an index.
 ghost use mathlib.Core.Path.{_≡_};
 ghost use Prim.Native.Nat.{_-_};
-ghost use Rattle.bodies.specs.Cells.{stateOf};
-ghost use Rattle.bodies.specs.Meets.{operationOf};
+ghost use Rattle.compiler_laws.specs.Cells.{stateOf};
+ghost use Rattle.compiler_laws.specs.InsideFunction.{operationOf};
 ghost use Rattle.book_compiler.specs.Represents.{laid};
 ghost use Rattle.book_compiler.specs.Members.{Operates, Finishes};
 use crate::function_state;

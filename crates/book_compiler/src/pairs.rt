@@ -1,7 +1,7 @@
 // Searches in an area by the first two words of an entry.
 ghost use mathlib.Core.Path.{_≡_};
 ghost use Rattle.building.specs.Found.{foundOf};
-ghost use Rattle.documents.specs.Including.{isPair, findPairC};
+ghost use Rattle.compiler_laws.specs.IncludeSteps.{isPair, findPairC};
 use building::scopes::Found;
 use words::areas;
 

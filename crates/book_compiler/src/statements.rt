@@ -1,15 +1,15 @@
 // The compilers of statements. `start` and `count` are those of the book's context locals.
 ghost use mathlib.Core.Path.{_≡_};
 ghost use Rattle.definition.specs.Compiler.{compileRescue};
-ghost use Rattle.bodies.specs.Cells.{stateOf};
-ghost use Rattle.bodies.specs.Looping.{foundOrZero};
+ghost use Rattle.compiler_laws.specs.Cells.{stateOf};
+ghost use Rattle.compiler_laws.specs.ForStatements.{foundOrZero};
 ghost use Rattle.book_compiler.specs.Represents.{laid, Acts};
 ghost use Rattle.book_compiler.specs.Members.{token, LoopStarts, LoopHead, LoopName, LoopEnd, MeetsS, MeetsBlock, MeetsFor};
 use crate::cells;
 use crate::expressions;
 use crate::expressions::compile_expression;
 use crate::function_state;
-use bodies::skip;
+use crate::subtree::skip;
 use building::function_state::FunctionState;
 use building::scopes::Found;
 use words::object;

@@ -2,4 +2,4 @@
 use Rattle.clover_back_end.specs.declared.Version.{Version}
 
 unfoldable pub thisVersion : Version
-thisVersion = record { version = 3; layout = 3 }
+thisVersion = record { version = 4; layout = 4 }

@@ -1,6 +1,6 @@
 // The static library: what a Rust or C program calls (docs/FORMAT.md, 'The static library'). Each function is another crate's routine under a name of
 // its own; a slice is a pointer and a length.
-use books::compile;
+use book_compiler::compile;
 use column_files::Converted;
 use column_files::columns_to_records;
 use column_files::records_to_columns;
@@ -13,7 +13,7 @@ use tree::Shape;
 use tree::check;
 use words::reply::Reply;
 use words::reply::Totals;
-ghost use Rattle.definition.specs.Promise.{areas, Compiles};
+ghost use Rattle.book_compiler.specs.Promise.{CompilesInto};
 ghost use Rattle.definition.specs.ProgramCheck.{programFault};
 ghost use Rattle.program_check.specs.Answer.{answerOf};
 ghost use Rattle.program_check.specs.Parts.{lent};
@@ -30,9 +30,9 @@ ghost use Rattle.clover_back_end.specs.Modes.{isStrict};
 ghost use Rattle.clover_back_end.specs.Versions.{thisVersion};
 
 // Counts releases of the library: one more whenever an answer may be another than before.
-const VERSION: u64 = 3;
+const VERSION: u64 = 4;
 // Counts forms of what goes in and out (docs/FORMAT.md, 'Version and layout').
-const LAYOUT: u64 = 3;
+const LAYOUT: u64 = 4;
 
 // What the shape check and the program check answer: the number of a refusal's row and its place, or 0 and 0.
 #[repr(C)]
@@ -164,44 +164,29 @@ pub extern "C" fn clover_errors_in_words(
     errors_in_words(errors, file, table, bytes, out)
 }
 
-// The compile call; a mode of 0 is the present one, anything else is strict (2026-07).
+// The compile call over one memory; a mode of 0 is the present one, anything else is strict (2026-07).
 #[no_mangle]
 pub extern "C" fn clover_compile(
     tree: &[u64],
     mode: u64,
-    code: &mut [u64],
-    constants: &mut [u64],
-    functions: &mut [u64],
-    models: &mut [u64],
-    properties: &mut [u64],
-    methods: &mut [u64],
-    locals: &mut [u64],
-    publics: &mut [u64],
-    names: &mut [u64],
-    breaks: &mut [u64],
-    errors: &mut [u64],
-    books: &mut [u64],
+    lengths: Lengths,
+    memory: &mut [u64],
 ) -> Reply
-    ensures { λ r. ⌜ Compiles (isStrict mode) (now (tree .entry))
-        (areas (now (code .entry)) (now (constants .entry)) (now (functions .entry)) (now (models .entry)) (now (properties .entry)) (now (methods .entry))
-        (now (locals .entry)) (now (publics .entry)) (now (names .entry)) (now (breaks .entry)) (now (errors .entry)) (now (books .entry)))
-        (areas (now (code .exit)) (now (constants .exit)) (now (functions .exit)) (now (models .exit)) (now (properties .exit)) (now (methods .exit))
-        (now (locals .exit)) (now (publics .exit)) (now (names .exit)) (now (breaks .exit)) (now (errors .exit)) (now (books .exit))) r ⌝ }
+    ensures { λ r. ⌜ CompilesInto (isStrict mode) (now (tree .entry)) (lengthsOf lengths) (now (memory .entry)) (now (memory .exit)) r ⌝ }
 {
-    compile(
-        tree,
-        mode != 0,
-        code,
-        constants,
-        functions,
-        models,
-        properties,
-        methods,
-        locals,
-        publics,
-        names,
-        breaks,
-        errors,
-        books,
-    )
+    let words = [
+        lengths.code,
+        lengths.constants,
+        lengths.functions,
+        lengths.models,
+        lengths.properties,
+        lengths.methods,
+        lengths.context_locals,
+        lengths.public_names,
+        lengths.scope_names,
+        lengths.breaks,
+        lengths.errors,
+        lengths.books,
+    ];
+    compile(tree, mode != 0, words, memory)
 }

@@ -1,6 +1,9 @@
 // 01's program `listing`: a column file on standard input, the listing of what it compiles to on standard output. The sizes of its buffers stand in
 // docs/FORMAT.md; a longer input answers 9, place 0, and so does a listing that is too long or has a number too wide. It compiles in the present mode.
-use books::compile;
+ghost use Prim.Native.Nat.{_≤_};
+ghost use lib.ListN.{length};
+use book_compiler::compile;
+use column_files::Converted;
 use column_files::columns_to_records;
 use column_lines::line::LINE_LENGTH;
 use libc::STDIN_FILENO;
@@ -18,6 +21,28 @@ const MOST_WORDS: usize = MOST_RECORDS * 4;
 const MOST_TEXT: usize = 65490;
 
 const LISTING_LINE: usize = 74;
+
+// Areas of 1,000 entries each, one after the other in one memory: where they end. Nothing is shown of areas 8 and 9, public names and scope names, but that
+// area 10 ends behind them.
+const CODE_END: usize = 2000;
+
+const CONSTANTS_END: usize = 5000;
+
+const FUNCTIONS_END: usize = 13000;
+
+const MODELS_END: usize = 15000;
+
+const PROPERTIES_END: usize = 17000;
+
+const METHODS_END: usize = 20000;
+
+const LOCALS_END: usize = 24000;
+
+const BREAKS_END: usize = 30000;
+
+const ERRORS_END: usize = 34000;
+
+const BOOKS_END: usize = 35000;
 
 // The line of a refusal without errors.
 fn refuse(number: u64, place: u64) {
@@ -43,32 +68,30 @@ fn refuse(number: u64, place: u64) {
     }
 }
 
-fn show(
-    reply: Reply,
-    code: &[u64],
-    constants: &[u64],
-    functions: &[u64],
-    models: &[u64],
-    properties: &[u64],
-    methods: &[u64],
-    locals: &[u64],
-    errors: &[u64],
-    books: &[u64],
-) {
-    let mut text = [0u8; MOST_TEXT];
-    let answer = write(
+// The listing of a reply and the areas in a memory.
+fn write_areas(reply: Reply, memory: &[u64], text: &mut [u8]) -> Converted
+    requires { ⌜ 35000 ≤ length (now memory) ⌝ }
+{
+    write(
         reply,
-        code,
-        constants,
-        functions,
-        models,
-        properties,
-        methods,
-        locals,
-        errors,
-        books,
-        &mut text,
-    );
+        &memory[0..CODE_END],
+        &memory[CODE_END..CONSTANTS_END],
+        &memory[CONSTANTS_END..FUNCTIONS_END],
+        &memory[FUNCTIONS_END..MODELS_END],
+        &memory[MODELS_END..PROPERTIES_END],
+        &memory[PROPERTIES_END..METHODS_END],
+        &memory[METHODS_END..LOCALS_END],
+        &memory[BREAKS_END..ERRORS_END],
+        &memory[ERRORS_END..BOOKS_END],
+        text,
+    )
+}
+
+fn show(reply: Reply, memory: &[u64])
+    requires { ⌜ 35000 ≤ length (now memory) ⌝ }
+{
+    let mut text = [0u8; MOST_TEXT];
+    let answer = write_areas(reply, memory, &mut text);
     let total = answer.total;
     if answer.number == 0 {
         if total <= MOST_TEXT {
@@ -79,48 +102,24 @@ fn show(
     refuse(AREA_FULL, 0);
 }
 
-// Areas of 1,000 entries each.
 fn compile_and_show(tree: &[u64]) {
-    let mut code = [0u64; 2000];
-    let mut constants = [0u64; 3000];
-    let mut functions = [0u64; 8000];
-    let mut models = [0u64; 2000];
-    let mut properties = [0u64; 2000];
-    let mut methods = [0u64; 3000];
-    let mut locals = [0u64; 4000];
-    let mut publics = [0u64; 3000];
-    let mut names = [0u64; 2000];
-    let mut breaks = [0u64; 1000];
-    let mut errors = [0u64; 4000];
-    let mut books = [0u64; 1000];
-    let reply = compile(
-        tree,
-        false,
-        &mut code,
-        &mut constants,
-        &mut functions,
-        &mut models,
-        &mut properties,
-        &mut methods,
-        &mut locals,
-        &mut publics,
-        &mut names,
-        &mut breaks,
-        &mut errors,
-        &mut books,
-    );
-    show(
-        reply,
-        &code,
-        &constants,
-        &functions,
-        &models,
-        &properties,
-        &methods,
-        &locals,
-        &errors,
-        &books,
-    );
+    let mut memory = [0u64; BOOKS_END];
+    let lengths = [
+        2000,
+        3000,
+        8000,
+        2000,
+        2000,
+        3000,
+        4000,
+        3000,
+        2000,
+        1000,
+        4000,
+        1000,
+    ];
+    let reply = compile(tree, false, lengths, &mut memory);
+    show(reply, &memory);
 }
 
 fn list(file: &[u8]) {

@@ -4,8 +4,8 @@
 use Prim.Native.Nat.{ℕ, _+_, _-_, _≤_, _<_}
 use mathlib.Core.Path.{_≡_, refl, sym, _∙_}
 use lib.ListN.{length}
-use Rattle.bodies.specs.Cells.{stateOf}
-use Rattle.bodies.proofs.Tokens.{skip-more, skip-inside}
+use Rattle.compiler_laws.specs.Cells.{stateOf}
+use Rattle.compiler_laws.proofs.Tokens.{skip-more, skip-inside}
 use Rattle.book_compiler.specs.Represents.{Memory, laid}
 use Rattle.book_compiler.specs.Members.{MeetsEs, MeetsList, MeetsSs, MeetsVariables}
 use Rattle.book_compiler.proofs.ExpressionKinds as e
@@ -38,7 +38,7 @@ use Rattle.book_compiler.proofs.+expressions-compile_assign_expression_
 use Rattle.book_compiler.proofs.statements.compile_statement.Reads as statements·compile-statement
 use Rattle.book_compiler.proofs.statements.compile_statement.Kinds as statements·compile-statement-kinds
 use Rattle.book_compiler.proofs.+expressions-compile_assign_expression_left_part+expressions-compile_expression+expressions-compile_if_expression+expressions-compile_infix_expression+statements-compile_block+statements-compile_for_statement+statements-compile_statement.Lts-statements-compile_statement as statements·compile-statement-lts
-use Rattle.bodies.proofs.skip.Reads as skip-reads
+use Rattle.book_compiler.proofs.subtree.skip.Reads as skip-reads
 use Rattle.book_compiler.proofs.cells.deeper.Reads as deeper-reads
 use Rattle.book_compiler.proofs.cells.depth.Reads as depth-reads
 use Rattle.book_compiler.proofs.cells.enter_scope.Reads as enter-scope-reads

@@ -2,7 +2,7 @@
 -- Made from Proof.answers by `answers make`: edit that file, and not this one.
 use Rattle.memory.specs.Layout.{part, withPart}
 use Rattle.book_compiler.proofs.BookParts.{area-part, area-wide, area-back}
-use Rattle.documents.proofs.DeedWays.{constant-places}
+use Rattle.compiler_laws.proofs.BookLeaves.{constant-places}
 use Rattle.book_compiler.proofs.book.add_constant.Statement.{statement}
 use Rattle.book_compiler.proofs.book.add_constant.Tie as tie
 use borrow.Author.Needs.{needs}

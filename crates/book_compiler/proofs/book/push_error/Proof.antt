@@ -2,8 +2,8 @@
 -- Made from Proof.answers by `answers make`: edit that file, and not this one.
 use Rattle.memory.specs.Layout.{part, withPart}
 use Rattle.book_compiler.proofs.BookParts.{area-part, area-wide, area-back}
-use Rattle.bodies.proofs.Leaves.{faults}
-use Rattle.documents.proofs.DeedWays.{fault-deeds}
+use Rattle.compiler_laws.proofs.ConstantLeaves.{faults}
+use Rattle.compiler_laws.proofs.BookLeaves.{fault-deeds}
 use Rattle.words.specs.Record.{tokenAt}
 use Rattle.book_compiler.proofs.book.push_error.Statement.{statement}
 use Rattle.book_compiler.proofs.book.push_error.Tie as tie

@@ -1,7 +1,7 @@
 -- `book_compiler::cells::add_constant` meets its contract: two words are new. Assumes nothing.
 -- Made from Proof.answers by `answers make`: edit that file, and not this one.
-use Rattle.bodies.specs.Cells.{stateOf}
-use Rattle.bodies.proofs.StateWords.{add-words}
+use Rattle.compiler_laws.specs.Cells.{stateOf}
+use Rattle.compiler_laws.proofs.StateWords.{add-words}
 use Rattle.book_compiler.proofs.cells.add_constant.Statement.{statement}
 use Rattle.book_compiler.proofs.cells.add_constant.Tie as tie
 use borrow.Author.Needs.{needs}

@@ -4,8 +4,8 @@ use mathlib.Core.Path.{ap, _∙_}
 use Prim.Native.Nat.{_+_, min}
 use Rattle.building.specs.State.{withDepth, mostDepth}
 use Rattle.building.specs.declared.function_state.FunctionState.{FunctionState}
-use Rattle.bodies.specs.Cells.{stateOf}
-use Rattle.bodies.proofs.StateWords.{depth-kept}
+use Rattle.compiler_laws.specs.Cells.{stateOf}
+use Rattle.compiler_laws.proofs.StateWords.{depth-kept}
 use Rattle.book_compiler.proofs.cells.deeper.Statement.{statement}
 use Rattle.book_compiler.proofs.cells.deeper.Tie as tie
 use borrow.Author.Needs.{needs}

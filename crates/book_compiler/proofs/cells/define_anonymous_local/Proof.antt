@@ -1,6 +1,6 @@
 -- `book_compiler::cells::define_anonymous_local` meets its contract: the state is loaded and stored. Assumes nothing.
 -- Made from Proof.answers by `answers make`: edit that file, and not this one.
-use Rattle.bodies.proofs.StateWords.{stored}
+use Rattle.compiler_laws.proofs.StateWords.{stored}
 use Rattle.book_compiler.proofs.cells.define_anonymous_local.Statement.{statement}
 use Rattle.book_compiler.proofs.cells.define_anonymous_local.Tie as tie
 use borrow.Author.Needs.{needs}

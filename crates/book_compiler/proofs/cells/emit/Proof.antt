@@ -2,8 +2,8 @@
 -- Made from Proof.answers by `answers make`: edit that file, and not this one.
 use Rattle.words.specs.Codes.{codeWord}
 use Rattle.building.specs.Emission.{coded, emitC}
-use Rattle.bodies.specs.Cells.{stateOf}
-use Rattle.bodies.proofs.StateWords.{kept-code, emit-keeps}
+use Rattle.compiler_laws.specs.Cells.{stateOf}
+use Rattle.compiler_laws.proofs.StateWords.{kept-code, emit-keeps}
 use Rattle.book_compiler.proofs.cells.emit.Statement.{statement}
 use Rattle.book_compiler.proofs.cells.emit.Tie as tie
 use borrow.Author.Needs.{needs}

@@ -3,8 +3,8 @@
 use Rattle.words.specs.Object.{NULL}
 use Rattle.words.specs.Opcode.{word, toInstruction, PushConstant}
 use Rattle.building.specs.Emission.{coded, lastPositionC, emitNullC}
-use Rattle.bodies.specs.Cells.{stateOf}
-use Rattle.bodies.proofs.StateWords.{kept-code, emit-keeps}
+use Rattle.compiler_laws.specs.Cells.{stateOf}
+use Rattle.compiler_laws.proofs.StateWords.{kept-code, emit-keeps}
 use Rattle.book_compiler.proofs.cells.emit_null.Statement.{statement}
 use Rattle.book_compiler.proofs.cells.emit_null.Tie as tie
 use borrow.Author.Needs.{needs}

@@ -1,8 +1,8 @@
 -- `book_compiler::cells::emit_return` meets its contract: two words are new. Assumes nothing.
 -- Made from Proof.answers by `answers make`: edit that file, and not this one.
 use Rattle.building.specs.Emission.{coded, emitReturnC}
-use Rattle.bodies.specs.Cells.{stateOf}
-use Rattle.bodies.proofs.StateWords.{kept-code, return-keeps}
+use Rattle.compiler_laws.specs.Cells.{stateOf}
+use Rattle.compiler_laws.proofs.StateWords.{kept-code, return-keeps}
 use Rattle.book_compiler.proofs.cells.emit_return.Statement.{statement}
 use Rattle.book_compiler.proofs.cells.emit_return.Tie as tie
 use borrow.Author.Needs.{needs}

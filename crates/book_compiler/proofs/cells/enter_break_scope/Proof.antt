@@ -1,6 +1,6 @@
 -- `book_compiler::cells::enter_break_scope` meets its contract: the state is loaded and stored. Assumes nothing.
 -- Made from Proof.answers by `answers make`: edit that file, and not this one.
-use Rattle.bodies.proofs.StateWords.{stored}
+use Rattle.compiler_laws.proofs.StateWords.{stored}
 use Rattle.book_compiler.proofs.cells.enter_break_scope.Statement.{statement}
 use Rattle.book_compiler.proofs.cells.enter_break_scope.Tie as tie
 use borrow.Author.Needs.{needs}

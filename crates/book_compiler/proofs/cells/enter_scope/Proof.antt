@@ -3,8 +3,8 @@
 use mathlib.Core.Path.{ap, _∙_}
 use Rattle.building.specs.State.{withScope}
 use Rattle.building.specs.declared.function_state.FunctionState.{FunctionState}
-use Rattle.bodies.specs.Cells.{stateOf}
-use Rattle.bodies.proofs.StateWords.{entered}
+use Rattle.compiler_laws.specs.Cells.{stateOf}
+use Rattle.compiler_laws.proofs.StateWords.{entered}
 use Rattle.book_compiler.proofs.cells.enter_scope.Statement.{statement}
 use Rattle.book_compiler.proofs.cells.enter_scope.Tie as tie
 use borrow.Author.Needs.{needs}

@@ -1,7 +1,7 @@
 -- `book_compiler::cells::exit_scope` meets its contract: two words are new. Assumes nothing.
 -- Made from Proof.answers by `answers make`: edit that file, and not this one.
-use Rattle.bodies.specs.Cells.{stateOf}
-use Rattle.bodies.proofs.StateWords.{kept-scope}
+use Rattle.compiler_laws.specs.Cells.{stateOf}
+use Rattle.compiler_laws.proofs.StateWords.{kept-scope}
 use Rattle.book_compiler.proofs.cells.exit_scope.Statement.{statement}
 use Rattle.book_compiler.proofs.cells.exit_scope.Tie as tie
 use borrow.Author.Needs.{needs}

@@ -1,6 +1,6 @@
 -- `book_compiler::cells::keep_depth` meets its contract: field by field. Assumes nothing.
 -- Made from Proof.answers by `answers make`: edit that file, and not this one.
-use Rattle.bodies.specs.Cells.{stateOf}
+use Rattle.compiler_laws.specs.Cells.{stateOf}
 use Rattle.book_compiler.proofs.cells.keep_depth.Statement.{statement}
 use Rattle.book_compiler.proofs.cells.keep_depth.Tie as tie
 use borrow.Author.Needs.{needs}

@@ -1,7 +1,7 @@
 -- `book_compiler::cells::leave_break_scope` meets its contract: by which count is less. Assumes nothing.
 -- Made from Proof.answers by `answers make`: edit that file, and not this one.
 use mathlib.Core.Path.{_∙_}
-use Rattle.bodies.proofs.StateWords.{stored}
+use Rattle.compiler_laws.proofs.StateWords.{stored}
 use Rattle.book_compiler.proofs.Breaks.{left-few, left-none}
 use Rattle.book_compiler.proofs.cells.leave_break_scope.Statement.{statement}
 use Rattle.book_compiler.proofs.cells.leave_break_scope.Tie as tie

@@ -1,6 +1,6 @@
 -- `book_compiler::cells::push_break` meets its contract: an entry more. Assumes nothing.
 -- Made from Proof.answers by `answers make`: edit that file, and not this one.
-use Rattle.bodies.proofs.StateWords.{stored}
+use Rattle.compiler_laws.proofs.StateWords.{stored}
 use Rattle.book_compiler.proofs.Breaks.{pushed}
 use Rattle.book_compiler.proofs.cells.push_break.Statement.{statement}
 use Rattle.book_compiler.proofs.cells.push_break.Tie as tie

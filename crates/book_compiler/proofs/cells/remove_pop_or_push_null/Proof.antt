@@ -1,8 +1,8 @@
 -- `book_compiler::cells::remove_pop_or_push_null` meets its contract: two words are new. Assumes nothing.
 -- Made from Proof.answers by `answers make`: edit that file, and not this one.
 use Rattle.building.specs.Emission.{coded, removePopC}
-use Rattle.bodies.specs.Cells.{stateOf}
-use Rattle.bodies.proofs.StateWords.{kept-code, remove-keeps}
+use Rattle.compiler_laws.specs.Cells.{stateOf}
+use Rattle.compiler_laws.proofs.StateWords.{kept-code, remove-keeps}
 use Rattle.book_compiler.proofs.cells.remove_pop_or_push_null.Statement.{statement}
 use Rattle.book_compiler.proofs.cells.remove_pop_or_push_null.Tie as tie
 use borrow.Author.Needs.{needs}

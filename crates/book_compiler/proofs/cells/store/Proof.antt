@@ -1,6 +1,6 @@
 -- `book_compiler::cells::store` meets its contract: field by field. Assumes nothing.
 -- Made from Proof.answers by `answers make`: edit that file, and not this one.
-use Rattle.bodies.proofs.StateWords.{words-are}
+use Rattle.compiler_laws.proofs.StateWords.{words-are}
 use Rattle.book_compiler.proofs.cells.store.Statement.{statement}
 use Rattle.book_compiler.proofs.cells.store.Tie as tie
 use borrow.Author.Needs.{needs}

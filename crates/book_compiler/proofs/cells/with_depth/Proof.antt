@@ -3,8 +3,8 @@
 use mathlib.Core.Path.{ap, _∙_}
 use Rattle.building.specs.State.{withDepth}
 use Rattle.building.specs.declared.function_state.FunctionState.{FunctionState}
-use Rattle.bodies.specs.Cells.{stateOf}
-use Rattle.bodies.proofs.StateWords.{depth-kept}
+use Rattle.compiler_laws.specs.Cells.{stateOf}
+use Rattle.compiler_laws.proofs.StateWords.{depth-kept}
 use Rattle.book_compiler.proofs.cells.with_depth.Statement.{statement}
 use Rattle.book_compiler.proofs.cells.with_depth.Tie as tie
 use borrow.Author.Needs.{needs}

@@ -2,7 +2,7 @@
 -- Made from Proof.answers by `answers make`: edit that file, and not this one.
 use Rattle.book_compiler.specs.RepresentsBook.{BookMemory, bookLaid, CompilesDefinitions}
 use Rattle.book_compiler.proofs.DocumentDefinitions.{definitions-end, definitions-more}
-use Rattle.bodies.proofs.Tokens.{skip-more}
+use Rattle.compiler_laws.proofs.Tokens.{skip-more}
 use lib.ListN.{length}
 use mathlib.Core.Path.{_≡_, refl}
 use Prim.Native.Nat.{_-_}

@@ -1,6 +1,6 @@
 -- `book_compiler::driver::check_bundle` meets its contract: a row of the shape's, a book twice, a book missing, and none. Assumes nothing.
 -- Made from Proof.answers by `answers make`: edit that file, and not this one.
-use Rattle.books.proofs.FrontWays.{front-shape, front-twice, front-missing, front-ready}
+use Rattle.compiler_laws.proofs.RowsBeforeWork.{front-shape, front-twice, front-missing, front-ready}
 use Prim.Native.Nat.{ℕ}
 use native.Mathlib.Nat.{sub-zero}
 use lib.ListN.{length, replicate}

@@ -1,6 +1,6 @@
 -- `book_compiler::driver::drive` meets its contract. The invariant: what finishes from here finishes the whole. Assumes nothing.
 -- Made from Proof.answers by `answers make`: edit that file, and not this one.
-use Rattle.documents.proofs.DefinitionWays.{calm-definition}
+use Rattle.compiler_laws.proofs.DefinitionKinds.{calm-definition}
 use Rattle.book_compiler.proofs.BookRounds.{drive-end, drive-ring, round-full, round-faulty, round-more}
 use Rattle.book_compiler.specs.RepresentsBook.{BookMemory, bookLaid}
 use Rattle.book_compiler.specs.BookOrder.{Drives}

@@ -1,6 +1,6 @@
 -- `book_compiler::driver::first_constants` meets its contract. Assumes nothing.
 -- Made from Proof.answers by `answers make`: edit that file, and not this one.
-use Rattle.books.proofs.Beginning.{first-constants}
+use Rattle.compiler_laws.proofs.CallBeginning.{first-constants}
 use Rattle.book_compiler.proofs.driver.first_constants.Statement.{statement}
 use Rattle.book_compiler.proofs.driver.first_constants.Tie as tie
 use borrow.Author.Needs.{needs}

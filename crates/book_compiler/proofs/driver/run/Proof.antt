@@ -4,7 +4,7 @@ use mathlib.Core.Path.{_≡_, subst}
 use mathlib.Core.Bool.{Bool}
 use lib.ListN.{length}
 use Prim.Native.Nat.{_/_}
-use Rattle.books.specs.Solving.{Narrows}
+use Rattle.compiler_laws.specs.SolverSteps.{Narrows}
 use Rattle.book_compiler.proofs.driver.run.Statement.{statement}
 use Rattle.book_compiler.proofs.driver.run.Tie as tie
 use borrow.Author.Needs.{needs}

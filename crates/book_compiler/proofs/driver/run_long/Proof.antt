@@ -1,7 +1,7 @@
 -- `book_compiler::driver::run_long` meets its contract. Assumes nothing.
 -- Made from Proof.answers by `answers make`: edit that file, and not this one.
 use mathlib.Core.Path.{refl}
-use Rattle.books.proofs.FrontWays.{fresh-zeros}
+use Rattle.compiler_laws.proofs.RowsBeforeWork.{fresh-zeros}
 use Rattle.book_compiler.proofs.driver.run_long.Statement.{statement}
 use Rattle.book_compiler.proofs.driver.run_long.Tie as tie
 use borrow.Author.Needs.{needs}

@@ -1,8 +1,8 @@
 -- `book_compiler::driver::work` meets its contract: too many records, no room for the beginning, and the books. Assumes nothing.
 -- Made from Proof.answers by `answers make`: edit that file, and not this one.
-use Rattle.documents.proofs.DefinitionWays.{calm-definition}
+use Rattle.compiler_laws.proofs.DefinitionKinds.{calm-definition}
 use Rattle.book_compiler.proofs.BookBeginning.{work-huge, work-full, work-on}
-use Rattle.documents.specs.declared.book.Book.{Book}
+use Rattle.compiler_laws.specs.declared.book.Book.{Book}
 use mathlib.Core.Path.{ap, _∙_}
 use Rattle.book_compiler.proofs.driver.work.Statement.{statement}
 use Rattle.book_compiler.proofs.driver.work.Tie as tie

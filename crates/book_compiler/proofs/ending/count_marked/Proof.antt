@@ -1,7 +1,7 @@
 -- `book_compiler::ending::count_marked` meets its contract. The invariant: what is counted from here is counted from the start. Assumes nothing.
 -- Made from Proof.answers by `answers make`: edit that file, and not this one.
-use Rattle.books.proofs.Ending.{marked-end, marked-more, mark-small}
-use Rattle.books.specs.Driving.{MarkedFrom}
+use Rattle.compiler_laws.proofs.CallEnd.{marked-end, marked-more, mark-small}
+use Rattle.compiler_laws.specs.BooksInOrder.{MarkedFrom}
 use Prim.Native.Nat.{ℕ, _-_, _≤_}
 use Rattle.book_compiler.proofs.ending.count_marked.Statement.{statement}
 use Rattle.book_compiler.proofs.ending.count_marked.Tie as tie

@@ -1,6 +1,6 @@
 -- `book_compiler::ending::refused_by` meets its contract. Assumes nothing.
 -- Made from Proof.answers by `answers make`: edit that file, and not this one.
-use Rattle.books.proofs.Ending.{refused-full, refused-name}
+use Rattle.compiler_laws.proofs.CallEnd.{refused-full, refused-name}
 use Rattle.book_compiler.proofs.ending.refused_by.Statement.{statement}
 use Rattle.book_compiler.proofs.ending.refused_by.Tie as tie
 use borrow.Author.Needs.{needs}

@@ -7,7 +7,7 @@ use lib.ListN.{length}
 use Rattle.memory.specs.Layout.{Fits}
 use Rattle.words.specs.Codes.{codeWord}
 use Rattle.words.specs.Opcode.{toInstruction, word, Jump}
-use Rattle.bodies.specs.Cells.{stateOf}
+use Rattle.compiler_laws.specs.Cells.{stateOf}
 use Rattle.book_compiler.specs.Represents.{laid}
 use Rattle.book_compiler.proofs.BothParts.{Patching, patching-first, patching-more, patching-end}
 use Rattle.book_compiler.proofs.function_state.patch_breaks.Statement.{statement}

@@ -1,6 +1,6 @@
 -- `book_compiler::functions::add_entry` meets its contract: the function's code stands, and its entry is taken. Assumes nothing.
 -- Made from Proof.answers by `answers make`: edit that file, and not this one.
-use Rattle.documents.proofs.MakingWays.{add-meets}
+use Rattle.compiler_laws.proofs.BuiltFunctions.{add-meets}
 use Rattle.book_compiler.proofs.functions.add_entry.Statement.{statement}
 use Rattle.book_compiler.proofs.functions.add_entry.Tie as tie
 use borrow.Author.Needs.{needs}

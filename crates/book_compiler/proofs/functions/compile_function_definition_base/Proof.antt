@@ -1,7 +1,7 @@
 -- `book_compiler::functions::compile_function_definition_base` meets its contract: the parameters, the body, the return. Assumes nothing.
 -- Made from Proof.answers by `answers make`: edit that file, and not this one.
 use mathlib.Core.Path.{_∙_}
-use Rattle.bodies.proofs.StateWords.{stored}
+use Rattle.compiler_laws.proofs.StateWords.{stored}
 use Rattle.book_compiler.proofs.Parameters.{base-past, base-meets}
 use Rattle.book_compiler.proofs.functions.compile_function_definition_base.Statement.{statement}
 use Rattle.book_compiler.proofs.functions.compile_function_definition_base.Tie as tie

@@ -3,8 +3,8 @@
 use Prim.Native.Nat.{ℕ, _-_}
 use mathlib.Core.Path.{_≡_, refl}
 use lib.ListN.{length}
-use Rattle.bodies.specs.Cells.{stateOf}
-use Rattle.bodies.proofs.Tokens.{skip-more}
+use Rattle.compiler_laws.specs.Cells.{stateOf}
+use Rattle.compiler_laws.proofs.Tokens.{skip-more}
 use Rattle.book_compiler.specs.Represents.{Memory, laid}
 use Rattle.book_compiler.specs.Members.{MeetsSs}
 use Rattle.book_compiler.proofs.StatementKinds.{list-end, list-more}

@@ -1,7 +1,7 @@
 -- `book_compiler::functions::make` meets its contract: with the mark set, and a function from its begin to its end. Assumes nothing.
 -- Made from Proof.answers by `answers make`: edit that file, and not this one.
 use mathlib.Core.Path.{_∙_}
-use Rattle.bodies.proofs.StateWords.{stored}
+use Rattle.compiler_laws.proofs.StateWords.{stored}
 use Rattle.book_compiler.proofs.MakingFunctions.{make-full, make-meets}
 use Rattle.book_compiler.proofs.functions.make.Statement.{statement}
 use Rattle.book_compiler.proofs.functions.make.Tie as tie

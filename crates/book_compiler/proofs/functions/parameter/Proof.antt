@@ -1,7 +1,7 @@
 -- `book_compiler::functions::parameter` meets its contract: with the mark set, a new name, and one that is there. Assumes nothing.
 -- Made from Proof.answers by `answers make`: edit that file, and not this one.
 use mathlib.Core.Path.{_∙_}
-use Rattle.bodies.proofs.StateWords.{stored}
+use Rattle.compiler_laws.proofs.StateWords.{stored}
 use Rattle.book_compiler.proofs.Parameters.{parameter-full, parameter-new, parameter-there}
 use Rattle.book_compiler.proofs.functions.parameter.Statement.{statement}
 use Rattle.book_compiler.proofs.functions.parameter.Tie as tie

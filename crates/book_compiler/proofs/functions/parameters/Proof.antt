@@ -3,7 +3,7 @@
 use Prim.Native.Nat.{ℕ, _-_}
 use mathlib.Core.Path.{_≡_, refl}
 use lib.ListN.{length}
-use Rattle.bodies.specs.Cells.{stateOf}
+use Rattle.compiler_laws.specs.Cells.{stateOf}
 use Rattle.book_compiler.specs.Represents.{Memory, laid}
 use Rattle.book_compiler.specs.FunctionSteps.{CompilesParameters}
 use Rattle.book_compiler.proofs.Parameters.{parameters-end, parameters-more}

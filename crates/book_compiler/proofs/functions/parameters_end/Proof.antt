@@ -1,7 +1,7 @@
 -- `book_compiler::functions::parameters_end` meets its contract. The invariant: where they end from here they end from the start. Assumes nothing.
 -- Made from Proof.answers by `answers make`: edit that file, and not this one.
-use Rattle.documents.proofs.FunctionWays.{ends-past, ends-here, ends-later}
-use Rattle.documents.specs.Making.{ParametersEnd}
+use Rattle.compiler_laws.proofs.FunctionParameters.{ends-past, ends-here, ends-later}
+use Rattle.compiler_laws.specs.MakingFunctions.{ParametersEnd}
 use Prim.Native.Nat.{ℕ, _-_}
 use mathlib.Core.Path.{sym, _∙_}
 use Rattle.book_compiler.proofs.functions.parameters_end.Statement.{statement}

@@ -3,7 +3,7 @@
 use Rattle.book_compiler.specs.RepresentsBook.{BookMemory, bookLaid}
 use Rattle.book_compiler.specs.DefinitionSteps.{ImplementsFunctions}
 use Rattle.book_compiler.proofs.ImplementDefinitions.{functions-end, functions-more}
-use Rattle.bodies.proofs.Tokens.{skip-more}
+use Rattle.compiler_laws.proofs.Tokens.{skip-more}
 use lib.ListN.{length}
 use mathlib.Core.Path.{_≡_, refl}
 use Prim.Native.Nat.{_-_}

@@ -1,7 +1,7 @@
 -- `book_compiler::includes::all_public` meets its contract. The invariant: what is answered of the pairs from here on is answered of all. Assumes nothing.
 -- Made from Proof.answers by `answers make`: edit that file, and not this one.
-use Rattle.documents.proofs.IncludeWays.{asks-end, asks-more, asks-lost}
-use Rattle.documents.specs.Including.{AsksNames}
+use Rattle.compiler_laws.proofs.IncludedNames.{asks-end, asks-more, asks-lost}
+use Rattle.compiler_laws.specs.IncludeSteps.{AsksNames}
 use mathlib.Core.Bool.{Bool}
 use mathlib.Core.Option.{some}
 use borrow.Author.Tests.{not-true, not-false}

@@ -6,7 +6,7 @@ use borrow.Author.Tests.{eq-eqb, ne-eqb}
 use Rattle.words.specs.Areas.{entryField}
 use Rattle.building.specs.Found.{firstFrom}
 use Rattle.building.proofs.OldestFirst.{first-start, first-here, first-next, first-end}
-use Rattle.documents.specs.Including.{isBook}
+use Rattle.compiler_laws.specs.IncludeSteps.{isBook}
 use Rattle.book_compiler.proofs.includes.find_book.Statement.{statement}
 use Rattle.book_compiler.proofs.includes.find_book.Tie as tie
 use borrow.Author.Needs.{needs}

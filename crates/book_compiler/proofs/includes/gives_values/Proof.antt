@@ -1,6 +1,6 @@
 -- `book_compiler::includes::gives_values` meets its contract: a way for each mode and each outcome of the search. Assumes nothing.
 -- Made from Proof.answers by `answers make`: edit that file, and not this one.
-use Rattle.documents.proofs.IncludeWays.{gives-present, gives-known, gives-unknown, gives-past}
+use Rattle.compiler_laws.proofs.IncludedNames.{gives-present, gives-known, gives-unknown, gives-past}
 use borrow.Author.Tests.{not-true, not-false}
 use mathlib.Core.Path.{refl}
 use Rattle.book_compiler.proofs.includes.gives_values.Statement.{statement}

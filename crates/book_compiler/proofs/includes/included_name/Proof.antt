@@ -1,6 +1,6 @@
 -- `book_compiler::includes::included_name` meets its contract: a way for each outcome of its searches. Assumes nothing.
 -- Made from Proof.answers by `answers make`: edit that file, and not this one.
-use Rattle.documents.proofs.IncludeWays.{included-unknown, included-none, included-some}
+use Rattle.compiler_laws.proofs.IncludedNames.{included-unknown, included-none, included-some}
 use Rattle.book_compiler.proofs.includes.included_name.Statement.{statement}
 use Rattle.book_compiler.proofs.includes.included_name.Tie as tie
 use borrow.Author.Needs.{needs}

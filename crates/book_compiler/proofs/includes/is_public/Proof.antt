@@ -1,6 +1,6 @@
 -- `book_compiler::includes::is_public` meets its contract: a way for each outcome of its search. Assumes nothing.
 -- Made from Proof.answers by `answers make`: edit that file, and not this one.
-use Rattle.documents.proofs.IncludeWays.{public-there, public-lost}
+use Rattle.compiler_laws.proofs.IncludedNames.{public-there, public-lost}
 use Rattle.book_compiler.proofs.includes.is_public.Statement.{statement}
 use Rattle.book_compiler.proofs.includes.is_public.Tie as tie
 use borrow.Author.Needs.{needs}

@@ -1,6 +1,6 @@
 -- `book_compiler::locals::define_entry` meets its contract: with the mark set nothing is done. Assumes nothing.
 -- Made from Proof.answers by `answers make`: edit that file, and not this one.
-use Rattle.documents.proofs.DeedWays.{define-full, define-seeks}
+use Rattle.compiler_laws.proofs.BookLeaves.{define-full, define-seeks}
 use Rattle.book_compiler.proofs.locals.define_entry.Statement.{statement}
 use Rattle.book_compiler.proofs.locals.define_entry.Tie as tie
 use borrow.Author.Needs.{needs}

@@ -1,6 +1,6 @@
 -- `book_compiler::locals::set_entry` meets its contract: a way for each outcome of its tests. Assumes nothing.
 -- Made from Proof.answers by `answers make`: edit that file, and not this one.
-use Rattle.documents.proofs.DeedWays.{value-full, value-nothing, value-at}
+use Rattle.compiler_laws.proofs.BookLeaves.{value-full, value-nothing, value-at}
 use Rattle.book_compiler.proofs.locals.set_entry.Statement.{statement}
 use Rattle.book_compiler.proofs.locals.set_entry.Tie as tie
 use borrow.Author.Needs.{needs}

@@ -4,8 +4,8 @@ use Prim.Native.Nat.{ℕ, _-_}
 use mathlib.Core.Path.{_≡_, refl}
 use mathlib.Core.List.{List}
 use lib.ListN.{length}
-use Rattle.documents.specs.declared.book.Book.{Book}
-use Rattle.documents.proofs.ApplyWays.{copies-end, copies-more, copies-done, CopiesFrom}
+use Rattle.compiler_laws.specs.declared.book.Book.{Book}
+use Rattle.compiler_laws.proofs.CopiedMethods.{copies-end, copies-more, copies-done, CopiesFrom}
 use Rattle.book_compiler.proofs.methods.copy_entries.Statement.{statement}
 use Rattle.book_compiler.proofs.methods.copy_entries.Tie as tie
 use borrow.Author.Needs.{needs}

@@ -1,6 +1,6 @@
 -- `book_compiler::methods::copy_entry` meets its contract: with the mark set, with another model's method, and with one of the source. Assumes nothing.
 -- Made from Proof.answers by `answers make`: edit that file, and not this one.
-use Rattle.documents.proofs.ApplyWays.{copy-full, copy-other, copy-one}
+use Rattle.compiler_laws.proofs.CopiedMethods.{copy-full, copy-other, copy-one}
 use Rattle.book_compiler.proofs.methods.copy_entry.Statement.{statement}
 use Rattle.book_compiler.proofs.methods.copy_entry.Tie as tie
 use borrow.Author.Needs.{needs}

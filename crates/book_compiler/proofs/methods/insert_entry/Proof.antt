@@ -1,6 +1,6 @@
 -- `book_compiler::methods::insert_entry` meets its contract: with the mark set, with an entry that is there, and with one more. Assumes nothing.
 -- Made from Proof.answers by `answers make`: edit that file, and not this one.
-use Rattle.documents.proofs.MethodWays.{insert-full, insert-there, insert-new}
+use Rattle.compiler_laws.proofs.InsertedMethods.{insert-full, insert-there, insert-new}
 use Rattle.book_compiler.proofs.methods.insert_entry.Statement.{statement}
 use Rattle.book_compiler.proofs.methods.insert_entry.Tie as tie
 use borrow.Author.Needs.{needs}

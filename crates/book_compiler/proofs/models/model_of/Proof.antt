@@ -1,6 +1,6 @@
 -- `book_compiler::models::model_of` meets its contract: without a value, with another constant, and with a model. Assumes nothing.
 -- Made from Proof.answers by `answers make`: edit that file, and not this one.
-use Rattle.documents.proofs.FindWays.{model-none, model-other, model-here}
+use Rattle.compiler_laws.proofs.ModelsFound.{model-none, model-other, model-here}
 use Rattle.book_compiler.proofs.models.model_of.Statement.{statement}
 use Rattle.book_compiler.proofs.models.model_of.Tie as tie
 use borrow.Author.Needs.{needs}

@@ -1,6 +1,6 @@
 -- `book_compiler::models::publish_entry` meets its contract: with the mark set, with a name that is there, and with one more. Assumes nothing.
 -- Made from Proof.answers by `answers make`: edit that file, and not this one.
-use Rattle.documents.proofs.PublicWays.{publish-full, publish-there, publish-new}
+use Rattle.compiler_laws.proofs.PublishedNames.{publish-full, publish-there, publish-new}
 use Rattle.book_compiler.proofs.models.publish_entry.Statement.{statement}
 use Rattle.book_compiler.proofs.models.publish_entry.Tie as tie
 use borrow.Author.Needs.{needs}

@@ -5,7 +5,7 @@ use mathlib.Core.Path.{_≡_, refl, sym, _∙_}
 use Prim.Native.Nat.{_-_}
 use Rattle.building.specs.Found.{firstFrom}
 use Rattle.building.proofs.OldestFirst.{first-here, first-next, first-end}
-use Rattle.documents.specs.Including.{isPair}
+use Rattle.compiler_laws.specs.IncludeSteps.{isPair}
 use Rattle.book_compiler.proofs.pairs.find_pair.Statement.{statement}
 use Rattle.book_compiler.proofs.pairs.find_pair.Tie as tie
 use native.Mathlib.Omega.{arith}

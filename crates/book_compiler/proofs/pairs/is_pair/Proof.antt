@@ -1,6 +1,6 @@
 -- `book_compiler::pairs::is_pair` meets its contract, by its tests. Assumes nothing.
 -- Made from Proof.answers by `answers make`: edit that file, and not this one.
-use Rattle.documents.proofs.Pairs.{pair-here, pair-other}
+use Rattle.compiler_laws.proofs.MapEntries.{pair-here, pair-other}
 use Rattle.book_compiler.proofs.pairs.is_pair.Statement.{statement}
 use Rattle.book_compiler.proofs.pairs.is_pair.Tie as tie
 use borrow.Author.Needs.{needs}

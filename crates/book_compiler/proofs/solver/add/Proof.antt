@@ -1,7 +1,7 @@
 -- `book_compiler::solver::add` meets its contract: a way for each outcome of its tests. Assumes nothing.
 -- Made from Proof.answers by `answers make`: edit that file, and not this one.
 use mathlib.Core.Path.{sym, _∙_}
-use Rattle.books.proofs.SetBits.{add-there, add-out, add-new}
+use Rattle.compiler_laws.proofs.SetBits.{add-there, add-out, add-new}
 use Rattle.book_compiler.proofs.solver.add.Statement.{statement}
 use Rattle.book_compiler.proofs.solver.add.Tie as tie
 use borrow.Author.Needs.{needs}

@@ -5,9 +5,9 @@ use mathlib.Core.Path.{_≡_, refl}
 use mathlib.Core.Bool.{Bool}
 use mathlib.Core.List.{List}
 use lib.ListN.{length}
-use Rattle.books.specs.Solving.{Includes}
-use Rattle.bodies.proofs.Tokens.{skip-more}
-use Rattle.books.proofs.BundleWays.{includes-end, includes-other, includes-more}
+use Rattle.compiler_laws.specs.SolverSteps.{Includes}
+use Rattle.compiler_laws.proofs.Tokens.{skip-more}
+use Rattle.compiler_laws.proofs.DocumentsRead.{includes-end, includes-other, includes-more}
 use Rattle.book_compiler.proofs.solver.add_includes.Statement.{statement}
 use Rattle.book_compiler.proofs.solver.add_includes.Tie as tie
 use borrow.Author.Needs.{needs}

@@ -1,6 +1,6 @@
 -- `book_compiler::solver::after` meets its contract: past the words, one on, or past a run of words without a bit. Assumes nothing.
 -- Made from Proof.answers by `answers make`: edit that file, and not this one.
-use Rattle.books.proofs.SetBits.{after-out, after-one, after-zeros, word-past}
+use Rattle.compiler_laws.proofs.SetBits.{after-out, after-one, after-zeros, word-past}
 use Rattle.book_compiler.proofs.solver.after.Statement.{statement}
 use Rattle.book_compiler.proofs.solver.after.Tie as tie
 use borrow.Author.Needs.{needs}

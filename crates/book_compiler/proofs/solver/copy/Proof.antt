@@ -3,7 +3,7 @@
 use Prim.Native.Nat.{_-_}
 use mathlib.Core.Path.{_≡_, sym}
 use lib.ListN.{length, getD, length-set}
-use Rattle.books.proofs.SetBits.{Copied, copy-more, copy-all}
+use Rattle.compiler_laws.proofs.SetBits.{Copied, copy-more, copy-all}
 use Rattle.book_compiler.proofs.solver.copy.Statement.{statement}
 use Rattle.book_compiler.proofs.solver.copy.Tie as tie
 use borrow.Author.Needs.{needs}

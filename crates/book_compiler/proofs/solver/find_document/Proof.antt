@@ -1,9 +1,9 @@
 -- `book_compiler::solver::find_document` meets its contract. The invariant: what is found from here, below the bound, is found from the start. Assumes nothing.
 -- Made from Proof.answers by `answers make`: edit that file, and not this one.
 use Prim.Native.Nat.{_-_, _<_}
-use Rattle.books.specs.Solving.{Skips}
-use Rattle.bodies.proofs.Tokens.{skip-more}
-use Rattle.books.proofs.BookWays.{place-end, place-here, place-more}
+use Rattle.compiler_laws.specs.SolverSteps.{Skips}
+use Rattle.compiler_laws.proofs.Tokens.{skip-more}
+use Rattle.compiler_laws.proofs.WaitingBooks.{place-end, place-here, place-more}
 use Rattle.book_compiler.proofs.solver.find_document.Statement.{statement}
 use Rattle.book_compiler.proofs.solver.find_document.Tie as tie
 use borrow.Author.Needs.{needs}

@@ -3,9 +3,9 @@
 use Prim.Native.Nat.{_-_, _≤_}
 use mathlib.Core.Path.{sym, _∙_}
 use borrow.Author.Tests.{not-true, not-false}
-use Rattle.books.specs.Solving.{ReadTo}
-use Rattle.bodies.proofs.Tokens.{skip-more}
-use Rattle.books.proofs.BookWays.{read-none, read-other, read-include, uncompiled-end, uncompiled-here}
+use Rattle.compiler_laws.specs.SolverSteps.{ReadTo}
+use Rattle.compiler_laws.proofs.Tokens.{skip-more}
+use Rattle.compiler_laws.proofs.WaitingBooks.{read-none, read-other, read-include, uncompiled-end, uncompiled-here}
 use Rattle.book_compiler.proofs.solver.first_uncompiled.Statement.{statement}
 use Rattle.book_compiler.proofs.solver.first_uncompiled.Tie as tie
 use borrow.Author.Needs.{needs}

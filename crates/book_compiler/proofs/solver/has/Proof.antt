@@ -1,8 +1,8 @@
 -- `book_compiler::solver::has` meets its contract: past the words no bit is set. Assumes nothing.
 -- Made from Proof.answers by `answers make`: edit that file, and not this one.
 use mathlib.Core.Path.{refl}
-use Rattle.books.specs.Sets.{bitOf}
-use Rattle.books.proofs.SetBits.{bit-out}
+use Rattle.compiler_laws.specs.FileSets.{bitOf}
+use Rattle.compiler_laws.proofs.SetBits.{bit-out}
 use Rattle.book_compiler.proofs.solver.has.Statement.{statement}
 use Rattle.book_compiler.proofs.solver.has.Tie as tie
 use borrow.Author.Needs.{needs}

@@ -4,8 +4,8 @@ use Prim.Native.Nat.{_-_}
 use mathlib.Core.Path.{sym, _∙_}
 use borrow.Author.Tests.{not-true, not-false}
 use Rattle.building.specs.declared.scopes.Found.{Found}
-use Rattle.books.specs.Sets.{setSize}
-use Rattle.books.proofs.BundleWays.{MissesFrom, misses-end, misses-here, misses-more, misses-none, misses-whole}
+use Rattle.compiler_laws.specs.FileSets.{setSize}
+use Rattle.compiler_laws.proofs.DocumentsRead.{MissesFrom, misses-end, misses-here, misses-more, misses-none, misses-whole}
 use Rattle.book_compiler.proofs.solver.missing.Statement.{statement}
 use Rattle.book_compiler.proofs.solver.missing.Tie as tie
 use native.Mathlib.Omega.{arith}

@@ -4,8 +4,8 @@ use Prim.Native.Nat.{ℕ, _-_}
 use mathlib.Core.Path.{_≡_, refl}
 use mathlib.Core.List.{List}
 use lib.ListN.{length}
-use Rattle.books.specs.Solving.{Brings}
-use Rattle.books.proofs.BookWays.{bring-end, bring-more}
+use Rattle.compiler_laws.specs.SolverSteps.{Brings}
+use Rattle.compiler_laws.proofs.WaitingBooks.{bring-end, bring-more}
 use Rattle.book_compiler.proofs.solver.move_to_front.Statement.{statement}
 use Rattle.book_compiler.proofs.solver.move_to_front.Tie as tie
 use borrow.Author.Needs.{needs}

@@ -3,9 +3,9 @@
 use Prim.Native.Nat.{_-_}
 use mathlib.Core.Bool.{Bool}
 use borrow.Author.Tests.{not-false}
-use Rattle.books.specs.Solving.{Narrows}
-use Rattle.bodies.proofs.Tokens.{skip-more}
-use Rattle.books.proofs.BundleWays.{narrow-end, narrow-more, narrow-not}
+use Rattle.compiler_laws.specs.SolverSteps.{Narrows}
+use Rattle.compiler_laws.proofs.Tokens.{skip-more}
+use Rattle.compiler_laws.proofs.DocumentsRead.{narrow-end, narrow-more, narrow-not}
 use Rattle.book_compiler.proofs.solver.narrow.Statement.{statement}
 use Rattle.book_compiler.proofs.solver.narrow.Tie as tie
 use borrow.Author.Needs.{needs}

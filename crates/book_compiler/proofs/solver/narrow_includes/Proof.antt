@@ -2,9 +2,9 @@
 -- Made from Proof.answers by `answers make`: edit that file, and not this one.
 use Prim.Native.Nat.{_-_}
 use mathlib.Core.Bool.{Bool}
-use Rattle.books.specs.Solving.{NarrowIncludes}
-use Rattle.bodies.proofs.Tokens.{skip-more}
-use Rattle.books.proofs.BundleWays.{narrow-defs-end, narrow-defs-other, narrow-defs-more, narrow-defs-not}
+use Rattle.compiler_laws.specs.SolverSteps.{NarrowIncludes}
+use Rattle.compiler_laws.proofs.Tokens.{skip-more}
+use Rattle.compiler_laws.proofs.DocumentsRead.{narrow-defs-end, narrow-defs-other, narrow-defs-more, narrow-defs-not}
 use Rattle.book_compiler.proofs.solver.narrow_includes.Statement.{statement}
 use Rattle.book_compiler.proofs.solver.narrow_includes.Tie as tie
 use borrow.Author.Needs.{needs}

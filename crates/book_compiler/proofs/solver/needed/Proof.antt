@@ -4,8 +4,8 @@ use Prim.Native.Nat.{ℕ, _-_}
 use mathlib.Core.Path.{_≡_, refl, ap}
 use mathlib.Core.List.{List}
 use lib.ListN.{length}
-use Rattle.bodies.proofs.Tokens.{skip-more}
-use Rattle.books.proofs.BundleWays.{NeededFrom, needed-end, needed-stop, needed-more, needed-start}
+use Rattle.compiler_laws.proofs.Tokens.{skip-more}
+use Rattle.compiler_laws.proofs.DocumentsRead.{NeededFrom, needed-end, needed-stop, needed-more, needed-start}
 use Rattle.book_compiler.proofs.solver.needed.Statement.{statement}
 use Rattle.book_compiler.proofs.solver.needed.Tie as tie
 use borrow.Author.Needs.{needs}

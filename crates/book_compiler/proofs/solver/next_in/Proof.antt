@@ -2,8 +2,8 @@
 -- Made from Proof.answers by `answers make`: edit that file, and not this one.
 use Prim.Native.Nat.{ℕ, _-_, _≤_}
 use mathlib.Core.Path.{sym, _∙_}
-use Rattle.books.specs.Sets.{NextIn, setSize}
-use Rattle.books.proofs.SetBits.{next-more, next-here}
+use Rattle.compiler_laws.specs.FileSets.{NextIn, setSize}
+use Rattle.compiler_laws.proofs.SetBits.{next-more, next-here}
 use Rattle.book_compiler.proofs.solver.next_in.Statement.{statement}
 use Rattle.book_compiler.proofs.solver.next_in.Tie as tie
 use borrow.Author.Needs.{needs}

@@ -4,8 +4,8 @@ use Prim.Native.Nat.{ℕ, _-_}
 use mathlib.Core.Path.{_≡_, refl}
 use mathlib.Core.List.{List}
 use lib.ListN.{length}
-use Rattle.books.specs.Solving.{FindsReady}
-use Rattle.books.proofs.BookWays.{ready-end, ready-here, ready-more}
+use Rattle.compiler_laws.specs.SolverSteps.{FindsReady}
+use Rattle.compiler_laws.proofs.WaitingBooks.{ready-end, ready-here, ready-more}
 use Rattle.book_compiler.proofs.solver.next_ready.Statement.{statement}
 use Rattle.book_compiler.proofs.solver.next_ready.Tie as tie
 use borrow.Author.Needs.{needs}

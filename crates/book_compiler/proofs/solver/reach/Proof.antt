@@ -5,9 +5,9 @@ use mathlib.Core.Path.{_≡_, refl, sym, _∙_}
 use mathlib.Core.Bool.{Bool}
 use mathlib.Core.List.{List}
 use lib.ListN.{length}
-use Rattle.books.specs.Solving.{Reaches}
-use Rattle.bodies.proofs.Tokens.{skip-more}
-use Rattle.books.proofs.BundleWays.{reach-end, reach-past, reach-more}
+use Rattle.compiler_laws.specs.SolverSteps.{Reaches}
+use Rattle.compiler_laws.proofs.Tokens.{skip-more}
+use Rattle.compiler_laws.proofs.DocumentsRead.{reach-end, reach-past, reach-more}
 use Rattle.book_compiler.proofs.solver.reach.Statement.{statement}
 use Rattle.book_compiler.proofs.solver.reach.Tie as tie
 use borrow.Author.Needs.{needs}

@@ -5,9 +5,9 @@ use mathlib.Core.Path.{_≡_, refl}
 use mathlib.Core.List.{List}
 use lib.ListN.{length}
 use Rattle.building.specs.declared.taking.Taken.{Taken}
-use Rattle.books.specs.Sets.{setSize}
-use Rattle.books.specs.Solving.{Skips}
-use Rattle.books.proofs.BookWays.{TakesFrom, takes-end, takes-full, takes-none, takes-more, takes-whole, skips-start, skips-on}
+use Rattle.compiler_laws.specs.FileSets.{setSize}
+use Rattle.compiler_laws.specs.SolverSteps.{Skips}
+use Rattle.compiler_laws.proofs.WaitingBooks.{TakesFrom, takes-end, takes-full, takes-none, takes-more, takes-whole, skips-start, skips-on}
 use Rattle.book_compiler.proofs.solver.take_books.Statement.{statement}
 use Rattle.book_compiler.proofs.solver.take_books.Tie as tie
 use borrow.Author.Needs.{needs}

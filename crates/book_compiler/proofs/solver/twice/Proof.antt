@@ -5,8 +5,8 @@ use mathlib.Core.Path.{_≡_, refl}
 use mathlib.Core.List.{List}
 use lib.ListN.{length}
 use Rattle.building.specs.declared.scopes.Found.{Found}
-use Rattle.bodies.proofs.Tokens.{skip-more}
-use Rattle.books.proofs.BundleWays.{TwiceFrom, twice-end, twice-here, twice-more, twice-whole}
+use Rattle.compiler_laws.proofs.Tokens.{skip-more}
+use Rattle.compiler_laws.proofs.DocumentsRead.{TwiceFrom, twice-end, twice-here, twice-more, twice-whole}
 use Rattle.book_compiler.proofs.solver.twice.Statement.{statement}
 use Rattle.book_compiler.proofs.solver.twice.Tie as tie
 use borrow.Author.Needs.{needs}

@@ -2,8 +2,8 @@
 -- Made from Proof.answers by `answers make`: edit that file, and not this one.
 use Prim.Native.Nat.{_-_}
 use lib.ListN.{length}
-use Rattle.books.specs.Sets.{Zeros}
-use Rattle.books.proofs.SetBits.{zeros-none, zeros-more}
+use Rattle.compiler_laws.specs.FileSets.{Zeros}
+use Rattle.compiler_laws.proofs.SetBits.{zeros-none, zeros-more}
 use Rattle.book_compiler.proofs.solver.zeros_end.Statement.{statement}
 use Rattle.book_compiler.proofs.solver.zeros_end.Tie as tie
 use borrow.Author.Needs.{needs}

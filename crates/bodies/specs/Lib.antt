@@ -1,4 +1,0 @@
-pub mod Cells
-pub mod Meets
-pub mod Members
-pub mod Looping

@@ -1,4 +1,0 @@
-pub mod Driving
-pub mod Sets
-pub mod Solving
-pub mod Finishing

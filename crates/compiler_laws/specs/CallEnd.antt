@@ -1,0 +1,48 @@
+-- What the last routines promise: `finish` of the areas that the work left, `run` of areas of zeros
+-- Private contracts alone cite this file: whoever reads the promises need not believe it
+use Prim.Native.Nat.{ℕ, _-_}
+use mathlib.Core.Path.{_≡_}
+use mathlib.Core.Bool.{Bool, cond}
+use mathlib.Core.List.{List}
+use lib.Dec.{ltb}
+use Rattle.words.specs.declared.reply.Totals.{Totals}
+use Rattle.words.specs.declared.reply.Reply as struct
+use Rattle.words.specs.Reply.{delivery, refusal}
+use Rattle.compiler_laws.specs.declared.book.Book as book
+use Rattle.compiler_laws.specs.BooksInOrder.{Zero, Cleared, Emptied, MarkedFrom}
+use Rattle.definition.specs.Uses.{firstNotPublic}
+use Rattle.definition.specs.Promise.{areas, Compiles}
+
+-- the totals of a delivery
+abbrev pub totals : book.Book → ℕ → ℕ → Totals
+totals s books globals = record {
+  code = s .code;
+  constants = s .constants;
+  functions = s .functions;
+  models = s .models;
+  properties = s .properties;
+  methods = s .methods;
+  «context_locals» = s .locals;
+  «public_names» = s .publics;
+  «scope_names» = 0;
+  breaks = 0;
+  errors = 0;
+  books = books;
+  «entry_point» = s .«entry_point»;
+  «global_dependencies» = globals;
+}
+
+-- `refused_by`: a mark below 16 is an area's, row 9; from there on it is an include's, row 11 (specs/Uses.antt of `definition`)
+abbrev pub markRefusal : ℕ → struct.Reply
+markRefusal full = cond (ltb full firstNotPublic) (refusal 9 full) (refusal 11 (full - firstNotPublic))
+
+-- `finish`: after a full area all is cleared; after a row all but the errors; else the areas stay, and the reply has their totals
+pub record Finishes (s : book.Book) (row place : ℕ) (c k f m p t l u n b e o c″ k″ f″ m″ p″ t″ l″ u″ n″ b″ e″ o″ : List ℕ) (r : struct.Reply) : Type 0 where
+  pub full : (s .full ≡ 0 → ⊥) → Emptied c″ k″ f″ m″ p″ t″ l″ u″ n″ b″ o″ × (Zero e″ × (r ≡ markRefusal (s .full)))
+  pub refused : s .full ≡ 0 → (row ≡ 0 → ⊥) → Emptied c″ k″ f″ m″ p″ t″ l″ u″ n″ b″ o″ × ((e″ ≡ e) × (r ≡ refusal row place))
+  pub whole : s .full ≡ 0 → row ≡ 0 → (areas c″ k″ f″ m″ p″ t″ l″ u″ n″ b″ e″ o″ ≡ areas c k f m p t l u n b e o)
+      × ((globals : ℕ) × (MarkedFrom k 0 (s .constants) 0 globals × (r ≡ delivery (totals s place globals))))
+
+-- `run`: from areas of zeros, what the call promises
+pub record Runs (strict : Bool) (tree c k f m p t l u n b e o c″ k″ f″ m″ p″ t″ l″ u″ n″ b″ e″ o″ : List ℕ) (r : struct.Reply) : Type 0 where
+  pub runs : Cleared c k f m p t l u n b e o → Compiles strict tree (areas c k f m p t l u n b e o) (areas c″ k″ f″ m″ p″ t″ l″ u″ n″ b″ e″ o″) r

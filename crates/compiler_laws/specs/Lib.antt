@@ -1,0 +1,16 @@
+pub mod AddingFunctions
+pub mod BookAreas
+pub mod BookSteps
+pub mod BooksInOrder
+pub mod CallEnd
+pub mod Cells
+pub mod FileSets
+pub mod ForStatements
+pub mod ImplementSteps
+pub mod IncludeSteps
+pub mod InsideFunction
+pub mod MakingFunctions
+pub mod ModelSteps
+pub mod OpenedBooks
+pub mod SolverSteps
+pub mod StatementParts
