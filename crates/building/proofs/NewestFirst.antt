@@ -10,7 +10,8 @@ use lib.ListN.{length, getD}
 use borrow.Author.Tests.{eq-eqb, ne-eqb, le-leb, lt-leb}
 use Rattle.words.specs.Areas.{entryField}
 use Rattle.words.proofs.Entries.{field-in}
-use Rattle.building.specs.Found.{foundOf, narrowOf, findNewest}
+use Rattle.building.specs.Found.{foundOf, narrowOf, findNewest, findNarrow}
+use Rattle.building.specs.declared.scopes.Narrow.{Narrow}
 use Rattle.building.specs.declared.scopes.Narrow.the-variants as narrow
 use Rattle.building.specs.declared.scopes.Found.the-variants.{At, Nothing}
 
@@ -51,6 +52,15 @@ module _ (all : Option ℕ) (from i name : ℕ) (w : List ℕ) (so-far : all ≡
 
   pub newest-next : (other : ℕ) → from < i → other ≡ entryField 2 (i - 1) 0 w → (other ≡ name → ⊥) → all ≡ findNewest (i - 1 - from) from name w
   newest-next other h o e = step h ∙ rw (ne-eqb (entryField 2 (i - 1) 0 w) name (λ q. e (o ∙ q)))
+
+-- the search of 32 bits: beyond the area it does not look
+
+pub narrow-beyond : (from end name : ℕ) (w : List ℕ) → length w / 2 < end → narrow.Beyond ≡ findNarrow from end name w
+narrow-beyond from end name w h = rw (lt-leb end (length w / 2) h)
+
+pub narrow-inside : (from end name : ℕ) (w : List ℕ) (r : Narrow) → end ≤ length w / 2 → r ≡ narrowOf (findNewest (end - from) from name w)
+    → r ≡ findNarrow from end name w
+narrow-inside from end name w r h e = e ∙ rw (le-leb end (length w / 2) h)
 
 -- a search that counts words: the entry that ends at word `at`
 

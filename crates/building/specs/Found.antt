@@ -1,10 +1,11 @@
 -- Searches: an answer of the code is `Found`, one of the definitions an option
-use Prim.Native.Nat.{ℕ, zero, suc, _+_, _-_, _%_, _^_, _≤_, _<_}
+use Prim.Native.Nat.{ℕ, zero, suc, _+_, _-_, _/_, _%_, _^_, _≤_, _<_}
 use mathlib.Core.Path.{_≡_}
 use mathlib.Core.Bool.{Bool, cond}
 use mathlib.Core.Option.{Option, none, some}
 use mathlib.Core.List.{List}
 use lib.Dec.{eqb, leb}
+use lib.ListN.{length}
 use Rattle.words.specs.Areas.{entryWord, entryField}
 use Rattle.words.specs.Object.{Constant, constantOf, sameConstant}
 use Rattle.building.specs.declared.scopes.Found.{Found}
@@ -21,11 +22,12 @@ abbrev pub narrowOf : Option ℕ → Narrow
 narrowOf none = narrow.Nothing
 narrowOf (some i) = cond (leb i 4294967295) (narrow.At i) narrow.Wide
 
--- what a caller makes of it: a wide one is asked of the search of 64 bits
+-- what a caller makes of it: where the local is wide or an entry beyond the area, the search of 64 bits is asked
 abbrev pub widened : Narrow → Found → Found
 widened (narrow.At i) found = At i
 widened narrow.Nothing found = Nothing
 widened narrow.Wide found = found
+widened narrow.Beyond found = found
 
 -- a local's number as it stands in 64 bits
 abbrev pub wrapped : Option ℕ → Option ℕ
@@ -36,6 +38,10 @@ wrapped (some i) = some (i % 2 ^ 64)
 unfoldable pub findNewest : ℕ → ℕ → ℕ → List ℕ → Option ℕ
 findNewest zero i name w = none
 findNewest (suc k) i name w = cond (eqb (entryField 2 (i + k) 0 w) name) (some (entryField 2 (i + k) 1 w)) (findNewest k i name w)
+
+-- `find_narrow`: the search of 32 bits among the entries from `from` up to `end`, on any words; beyond the area it does not look (2026-03)
+abbrev pub findNarrow : ℕ → ℕ → ℕ → List ℕ → Narrow
+findNarrow from end name w = cond (leb end (length w / 2)) (narrowOf (findNewest (end - from) from name w)) narrow.Beyond
 
 -- the first of k entries from entry i on that a test takes
 unfoldable pub firstFrom : (ℕ → Bool) → ℕ → ℕ → Option ℕ

@@ -1,8 +1,7 @@
 // `backend/function_state.rs`: scopes and locals, flat in area 9.
 ghost use mathlib.Core.Path.{_≡_};
-ghost use Prim.Native.Nat.{_-_, _*_, _≤_};
-ghost use lib.ListN.{length};
-ghost use Rattle.building.specs.Found.{foundOf, narrowOf, findNewest};
+ghost use Prim.Native.Nat.{_-_};
+ghost use Rattle.building.specs.Found.{foundOf, findNewest, findNarrow};
 ghost use Rattle.building.specs.Scopes.{naming, findLocalC, enterScopeC, exitScopeC, endFunctionC, defineAnonymousC, insertC, Defines};
 use crate::function_state::FunctionState;
 use crate::taking;
@@ -19,11 +18,12 @@ pub enum Found {
     Nothing,
 }
 
-// What a search among names and locals of 32 bits finds: a local of 32 bits, nothing, or a local past 32 bits.
+// What a search among names and locals of 32 bits finds: a local of 32 bits, nothing, or a local past 32 bits. `Beyond`: the area does not hold every entry.
 enum Narrow {
     At(u32),
     Nothing,
     Wide,
+    Beyond,
 }
 
 // The greatest number of 32 bits.
@@ -35,12 +35,14 @@ pub struct Defined {
     pub state: FunctionState,
 }
 
-// The search of `find_newest` for a name of 32 bits where the area holds every entry: then no read is tested. Words are compared whole, and a local past
-// 32 bits is said to be one. The loop counts words and not entries, for speed (docs/BENCHMARKS.md, 'Live names').
+// The search of `find_newest` for a name of 32 bits where the area holds every entry, which is asked once: then no read is tested. Words are compared
+// whole, and a local past 32 bits is said to be one. The loop counts words and not entries, for speed (docs/landings/2026-03.md, 'Benchmarks').
 fn find_narrow(names: &[u64], from: usize, end: usize, name: u32) -> Narrow
-    requires { ⌜ end * 2 ≤ length (now names) ⌝ }
-    ensures { λ r. ⌜ r ≡ narrowOf (findNewest (end - from) from name (now (names .entry))) ⌝ }
+    ensures { λ r. ⌜ r ≡ findNarrow from end name (now (names .entry)) ⌝ }
 {
+    if names.len() / areas::SCOPE_NAME_WORDS < end {
+        return Narrow::Beyond;
+    }
     if end <= from {
         return Narrow::Nothing;
     }
@@ -66,19 +68,18 @@ fn find_narrow(names: &[u64], from: usize, end: usize, name: u32) -> Narrow
 fn find_newest(names: &[u64], from: usize, count: usize, locals: u64, name: u64) -> Found
     ensures { λ r. ⌜ r ≡ foundOf (findNewest (count - from) from name (now (names .entry))) ⌝ }
 {
-    if count <= names.len() / areas::SCOPE_NAME_WORDS {
-        if name <= MOST_NARROW {
-            if locals <= MOST_NARROW + 1 {
-                let narrow = find_narrow(names, from, count, name as u32);
-                match narrow {
-                    Narrow::At(local) => {
-                        return Found::At(local as u64);
-                    }
-                    Narrow::Nothing => {
-                        return Found::Nothing;
-                    }
-                    Narrow::Wide => {}
+    if name <= MOST_NARROW {
+        if locals <= MOST_NARROW + 1 {
+            let narrow = find_narrow(names, from, count, name as u32);
+            match narrow {
+                Narrow::At(local) => {
+                    return Found::At(local as u64);
                 }
+                Narrow::Nothing => {
+                    return Found::Nothing;
+                }
+                Narrow::Wide => {}
+                Narrow::Beyond => {}
             }
         }
     }
