@@ -32,7 +32,7 @@ use Rattle.book_compiler.specs.DefinitionSteps.{FindsModelIndex, Compile
 use Rattle.book_compiler.proofs.BookParts.{area-map, area-seeks, represents-longer, represents-unfilled, represents-same}
 use Rattle.book_compiler.proofs.BookLeaves.{methods-copied}
 
--- `find_model_index_by_local_name`: the laws of `documents`, on the errors
+-- `find_model_index_by_local_name`: the laws of `compiler_laws`, on the errors
 abbrev FindsIn : List ℕ → ℕ → BookMemory → List ℕ → Found → struct.Book → List ℕ → Type 0
 FindsIn tree at m e found s′ e′ = FindsModel tree at (m .book) (areaOf m contextLocalsArea) (areaOf m constantsArea) e found s′ e′
 

@@ -1,4 +1,4 @@
--- What each leaf that is lent one part does to the book: the laws of `documents` on the part. Assumes nothing.
+-- What each leaf that is lent one part does to the book: the laws of `compiler_laws` on the part. Assumes nothing.
 use Prim.Native.Nat.{ℕ}
 use native.Mathlib.Omega.{arith}
 use mathlib.Core.Path.{_≡_, refl}

@@ -40,7 +40,7 @@ use Rattle.book_compiler.specs.DefinitionSteps.{TakesProperty, TakesMode
 use Rattle.book_compiler.proofs.BookParts.{area-law, area-map, represents-longer, represents-unfilled}
 use Rattle.book_compiler.proofs.BookLeaves.{constant-added, local-defined, value-set}
 
--- `add_property`: the laws of `documents`, on the errors or the properties
+-- `add_property`: the laws of `compiler_laws`, on the errors or the properties
 module _ {tree : List ℕ} {at first : ℕ} {m : BookMemory} where
   pub property-marked : (m .book .full ≡ 0 → ⊥) → AddsModelProperty tree at first m m
   property-marked ne = record { meets = λ κ ps others w start H. represents-longer (calm-property (tokenAt tree at) ps w .uses) ne H }

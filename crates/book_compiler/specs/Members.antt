@@ -1,4 +1,5 @@
 -- What the compilers promise on one memory. Routines of the cycle: of whatever stands at `at` and ends exactly at `end` they do the definition's step
+-- Private contracts alone cite this file: whoever reads the promises need not believe it
 use Prim.Native.Nat.{ℕ, _+_, _-_, _%_, _^_, _<_}
 use mathlib.Core.Path.{_≡_}
 use mathlib.Core.Bool.{true}

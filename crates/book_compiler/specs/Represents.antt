@@ -1,4 +1,5 @@
 -- One memory under compilation: the view of it as the machine of `building`, and the relation to the definition's `Work`
+-- Private contracts alone cite this file: whoever reads the promises need not believe it
 use Prim.Native.Nat.{ℕ, _<_}
 use mathlib.Core.Path.{_≡_}
 use mathlib.Core.Bool.{Bool, false, _||_}

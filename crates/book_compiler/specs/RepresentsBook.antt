@@ -1,4 +1,4 @@
--- One memory between a book's definitions: the view of it as the counts and areas of `documents`, and the relation to the definition's `Book`.
+-- One memory between a book's definitions: the view of it as the counts and areas of `compiler_laws`, and the relation to the definition's `Book`.
 -- Private contracts alone cite this file: whoever reads the promises need not believe it
 use Prim.Native.Nat.{ℕ, _+_, _<_}
 use mathlib.Core.Path.{_≡_}

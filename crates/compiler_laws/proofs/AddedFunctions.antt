@@ -1,4 +1,4 @@
--- A function definition: one lemma for each way through its routines. By the function compiled to its end, which is dropped or added. Assumes nothing.
+-- What a function definition leaves of a book as it was, its function added or dropped. Assumes nothing.
 use Prim.Native.Nat.{ℕ}
 use mathlib.Core.Path.{refl}
 use mathlib.Core.Bool.{cond}

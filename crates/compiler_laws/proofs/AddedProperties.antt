@@ -1,4 +1,4 @@
--- One lemma for each way through `add_property` and the loop over a model's properties, over what their calls ensure. Assumes nothing.
+-- One lemma for each way through `add_property`, over what its calls ensure. Assumes nothing.
 use Prim.Native.Nat.{ℕ, suc, _+_, _-_, _<_}
 use native.Mathlib.Omega.{arith}
 use mathlib.Core.Path.{_≡_, refl, sym, ap, _∙_}

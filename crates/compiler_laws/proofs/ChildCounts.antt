@@ -1,5 +1,4 @@
--- One lemma for each way through the count of children, the operations and the end of a loop. Whatever is counted from here is counted from the start.
--- Assumes nothing.
+-- The count of children and the kinds of operations: whatever is counted from here is counted from the start. Assumes nothing.
 use Prim.Native.Nat.{ℕ, zero, suc, _+_, _-_, _≤_, _<_}
 use native.Mathlib.Omega.{arith}
 use mathlib.Core.Path.{_≡_, refl, _∙_}

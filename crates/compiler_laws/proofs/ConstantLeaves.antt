@@ -1,5 +1,4 @@
--- One lemma for each way through a routine that compiles no part: what its calls ensure is the definition's step. By the laws of the routines it calls.
--- Assumes nothing.
+-- `fault`: the words of an error are those of the record at a place; and an instruction's word has its operand's low bits only. Assumes nothing.
 use Prim.Native.Nat.{ℕ, _+_, _*_, _%_, _^_}
 use native.Mathlib.Omega.{arith}
 use mathlib.Core.Path.{_≡_, ap}

@@ -1,4 +1,4 @@
--- One lemma for each way through `copy_method`, `copy_methods` and `apply_definition`, over what their calls ensure. Assumes nothing.
+-- One lemma for each way through `copy_entry` and `copy_entries`, over what their calls ensure. Assumes nothing.
 use Prim.Native.Nat.{ℕ, zero, suc, _+_, _-_, _≤_, _<_}
 use native.Mathlib.Nat.{zero-add}
 use native.Mathlib.Omega.{arith}

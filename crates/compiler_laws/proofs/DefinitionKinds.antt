@@ -1,4 +1,4 @@
--- One lemma for each kind of definition: what its routine promises is the definition's deed. Assumes nothing.
+-- What a definition leaves of a book as it was, of whichever kind it is. Assumes nothing.
 use Rattle.words.specs.Ast.{Definition, LocalDefinition, IncludeDefinition, ModelDefinition, PublicModelDefinition, PlainFunction, PublicFunction}
 use Rattle.words.specs.Ast.{ImplementDefinition, ApplyDefinition}
 use Rattle.definition.specs.Book.{compileDefinition, compileModelDefinition, compileFunctionDefinition}

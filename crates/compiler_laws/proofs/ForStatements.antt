@@ -1,5 +1,4 @@
--- The pieces of a for statement: what their calls ensure is the definition's step. The start is one step of the definition and four routines: their
--- notes repeat. A local's number counts by its low bits; what was remembered stands where nothing is full, by the notes. Assumes nothing.
+-- The pieces of a for statement: what they leave as it was, and that scopes are balanced after them. Assumes nothing.
 use Prim.Native.Nat.{ℕ, _+_}
 use mathlib.Core.Path.{refl}
 use Rattle.words.specs.Ast.{Token}

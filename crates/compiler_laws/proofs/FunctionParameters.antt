@@ -1,5 +1,4 @@
--- One lemma for each way through the routines that compile a function's parameters and its base. With the mark set nothing that is found says anything,
--- so they return at once. Assumes nothing.
+-- Where a function's parameters end: one lemma for each way through the search. Assumes nothing.
 use Prim.Native.Nat.{ℕ, suc, _+_, _≤_, _<_}
 use native.Mathlib.Omega.{arith}
 use mathlib.Core.Path.{_≡_, refl, sym, ap, _∙_}

@@ -1,5 +1,4 @@
--- An implement definition: one lemma for each way through its routines. By the functions one by one, the model, and the methods one by one.
--- Assumes nothing.
+-- An implement definition is its functions one by one, the model, and its methods one by one; and what it leaves of a book as it was. Assumes nothing.
 use Prim.Native.Nat.{ℕ, _+_}
 use native.Mathlib.Omega.{arith}
 use mathlib.Core.Path.{_≡_, refl, ap, _∙_}

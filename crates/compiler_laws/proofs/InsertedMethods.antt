@@ -1,4 +1,4 @@
--- One lemma for each way through `insert_method`, over what its calls ensure. Assumes nothing.
+-- One lemma for each way through `insert_entry`, over what its calls ensure. Assumes nothing.
 use Prim.Native.Nat.{ℕ, _+_, _-_, _*_}
 use native.Mathlib.Omega.{arith}
 use mathlib.Core.Path.{_≡_, refl, sym, ap, _∙_}

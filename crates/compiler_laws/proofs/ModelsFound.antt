@@ -1,5 +1,4 @@
--- One lemma for each way through `model_of` and `find_model`, over what their calls ensure. Words behind the entries are zeros, and kind 0 is no
--- model. Assumes nothing.
+-- One lemma for each way through `model_of`, over what its calls ensure. Words behind the entries are zeros, and kind 0 is no model. Assumes nothing.
 use Prim.Native.Nat.{ℕ, zero, suc, _+_, _-_, _≤_, _<_}
 use native.Mathlib.Omega.{arith}
 use native.Mathlib.Decide.{decLt}

@@ -1,4 +1,4 @@
--- One lemma for each way through `publish`, over what its calls ensure; and a constant that is placed and then published. Assumes nothing.
+-- One lemma for each way through `publish_entry`, over what its calls ensure. Assumes nothing.
 use Prim.Native.Nat.{ℕ, suc, _+_, _-_, _*_, _<_}
 use native.Mathlib.Omega.{arith}
 use mathlib.Core.Path.{_≡_, refl, sym, ap, _∙_}

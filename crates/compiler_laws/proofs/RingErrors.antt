@@ -1,4 +1,4 @@
--- The books of a bundle one after the other, and a ring: each way is the definition's `drive`. With the mark set the notes are only added. Assumes nothing.
+-- A ring: the errors of the books that are left, one after the other. With the mark set nothing is added. Assumes nothing.
 use Prim.Native.Nat.{ℕ, _+_, _/_, _≤_, _<_}
 use native.Mathlib.Omega.{arith}
 use mathlib.Core.Path.{_≡_, refl, sym, ap, _∙_}

@@ -1,5 +1,5 @@
--- Steps one after the other: what acts and then acts does both, and with the mark set doing nothing is doing any step. By the notes, which are only added.
--- Assumes nothing.
+-- Steps one after the other: what holds inside a function holds after a step, and with the mark set doing nothing is doing any step. By the notes, which
+-- are only added. Assumes nothing.
 use Prim.Native.Nat.{ℕ}
 use mathlib.Core.Path.{_≡_, _∙_}
 use mathlib.Core.List.{List}

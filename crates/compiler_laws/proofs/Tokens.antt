@@ -1,4 +1,4 @@
--- One lemma for each way through a routine that reads its token from the tree and compiles no part. By what stands at the place. Assumes nothing.
+-- Places in the tree: where the subtree at a place ends, by what stands there. Assumes nothing.
 use Prim.Native.Nat.{ℕ, zero, suc, _+_, _≤_, _<_, min, max}
 use native.Mathlib.Omega.{arith}
 use mathlib.Core.Path.{_≡_, refl, sym, _∙_}

@@ -1,4 +1,4 @@
--- What the routines that add functions to a book promise: a function compiled to its end, its entry, and the definitions that have functions
+-- A function of a book compiled to its end, and its entry of area 3
 -- Private contracts alone cite this file: whoever reads the promises need not believe it
 use Prim.Native.Nat.{ℕ, _≤_}
 use mathlib.Core.List.{List, [], _∷_}

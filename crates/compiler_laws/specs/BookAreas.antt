@@ -1,4 +1,5 @@
 -- The relation between memory and the definition's `Book`: what the counts and the areas hold of a book under compilation, between its definitions
+-- Private contracts alone cite this file: whoever reads the promises need not believe it
 use Prim.Native.Nat.{ℕ, _+_, _≤_, _<_}
 use mathlib.Core.Path.{_≡_}
 use mathlib.Core.List.{List, [], _++_}

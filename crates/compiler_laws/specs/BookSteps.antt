@@ -1,4 +1,4 @@
--- What the routines of `documents.rt` promise up to the local definition: each has some of the areas, and whatever the others hold, counts and areas
+-- What the routines of a book's errors, constants and context locals promise on their area: whatever the other areas hold, counts and areas
 -- then stand for the deed's book
 -- Private contracts alone cite this file: whoever reads the promises need not believe it
 use Prim.Native.Nat.{ℕ, _+_, _≤_, _<_}

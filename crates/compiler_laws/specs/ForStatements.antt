@@ -1,4 +1,4 @@
--- What the pieces of a for statement promise. The definition's step is cut where `for_part` calls: the start, the enumerable's expression, the head,
+-- The pieces of a for statement. The definition's step is cut where `compile_for_statement` calls: the start, the enumerable's expression, the head,
 -- the name, the statements, the end. Numbers that were remembered matter only where nothing is full, and of a local's number the low 64 bits
 -- Private contracts alone cite this file: whoever reads the promises need not believe it
 use Prim.Native.Nat.{ℕ, _+_, _%_, _^_}

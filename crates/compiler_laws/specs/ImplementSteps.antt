@@ -1,4 +1,4 @@
--- What the routines of an implement definition promise: its functions one by one, then its methods one by one
+-- The steps of an implement definition: its functions one by one, then its methods one by one
 -- Private contracts alone cite this file: whoever reads the promises need not believe it
 use Prim.Native.Nat.{ℕ, _+_}
 use mathlib.Core.List.{List, [], _∷_}

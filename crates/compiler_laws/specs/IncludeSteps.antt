@@ -1,4 +1,4 @@
--- What the routines of `documents.rt` promise for an include: the names that it takes from the books before, by searches in areas 12 and 8
+-- What the routines of an include promise: the names that it takes from the books before, by searches in areas 12 and 8
 -- Private contracts alone cite this file: whoever reads the promises need not believe it
 use Prim.Native.Nat.{ℕ, _+_, _-_}
 use mathlib.Core.Path.{_≡_}

@@ -1,4 +1,6 @@
--- What a routine does to the state and the areas, said by the definition's step: whatever work they hold before, they hold the step's work after
+-- What a routine does to the state and the areas, said by the definition's step: whatever work they hold before, they hold the step's work after;
+-- and the pieces of steps and the places in the tree that the compilers inside a function need
+-- Private contracts alone cite this file: whoever reads the promises need not believe it
 use Prim.Native.Nat.{ℕ, _+_, _-_, min}
 use mathlib.Core.Path.{_≡_}
 use mathlib.Core.Bool.{true, cond}
@@ -45,7 +47,7 @@ standingOf kind value = cond (eqb kind 36) (cond (eqb value 1) TRUE FALSE) NULL
 unfoldable pub skipC : List ℕ → ℕ → ℕ → ℕ
 skipC w at end = cond (ltb at end) (cond (eqb (spanAt w at) 0) (at + 1) (min (at + spanAt w at) end)) at
 
--- how many expressions stand from a place up to the end, n counted before it (`expressions`)
+-- how many expressions stand from a place up to the end, n counted before it
 pub record Counted (tree : List ℕ) (at end n r : ℕ) : Type 0 where
   pub counts : (es : Expressions) → ExpressionsAt es tree at → at + sizeEs es ≡ end → r ≡ n + count es
 

@@ -1,4 +1,4 @@
--- What the routines that compile a function promise: its parameters, its base, and the state that a book's next function starts from
+-- A function's parameters: whether it is an instance's, and where they end
 -- Private contracts alone cite this file: whoever reads the promises need not believe it
 use Prim.Native.Nat.{ℕ, _+_, _≤_}
 use mathlib.Core.Path.{_≡_}

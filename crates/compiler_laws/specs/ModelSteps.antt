@@ -1,4 +1,5 @@
--- What the routines of `models.rt` promise: whatever the areas that they do not have hold, counts and areas then stand for the deed's book
+-- What the routines of methods, models and public names promise: whatever the areas that they do not have hold, counts and areas then stand for
+-- the deed's book
 -- Private contracts alone cite this file: whoever reads the promises need not believe it
 use Prim.Native.Nat.{ℕ, zero, suc, _+_}
 use mathlib.Core.Path.{_≡_}
@@ -22,12 +23,12 @@ use Rattle.building.specs.declared.scopes.Found.{Found}
 use Rattle.compiler_laws.specs.declared.book.Book.{Book}
 use Rattle.compiler_laws.specs.BookAreas.{shelf, Keeping, Deeds, Seeks}
 
--- `insert_method`: area 6
+-- `insert_entry`: area 6
 pub record InsertsMethod (model name function : ℕ) (s : Book) (t : List ℕ) (s′ : Book) (t′ : List ℕ) : Type 0 where
   pub deeds : (c k f m p l u n b e : List ℕ) → Deeds (shelf s c k f m p t l u n b e) (shelf s′ c k f m p t′ l u n b e)
       (addMethods (some model) (record { name = name; index = function } ∷ []))
 
--- `publish`: area 8, of a constant whose number is the definition's where nothing is full
+-- `publish_entry`: area 8, of a constant whose number is the definition's where nothing is full
 pub record Publishes (place name : ℕ) (s : Book) (u : List ℕ) (s′ : Book) (u′ : List ℕ) : Type 0 where
   pub meets : (c k f m p t l n b e : List ℕ) (κ : Limits) (ps : List ℕ) (q : Placed) → Keeping κ ps (shelf s c k f m p t l u n b e) (q .book)
       → (s .full ≡ 0 → place ≡ q .place) → Keeping κ ps (shelf s′ c k f m p t l u′ n b e) (publish name q)
@@ -44,7 +45,7 @@ modelAtC i l k =
     cond (eqb (entryField 4 i 2 l) 1)
     (cond (eqb (entryField 3 (entryField 4 i 3 l) 0 k) modelKind) (some (entryField 3 (entryField 4 i 3 l) 1 k)) none) none
 
--- `find_model`: areas 7, 2 and 11
+-- `find_model_index_by_local_name`: areas 7, 2 and 11
 pub record FindsModel (tree : List ℕ) (at : ℕ) (s : Book) (l k e : List ℕ) (found : Found) (s′ : Book) (e′ : List ℕ) : Type 0 where
   pub seeks : (c f m p t u n b : List ℕ) → Seeks (shelf s c k f m p t l u n b e) (shelf s′ c k f m p t l u n b e′) found
       (findModelIndexByLocalName (tokenAt tree at))
@@ -61,17 +62,17 @@ methodsFrom model i (suc n) l =
     let rest = methodsFrom model (i + 1) n l in
     cond (eqb (x .model) model) (record { name = x .name; index = x .function } ∷ rest) rest
 
--- `copy_method`: area 6, one method of the source under the target, if it is one
+-- `copy_entry`: area 6, one method of the source under the target, if it is one
 pub record CopiesMethod (source target i : ℕ) (s : Book) (t : List ℕ) (s′ : Book) (t′ : List ℕ) : Type 0 where
   pub deeds : (c k f m p l u n b e : List ℕ) → Deeds (shelf s c k f m p t l u n b e) (shelf s′ c k f m p t′ l u n b e)
       (λ w. addMethods (some target) (methodsFrom source i 1 (w .context .program .methods)) w)
 
--- `copy_methods`: all methods of the source
+-- `copy_entries`: all methods of the source
 pub record CopiesMethods (source target : ℕ) (s : Book) (t : List ℕ) (s′ : Book) (t′ : List ℕ) : Type 0 where
   pub deeds : (c k f m p l u n b e : List ℕ) → Deeds (shelf s c k f m p t l u n b e) (shelf s′ c k f m p t′ l u n b e)
       (λ w. addMethods (some target) (methodsIn source (w .context .program .methods)) w)
 
--- `apply_definition`: areas 6 and 11, over areas 7 and 2
+-- `compile_apply_definition`: areas 6 and 11, over areas 7 and 2
 pub record Applies (tree : List ℕ) (at end : ℕ) (s : Book) (l k t e : List ℕ) (s′ : Book) (t′ e′ : List ℕ) : Type 0 where
   pub deeds : (c f m p u n b : List ℕ) (source target : Token) → DefinitionAt (ApplyDefinition source target) tree at → at + 3 ≡ end
       → Deeds (shelf s c k f m p t l u n b e) (shelf s′ c k f m p t′ l u n b e′) (compileApplyDefinition source target)

@@ -1,4 +1,5 @@
--- What the routines above a book's definitions promise: a definition, a document, and the areas between two books
+-- The areas between two books: they stand for a context, ready for the next book
+-- Private contracts alone cite this file: whoever reads the promises need not believe it
 use Prim.Native.Nat.{ℕ}
 use mathlib.Core.List.{List, []}
 use Rattle.words.specs.Ast.{Document}

@@ -216,7 +216,7 @@ pub record FindsReady (tree : List ℕ) (end done count : ℕ) (set books : List
   pub nothing : (ds : List Document) (files left rest compiled : List ℕ) → Stands ds tree end files left rest books set compiled → done ≡ length files
       → count ≡ done + length left → count ≤ r → NoneReady ds tree end files left rest after set compiled
 
--- `bring`: a number in the place of entry `done`, the entries from there up to entry k one further; that of k goes
+-- `move_to_front`: a number in the place of entry `done`, the entries from there up to entry k one further; that of k goes
 pub record Brings (books : List ℕ) (done k file : ℕ) (after : List ℕ) : Type 0 where
   pub brings : (files before later : List ℕ) (word : ℕ) → books ≡ files ++ (before ++ (word ∷ later)) → done ≡ length files → k ≡ done + length before
       → after ≡ files ++ (file ∷ (before ++ later))

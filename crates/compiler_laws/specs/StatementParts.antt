@@ -1,4 +1,5 @@
--- What the members of the cycle promise: of whatever stands at `at` and ends exactly at `end`, they do the definition's step
+-- What a statement does one deeper: the part of `compile_statement` between its two changes of the depth
+-- Private contracts alone cite this file: whoever reads the promises need not believe it
 use Rattle.words.specs.Ast.{Statement, Local, Return, For, Break, Rescue, Expr}
 use Rattle.definition.specs.FunctionState as Emission
 use Rattle.definition.specs.Compiler.{Step, doing, compileExpression}

@@ -1,1 +1,1 @@
-// The compile call as a definition, and what is proved of it. There is no code here: `building` and `books` are proved equal to it.
+// The compile call as a definition, and what is proved of it. There is no code here: `building` and `book_compiler` are proved equal to it.

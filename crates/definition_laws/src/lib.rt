@@ -1,1 +1,1 @@
-// What is proved of the compile call's definition (`definition`). There is no code here: `building` to `books` cite it.
+// What is proved of the compile call's definition (`definition`). There is no code here: `building` to `book_compiler` cite it.
