@@ -49,7 +49,7 @@ module _ {tree : List ℕ} {at : ℕ} {m : BookMemory} where
     pub find-lost : g ≡ Nothing → {m′ : BookMemory} → PushesBookError 10 (tokenAt tree at) m m′
         → FindsModelIndex tree at Nothing m m′
     find-lost lost {m′} E = record {
-      seeks = area-seeks (omega arith) refl
+      seeks = area-seeks (omega arith) refl (E .constants)
           (area-map {R′ = λ e e′. FindsIn tree at m e Nothing (m′ .book) e′} (λ f x r. area.find-lost z value (searched .reads .on f) lost r) (E .acts))
           (λ x r. r .seeks (areaOf m codeArea) (areaOf m functionsArea) (areaOf m modelsArea) (areaOf m propertiesArea) (areaOf m methodsArea)
           (areaOf m publicNamesArea) (areaOf m scopeNamesArea) (areaOf m breaksArea));
@@ -59,7 +59,7 @@ module _ {tree : List ℕ} {at : ℕ} {m : BookMemory} where
       pub find-other : r ≡ Nothing → {m′ : BookMemory} → PushesBookError 9 (tokenAt tree at) m m′
           → FindsModelIndex tree at Nothing m m′
       find-other lost {m′} E = record {
-        seeks = area-seeks (omega arith) refl
+        seeks = area-seeks (omega arith) refl (E .constants)
             (area-map {R′ = λ e e′. FindsIn tree at m e Nothing (m′ .book) e′}
             (λ f x r. area.find-other z value (searched .reads .on f) at-i (model .reads .on f) lost r) (E .acts))
             (λ x r. r .seeks (areaOf m codeArea) (areaOf m functionsArea) (areaOf m modelsArea) (areaOf m propertiesArea) (areaOf m methodsArea)

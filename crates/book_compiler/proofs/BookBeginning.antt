@@ -1,4 +1,4 @@
--- The work begins over one memory: a memory of zeros, three constants and an entry for each book are the definition's fresh context, ready for the first book.
+-- The work begins over one memory: a memory of zeros, three constants with their slots and an entry for each book are the definition's fresh context, ready for the first book.
 -- By the lemmas over areas, of the parts. Assumes nothing.
 use Prim.Native.Nat.{ℕ, zero, suc, _+_, _-_, _/_, _≤_, _<_}
 use native.Mathlib.Omega.{arith}
@@ -27,8 +27,14 @@ use Rattle.compiler_laws.specs.BooksInOrder as slices
 use Rattle.compiler_laws.proofs.CallBeginning.{begunUses, zero-drop, marks, as-work, driving}
 use Rattle.compiler_laws.proofs.BundleRange.{fine-limit}
 use Rattle.compiler_laws.proofs.NotesOfDocuments.{drive-longer}
+use Rattle.constant_slots.specs.Plain.{poolOf}
+use Rattle.constant_slots.specs.Slots.{slotsOf}
+use Rattle.book_compiler.specs.Leaves.{FillsSlots}
 use Rattle.book_compiler.specs.RepresentsBook.{BookMemory, bookLaid, bookView, isBookArea}
 use Rattle.book_compiler.specs.BookOrder.{LentPart, AtRest, Lent, Driving, Drives, Works}
+use Rattle.book_compiler.proofs.Parts.{slots-count}
+use Rattle.book_compiler.proofs.SlotFilling.{slots-filled}
+use Rattle.book_compiler.proofs.BookParts.{not-part}
 use Rattle.book_compiler.proofs.LentParts.{lent-does, lent-part, lent-other, lent-length, lent-fits, part-lengths, zero-part}
 
 -- a memory of zeros has areas of zeros
@@ -69,50 +75,60 @@ module _ (strict : Bool) {tree set a w w₁ w₂ : List ℕ} {x r : Taken} (C : 
     as-long : length (part a constantsArea w₁) ≡ length (part a constantsArea w)
     as-long = part-lengths w w₁ f (lent-length (omega arith) f C) constantsArea (omega arith)
 
-    stays : (j : ℕ) → j < 14 → (booksArea ≡ j → ⊥) → (constantsArea ≡ j → ⊥) → part a j w₂ ≡ part a j w
-    stays j g n m = lent-other (omega arith) f₁ B j g n ∙ lent-other (omega arith) f C j g m
+    f₂ : Fits a (length w₂)
+    f₂ = lent-fits (omega arith) f₁ B
 
-    -- the parts, but for the constants, are as they were
-    begun-view : (s : struct.Book) → bookView (bookLaid s a w₂)
-        ≡ shelf s (part a 1 w) (part a 2 w₁) (part a 3 w) (part a 4 w) (part a 5 w) (part a 6 w) (part a 7 w) (part a 8 w) (part a 9 w) (part a 10 w)
-        (part a 11 w)
-    begun-view s =
-        let at = lent-part (omega arith) f C in
-        let then = lent-part (omega arith) f₁ B in
-        rw (
-          then 1 (omega arith) ∙ at 1 (omega arith),
-          then 2 (omega arith),
-          then 3 (omega arith) ∙ at 3 (omega arith),
-          then 4 (omega arith) ∙ at 4 (omega arith),
-          then 5 (omega arith) ∙ at 5 (omega arith),
-          then 6 (omega arith) ∙ at 6 (omega arith),
-          then 7 (omega arith) ∙ at 7 (omega arith),
-          then 8 (omega arith) ∙ at 8 (omega arith),
-          then 9 (omega arith) ∙ at 9 (omega arith),
-          then 10 (omega arith) ∙ at 10 (omega arith),
-          then 11 (omega arith) ∙ at 11 (omega arith),
-        ) refl
+    -- the slots filled with the first constants
+    module _ {w₃ : List ℕ} (S : FillsSlots (x .count) a w₂ w₃) where
+      filled : LentPart 13 (λ t t′. t′ ≡ slotsOf (length t) (poolOf (x .count) (part a constantsArea w₂))) a w₂ w₃
+      filled = record { on = S .on }
 
-    at-rest : {κ : Limits} {s : struct.Book} {context : Context} {uses : List Use}
-        → Resting κ s (part a 1 w) (part a 2 w₁) (part a 3 w) (part a 4 w) (part a 5 w) (part a 6 w) (part a 7 w) (part a 8 w) (part a 9 w) (part a 10 w)
-        (part a 11 w) context uses
-        → AtRest κ (λ i. part a i w) (bookLaid s a w₂) context uses
-    at-rest {κ} {s} {context} {uses} R = record {
-      represents = record {
-        ready = record {
-          fits = lent-fits (omega arith) f₁ B;
-          preserves = record { same = λ j g q. go j g q (eqb j booksArea) refl };
-          keeping = subst (λ (v : Shelf). Keeping κ [] v (opened nobody context uses)) (sym (begun-view (openedBook s (bookCount context)))) (R .ready);
+      stays : (j : ℕ) → j < 14 → (13 ≡ j → ⊥) → (booksArea ≡ j → ⊥) → (constantsArea ≡ j → ⊥) → part a j w₃ ≡ part a j w
+      stays j g k n m = lent-other (omega arith) f₂ filled j g k ∙ lent-other (omega arith) f₁ B j g n ∙ lent-other (omega arith) f C j g m
+
+      -- the parts, but for constants and slots, are as they were
+      begun-view : (s : struct.Book) → bookView (bookLaid s a w₃)
+          ≡ shelf s (part a 1 w) (part a 2 w₁) (part a 3 w) (part a 4 w) (part a 5 w) (part a 6 w) (part a 7 w) (part a 8 w) (part a 9 w) (part a 10 w)
+          (part a 11 w)
+      begun-view s =
+          let at = lent-part (omega arith) f C in
+          let then = lent-part (omega arith) f₁ B in
+          let last = lent-part (omega arith) f₂ filled in
+          rw (
+            last 1 (omega arith) ∙ then 1 (omega arith) ∙ at 1 (omega arith),
+            last 2 (omega arith) ∙ then 2 (omega arith),
+            last 3 (omega arith) ∙ then 3 (omega arith) ∙ at 3 (omega arith),
+            last 4 (omega arith) ∙ then 4 (omega arith) ∙ at 4 (omega arith),
+            last 5 (omega arith) ∙ then 5 (omega arith) ∙ at 5 (omega arith),
+            last 6 (omega arith) ∙ then 6 (omega arith) ∙ at 6 (omega arith),
+            last 7 (omega arith) ∙ then 7 (omega arith) ∙ at 7 (omega arith),
+            last 8 (omega arith) ∙ then 8 (omega arith) ∙ at 8 (omega arith),
+            last 9 (omega arith) ∙ then 9 (omega arith) ∙ at 9 (omega arith),
+            last 10 (omega arith) ∙ then 10 (omega arith) ∙ at 10 (omega arith),
+            last 11 (omega arith) ∙ then 11 (omega arith) ∙ at 11 (omega arith),
+          ) refl
+
+      at-rest : {κ : Limits} {s : struct.Book} {context : Context} {uses : List Use} → s .constants ≡ x .count
+          → Resting κ s (part a 1 w) (part a 2 w₁) (part a 3 w) (part a 4 w) (part a 5 w) (part a 6 w) (part a 7 w) (part a 8 w) (part a 9 w) (part a 10 w)
+          (part a 11 w) context uses
+          → AtRest κ (λ i. part a i w) (bookLaid s a w₃) context uses
+      at-rest {κ} {s} {context} {uses} many R = record {
+        represents = record {
+          ready = record {
+            fits = lent-fits (omega arith) f₂ filled;
+            preserves = record { same = λ j g q. go j g q (eqb j booksArea) refl };
+            keeping = subst (λ (v : Shelf). Keeping κ [] v (opened nobody context uses)) (sym (begun-view (openedBook s (bookCount context)))) (R .ready);
+            slots = slots-count many (slots-filled S f₂);
+          };
         };
-      };
-    }
-      where
-        no-book : (j : ℕ) → isBookArea j ≡ false → constantsArea ≡ j → ⊥
-        no-book j q n = let z : _≡_ {A = ℕ} 0 1 = ap (λ (b : Bool). cond b 0 1) (ap isBookArea n ∙ q) in omega arith
+      }
+        where
+          none-of : (j i : ℕ) → isBookArea i ≡ true → isBookArea j ≡ false → i ≡ j → ⊥
+          none-of j i p q n = eqb-false j i (not-part j i p q) (sym n)
 
-        go : (j : ℕ) → j < 14 → isBookArea j ≡ false → (t : Bool) → eqb j booksArea ≡ t → part a j w₂ ≡ cond t (part a booksArea w₂) (part a j w)
-        go j g q true e = ap (λ (n : ℕ). part a n w₂) (eqb-true j booksArea e)
-        go j g q false e = stays j g (λ n. eqb-false j booksArea e (sym n)) (no-book j q)
+          go : (j : ℕ) → j < 14 → isBookArea j ≡ false → (t : Bool) → eqb j booksArea ≡ t → part a j w₃ ≡ cond t (part a booksArea w₃) (part a j w)
+          go j g q true e = ap (λ (n : ℕ). part a n w₃) (eqb-true j booksArea e)
+          go j g q false e = stays j g (none-of j 13 refl q) (λ n. eqb-false j booksArea e (sym n)) (none-of j 2 refl q)
 
     module _ {root : Document} {others : List Document} (A : Accepted tree set root others) (zeros : Zero w) (κ : Limits)
         (lent : (s : struct.Book) → Lent κ (bookLaid s a w)) where
@@ -124,19 +140,19 @@ module _ (strict : Bool) {tree set a w w₁ w₂ : List ℕ} {x r : Taken} (C : 
           (part a 11 w) (part a 12 w)
       lent-parts s = record { fitted = lent s .fitted; books = lent s .books }
 
-      begins : r .full ≡ 0 → {set₀ : List ℕ} → set₀ ≡ replicate (length set) 0
+      begins : {w₃ : List ℕ} → FillsSlots (x .count) a w₂ w₃ → r .full ≡ 0 → {set₀ : List ℕ} → set₀ ≡ replicate (length set) 0
           → Driving (root ∷ others) tree (length tree / 4) 0 (r .count) numbers (drop (length numbers) (part a booksArea w)) [] set₀ κ (λ i. part a i w)
-          (bookLaid (begunBook strict r (x .count)) a w₂) (newContext strict) (begunUses (length numbers))
-      begins z empty =
+          (bookLaid (begunBook strict r (x .count)) a w₃) (newContext strict) (begunUses (length numbers))
+      begins S z empty =
           let D = driving strict constants books as-long A (cleared-parts a zeros) κ lent-parts z empty in
           record {
             distinct = D .distinct;
             limited = D .limited;
             ascends = D .ascends;
-            stands = D .stands;
+            stands = rw (lent-part (omega arith) f₂ (filled S) booksArea (omega arith)) (D .stands);
             so-many = D .so-many;
             in-all = D .in-all;
-            resting = at-rest (D .resting);
+            resting = at-rest S refl (D .resting);
           }
 
   module _ (calm : (d : Definition) → Calms (compileDefinition d)) where
@@ -164,20 +180,20 @@ module _ (strict : Bool) {tree set a w w₁ w₂ : List ℕ} {x r : Taken} (C : 
         → Works strict tree set a w (bookLaid s a w₂) row place
     work-full s-is ne row place = rw s-is (not-begun ne row place)
 
-    pub work-on : {s : struct.Book} → s ≡ begunBook strict r (x .count) → r .full ≡ 0 → {set₀ : List ℕ} → set₀ ≡ replicate (length set) 0
-        → {m′ : BookMemory} {row place : ℕ}
-        → Drives tree (length tree / 4) 0 (r .count) set₀ (bookLaid s a w₂) m′ row place → Works strict tree set a w m′ row place
-    work-on {s} s-is z {set₀} empty {m′} {row} {place} D = record {
+    pub work-on : {s : struct.Book} → s ≡ begunBook strict r (x .count) → r .full ≡ 0 → {w₃ : List ℕ} → FillsSlots (x .count) a w₂ w₃
+        → {set₀ : List ℕ} → set₀ ≡ replicate (length set) 0 → {m′ : BookMemory} {row place : ℕ}
+        → Drives tree (length tree / 4) 0 (r .count) set₀ (bookLaid s a w₃) m′ row place → Works strict tree set a w m′ row place
+    work-on {s} s-is z {w₃} S {set₀} empty {m′} {row} {place} D = record {
       works = λ root others A f zeros κ lent.
           let numbers = needed [] root others in
-          let D′ : Drives tree (length tree / 4) 0 (r .count) set₀ (bookLaid (begunBook strict r (x .count)) a w₂) m′ row place =
-          subst (λ (y : struct.Book). Drives tree (length tree / 4) 0 (r .count) set₀ (bookLaid y a w₂) m′ row place) s-is D in (
+          let D′ : Drives tree (length tree / 4) 0 (r .count) set₀ (bookLaid (begunBook strict r (x .count)) a w₃) m′ row place =
+          subst (λ (y : struct.Book). Drives tree (length tree / 4) 0 (r .count) set₀ (bookLaid y a w₃) m′ row place) s-is D in (
             drop (length numbers) (part a booksArea w),
             (
               zero-drop (length numbers) (part a booksArea w) (zero-part a w booksArea zeros),
               rw (as-work strict (constants f) (books f) (as-long f) A (cleared-parts a zeros) κ (lent-parts f A zeros κ lent))
                   (D′ .drives (root ∷ others) numbers (drop (length numbers) (part a booksArea w)) [] κ (λ i. part a i w) (newContext strict)
-                  (begunUses (length numbers)) (begins f A zeros κ lent z empty)),
+                  (begunUses (length numbers)) (begins f A zeros κ lent S z empty)),
             ),
           );
     }

@@ -6,7 +6,7 @@ use native.Mathlib.Decide.{ℕ-discrete}
 use mathlib.Core.Path.{_≡_, refl, sym, ap, subst, _∙_}
 use mathlib.Core.Bool.{Bool, true, false, cond}
 use mathlib.Core.List.{List, [], _∷_, _++_}
-use lib.ListN.{length, take, drop, getD, replicate}
+use lib.ListN.{length, take, drop, getD, replicate, length-replicate}
 use lib.Dec.{eqb}
 use Rattle.memory.specs.Layout.{part, withPart, partCount, startsOf, Fits}
 use Rattle.memory.proofs.Starts.{starts-fit}
@@ -16,23 +16,22 @@ use Rattle.words.specs.declared.reply.Reply as struct
 use Rattle.words.specs.Reply.{delivery, refusal}
 use Rattle.definition.specs.Uses.{Use, Limits}
 use Rattle.definition.specs.DependencySolver.{Ending, Worked, needed, compileNeeded}
-use Rattle.definition.specs.Answer.{limitsOf}
 use Rattle.definition.specs.Book.{newContext}
 use Rattle.definition.specs.Promise.{areas, lengthsOf, Compiles}
 use Rattle.definition.specs.Program.{flat}
 use Rattle.definition.specs.Within.{Areas}
-use Rattle.definition_laws.proofs.Strict.{none-there}
 use Rattle.compiler_laws.specs.declared.book.Book as book
 use Rattle.compiler_laws.specs.BooksInOrder.{Zero, Emptied, Cleared, Fronts, MarkedFrom}
 use Rattle.compiler_laws.specs.BooksInOrder as slices
 use Rattle.compiler_laws.specs.CallEnd.{totals, markRefusal}
 use Rattle.compiler_laws.specs.CallEnd as slices-end
 use Rattle.compiler_laws.proofs.CallEnd.{cleared-zero, SameLengths, run-row, run-finished, compile-runs}
+use Rattle.book_compiler.specs.Leaves.{ClearsSlots}
 use Rattle.book_compiler.specs.RepresentsBook.{BookMemory, bookLaid, areaOf}
-use Rattle.book_compiler.specs.BookOrder.{ReadsPart, Came, came-delivered, came-faulty, came-ring, Outcome, Lent, Works, ClearsButErrors, Finishes}
+use Rattle.book_compiler.specs.BookOrder.{ReadsPart, Came, came-delivered, came-faulty, came-ring, Outcome, Works, ClearsButErrors, Finishes}
 use Rattle.book_compiler.specs.BookOrder.{LentPart, ClearsPart, Runs, partsOf}
 use Rattle.book_compiler.specs.Promise.{areasIn, leftOver, CompilesInto}
-use Rattle.book_compiler.proofs.LentParts.{part-lent, part-wide, part-back, lent-does, lent-other, lent-fits, lent-length, part-lengths, zero-part}
+use Rattle.book_compiler.proofs.LentParts.{part-lent, part-wide, part-back, lent-does, lent-other, lent-part, part-lengths, zero-part}
 use Rattle.book_compiler.proofs.MemoryAreas.{memory-is, left-over-is, areas-are}
 use Rattle.book_compiler.proofs.BookBeginning.{cleared-parts}
 
@@ -117,11 +116,39 @@ pub finish-row : {m : BookMemory} {row place : ℕ} {after : List ℕ} {r : stru
     → ClearsButErrors (m .starts) (m .words) after → r ≡ refusal row place → Finishes m row place after r
 finish-row y ne C says = record { full = λ h. absurd (h y); refused = λ _ _. (C, says); whole = λ _ h. absurd (ne h) }
 
-pub finish-whole : {m : BookMemory} {row place globals : ℕ} {r : struct.Reply} → m .book .full ≡ 0 → row ≡ 0
-    → ReadsPart 2 (λ k. MarkedFrom k 0 (m .book .constants) 0 globals) (m .starts) (m .words) → r ≡ delivery (totals (m .book) place globals)
-    → Finishes m row place (m .words) r
-finish-whole {globals = globals} y h M says =
-    record { full = λ g. absurd (g y); refused = λ _ g. absurd (g h); whole = λ _ _. (refl, (globals, (M, says))) }
+pub finish-whole : {m : BookMemory} {row place globals : ℕ} {after : List ℕ} {r : struct.Reply} → m .book .full ≡ 0 → row ≡ 0
+    → ReadsPart 2 (λ k. MarkedFrom k 0 (m .book .constants) 0 globals) (m .starts) (m .words) → ClearsSlots (m .starts) (m .words) after
+    → r ≡ delivery (totals (m .book) place globals) → Finishes m row place after r
+finish-whole {globals = globals} y h M C says =
+    record { full = λ g. absurd (g y); refused = λ _ g. absurd (g h); whole = λ _ _. (C, (globals, (M, says))) }
+
+-- the slots cleared: they are zeros, and the areas as they were
+module _ {a w w′ : List ℕ} (f : Fits a (length w)) (C : ClearsSlots a w w′) where
+  slots-lent : LentPart 13 (λ t t′. t′ ≡ replicate (length t) 0) a w w′
+  slots-lent = record { on = C .on }
+
+  slots-zero : Zero (part a 13 w′)
+  slots-zero =
+      let q : part a 13 w′ ≡ replicate (length (part a 13 w)) 0 = lent-does (omega arith) f slots-lent in
+      q ∙ ap (λ (n : ℕ). replicate n 0) (sym (ap (λ (l : List ℕ). length l) q ∙ length-replicate (length (part a 13 w)) 0))
+
+  areas-stay : partsOf a w′ ≡ partsOf a w
+  areas-stay =
+      let at = lent-part (omega arith) f slots-lent in
+      rw (
+        at 1 (omega arith),
+        at 2 (omega arith),
+        at 3 (omega arith),
+        at 4 (omega arith),
+        at 5 (omega arith),
+        at 6 (omega arith),
+        at 7 (omega arith),
+        at 8 (omega arith),
+        at 9 (omega arith),
+        at 10 (omega arith),
+        at 11 (omega arith),
+        at 12 (omega arith),
+      ) refl
 
 -- what the parts are is what the areas were
 came-parts : {κ : Limits} {others : ℕ → List ℕ} {m : BookMemory} {rest : List ℕ} {row place : ℕ} {us : List Use} {x : Ending}
@@ -143,38 +170,6 @@ module _ {strict : Bool} {tree set a w : List ℕ} {m : BookMemory} {row place :
         let Y = W .works root others A f z κ (λ s. record { fitted = lent s .fitted; books = lent s .books }) in
         (Y .0, (Y .1 .0, record { full = Y .1 .1 .full; came = λ y. came-parts (Y .1 .1 .came y) }));
   }
-
-  -- the limits are those of the parts
-  lent-are : (s : book.Book) → Lent (limitsOf (lengthsOf (partsOf a w))) (bookLaid s a w)
-  lent-are s = record {
-    fitted = record {
-      code = refl;
-      constants = refl;
-      functions = refl;
-      models = refl;
-      properties = refl;
-      methods = refl;
-      locals = refl;
-      publics = refl;
-      names = refl;
-      breaks = refl;
-      errors = refl;
-      others = none-there (lengthsOf (partsOf a w));
-    };
-    books = refl;
-  }
-
-  -- a delivery leaves what is left over as it was
-  left-over-stays : {number at : ℕ} → Fronts tree number at set → number ≡ 0 → m .book .full ≡ 0 → row ≡ 0 → areaOf m 13 ≡ part a 13 w
-  left-over-stays F went y h =
-      let X = F .accepted went in
-      let Y = W .works (X .0) (X .1 .0) (X .1 .1) f z (limitsOf (lengthsOf (partsOf a w))) lent-are in
-      go (Y .1 .1 .came y)
-    where
-      go : {κ : Limits} {rest : List ℕ} {us : List Use} {x : Ending} → Came κ (λ i. part a i w) m rest row place us x → areaOf m 13 ≡ part a 13 w
-      go (came-delivered h′ i R b) = R .represents .ready .preserves .same 13 (omega arith) refl
-      go (came-faulty h′ i F) = absurd (omega (arith, h, h′))
-      go (came-ring h′ i F) = absurd (omega (arith, h, h′))
 
 same-parts : (a w w′ : List ℕ) → Fits a (length w) → length w′ ≡ length w
     → SameLengths
@@ -213,7 +208,7 @@ module _ {strict : Bool} {tree set a w : List ℕ} {number at : ℕ} {r : struct
     finishes-parts f′ = record {
       full = λ ne. let X = E .full ne in let Z = cleared-parts a (X .0) in (Z .emptied, (Z .errors, X .1));
       refused = λ y ne. let X = E .refused y ne in (emptied (X .0 .zeros f′), (X .0 .kept f′, X .1));
-      whole = λ y h. let X = E .whole y h in (ap (partsOf a) (X .0), (X .1 .0, (X .1 .1 .0 .on f′, X .1 .1 .1)));
+      whole = λ y h. let X = E .whole y h in (areas-stay f′ (X .0), (X .1 .0, (X .1 .1 .0 .on f′, X .1 .1 .1)));
     }
       where
         emptied : ((i : ℕ) → i < partCount → (errorsArea ≡ i → ⊥) → Zero (part a i w″))
@@ -236,9 +231,7 @@ module _ {strict : Bool} {tree set a w : List ℕ} {number at : ℕ} {r : struct
     over : Fits a (length w) → Zero w → Dec (s .full ≡ 0) → Dec (row ≡ 0) → Zero (part a 13 w″)
     over f z (no ne) d = zero-part a w″ 13 (E .full ne .0)
     over f z (yes y) (no ne) = E .refused y ne .0 .zeros (rw long′ f) 13 (omega arith) (λ q. omega arith)
-    over f z (yes y) (yes h) =
-        let same : part a 13 w″ ≡ part a 13 w = ap (part a 13) (E .whole y h .0) ∙ left-over-stays f z W F went y h in
-        rw same (zero-part a w 13 z)
+    over f z (yes y) (yes h) = slots-zero (rw long′ f) (E .whole y h .0)
 
     pub run-worked : Runs strict tree a w w″ r
     run-worked = record {

@@ -2,25 +2,27 @@
 use Prim.Native.Nat.{ℕ, suc, _≤_, _<_}
 use native.Mathlib.Omega.{arith}
 use mathlib.Core.Path.{_≡_, refl, sym, ap, subst, _∙_}
-use mathlib.Core.Bool.{Bool, true, false, cond}
+use mathlib.Core.Bool.{Bool, true, false, not, cond, _&&_}
 use mathlib.Core.List.{List}
 use lib.ListN.{length, getD}
 use lib.Dec.{eqb}
-use borrow.Author.Tests.{eqb-true}
+use borrow.Author.Tests.{eqb-true, eqb-false, ne-eqb}
 use Rattle.memory.specs.Layout.{part, withPart, partCount, Fits}
 use Rattle.memory.proofs.Parts.{put-part, put-fits, ends-within}
 use Rattle.definition.specs.Uses.{Limits}
-use Rattle.definition.specs.Book.{Book, Deed, Placed, MaybePlaced}
+use Rattle.definition.specs.Book.{Book, Deed, MaybePlaced}
 use Rattle.definition_laws.proofs.Steady.{Longer}
 use Rattle.building.specs.declared.scopes.Found.{Found}
 use Rattle.compiler_laws.specs.declared.book.Book as struct
-use Rattle.compiler_laws.specs.BookAreas.{Shelf, shelf, Keeping, Shelved, Deeds, Places, Seeks}
+use Rattle.compiler_laws.specs.BookAreas.{Shelf, shelf, Keeping, Deeds, Seeks}
 use Rattle.compiler_laws.proofs.UnchangedByBooks.{Calm, Calms}
 use Rattle.compiler_laws.proofs.BookStepsInOrder.{keeping-longer, unfilled}
-use Rattle.book_compiler.specs.Represents.{Replaced}
+use Rattle.constant_slots.specs.Plain.{poolOf}
+use Rattle.book_compiler.specs.Represents.{SlotsFilled, Replaced}
 use Rattle.book_compiler.specs.RepresentsBook.{BookMemory, bookLaid, areaOf, bookView, isBookArea, PreservesParts, RepresentsBook, OnArea}
-use Rattle.book_compiler.specs.RepresentsBook.{SimulatesBook, SimulatesPlaced, SimulatesSought}
-use Rattle.book_compiler.specs.BookLeaves.{ReadsAreas}
+use Rattle.book_compiler.specs.RepresentsBook.{SimulatesBook, SimulatesSought}
+use Rattle.book_compiler.specs.BookLeaves.{SameConstantCount, ReadsAreas}
+use Rattle.book_compiler.proofs.Parts.{slots-same}
 
 -- the counts and areas with other counts and another area i
 abbrev pub withBookArea : ℕ → struct.Book → List ℕ → Shelf → Shelf
@@ -46,6 +48,27 @@ put-view a w x s s′ f i h l =
       put-part a w x f i h l 11 (omega arith),
     ) refl
 
+-- the areas that a book is compiled into, the constants and their slots apart
+abbrev pub isOtherArea : ℕ → Bool
+isOtherArea i = isBookArea i && (not (eqb i 2) && not (eqb i 13))
+
+record Other (i : ℕ) : Type 0 where
+  own : isBookArea i ≡ true
+  constants : eqb i 2 ≡ false
+  slots : eqb i 13 ≡ false
+
+other : (i : ℕ) → isOtherArea i ≡ true → Other i
+other i q = go (isBookArea i) refl (eqb i 2) refl (eqb i 13) refl q
+  where
+    no′ : _≡_ {A = Bool} false true → ⊥
+    no′ q = let y : _≡_ {A = ℕ} 1 0 = ap (λ (b : Bool). cond b 0 1) q in omega arith
+
+    go : (a : Bool) → isBookArea i ≡ a → (b : Bool) → eqb i 2 ≡ b → (c : Bool) → eqb i 13 ≡ c → (a && (not b && not c)) ≡ true → Other i
+    go true p false p₁ false p₂ q = record { own = p; constants = p₁; slots = p₂ }
+    go true p false p₁ true p₂ q = absurd (no′ q)
+    go true p true p₁ c p₂ q = absurd (no′ q)
+    go false p b p₁ c p₂ q = absurd (no′ q)
+
 apart : (i j : ℕ) → isBookArea i ≡ true → isBookArea j ≡ false → eqb i j ≡ false
 apart i j p q = go (eqb i j) refl
   where
@@ -53,11 +76,18 @@ apart i j p q = go (eqb i j) refl
     go false e = refl
     go true e = sym (sym q ∙ ap isBookArea (sym (eqb-true i j e)) ∙ p)
 
--- a routine on one part: what it does to the counts and areas, of a memory with its layout
-pub area-kept : {κ : Limits} {ps : List ℕ} {others : ℕ → List ℕ} {i : ℕ} {R : List ℕ → List ℕ → Type 0} {m m′ : BookMemory} {b : Book}
-    → i < 14 → isBookArea i ≡ true → Fits (m .starts) (length (m .words)) → PreservesParts others m → OnArea i R m m′
+-- a part that no definition changes is none that a book is compiled into
+pub not-part : (j i : ℕ) → isBookArea i ≡ true → isBookArea j ≡ false → eqb j i ≡ false
+not-part j i p q = ne-eqb j i (λ r. eqb-false i j (apart i j p q) (sym r))
+
+-- a routine on one part, neither constants nor slots: what it does to the counts and areas, of a memory with its layout. As many constants are counted as
+-- the slots were filled with
+pub area-kept : {κ : Limits} {ps : List ℕ} {others : ℕ → List ℕ} {i n : ℕ} {R : List ℕ → List ℕ → Type 0} {m m′ : BookMemory} {b : Book}
+    → i < 14 → isOtherArea i ≡ true → Fits (m .starts) (length (m .words)) → PreservesParts others m → SlotsFilled n (m .starts) (m .words)
+    → OnArea i R m m′ → ((x : List ℕ) → R (areaOf m i) x → m′ .book .constants ≡ n)
     → ((x : List ℕ) → R (areaOf m i) x → Keeping κ ps (withBookArea i (m′ .book) x (bookView m)) b) → RepresentsBook κ ps others m′ b
-area-kept {κ} {ps} {others} {i} {R} {m} {m′} {b} lt own suits same o law =
+area-kept {κ} {ps} {others} {i} {n} {R} {m} {m′} {b} lt is-other suits same filled o count law =
+    let e = other i is-other in
     let p = o .on suits in
     let a = m .starts in
     let here : Keeping κ ps (bookView (bookLaid (m′ .book) a (m′ .words))) b =
@@ -67,37 +97,39 @@ area-kept {κ} {ps} {others} {i} {R} {m} {m′} {b} lt own suits same o law =
     record {
       same = λ j g q.
           ap (part a j) (p .is) ∙ put-part a (m .words) (p .words) suits i lt (p .long) j g
-          ∙ ap (λ (t : Bool). cond t (p .words) (areaOf m j)) (apart i j own q) ∙ same .same j g q;
+          ∙ ap (λ (t : Bool). cond t (p .words) (areaOf m j)) (apart i j (e .own) q) ∙ same .same j g q;
     } in
+    let slots : SlotsFilled (m′ .book .constants) a (m′ .words) =
+    slots-same
+    (ap (part a 13) (p .is) ∙ put-part a (m .words) (p .words) suits i lt (p .long) 13 (omega arith)
+    ∙ ap (λ (t : Bool). cond t (p .words) (areaOf m 13)) (e .slots))
+    (ap (λ (l : List ℕ). poolOf (m′ .book .constants) l)
+    (ap (part a 2) (p .is) ∙ put-part a (m .words) (p .words) suits i lt (p .long) 2 (omega arith)
+    ∙ ap (λ (t : Bool). cond t (p .words) (areaOf m 2)) (e .constants)) ∙ ap (λ (k : ℕ). poolOf k (areaOf m 2)) (count (p .words) (p .does))) filled in
     record {
       fits = rw (o .same) fits;
       preserves = subst (λ (w : List ℕ). PreservesParts others (bookLaid (m′ .book) w (m′ .words))) (sym (o .same)) kept;
       keeping = rw (o .same) here;
+      slots = subst (λ (w : List ℕ). SlotsFilled (m′ .book .constants) w (m′ .words)) (sym (o .same)) slots;
     }
 
 -- and of one that stands for a book
 pub area-law : {κ : Limits} {ps ps′ : List ℕ} {others : ℕ → List ℕ} {i : ℕ} {R : List ℕ → List ℕ → Type 0} {m m′ : BookMemory} {b b′ : Book}
-    → i < 14 → isBookArea i ≡ true → OnArea i R m m′ → RepresentsBook κ ps others m b
+    → i < 14 → isOtherArea i ≡ true → SameConstantCount m m′ → OnArea i R m m′ → RepresentsBook κ ps others m b
     → ((x : List ℕ) → R (areaOf m i) x → Keeping κ ps′ (withBookArea i (m′ .book) x (bookView m)) b′) → RepresentsBook κ ps′ others m′ b′
-area-law lt own o H law = area-kept lt own (H .fits) (H .preserves) o law
+area-law lt own count o H law = area-kept lt own (H .fits) (H .preserves) (H .slots) o (λ x r. count) law
 
--- so its deed, its number and what it finds on the counts and areas are those on the memory
-module _ {i : ℕ} {R : List ℕ → List ℕ → Type 0} {m m′ : BookMemory} (lt : i < 14) (own : isBookArea i ≡ true) (o : OnArea i R m m′) where
+-- so its deed and what it finds on the counts and areas are those on the memory
+module _ {i : ℕ} {R : List ℕ → List ℕ → Type 0} {m m′ : BookMemory} (lt : i < 14) (own : isOtherArea i ≡ true) (count : SameConstantCount m m′)
+    (o : OnArea i R m m′) where
   pub area-simulates : {deed : Deed} → ((x : List ℕ) → R (areaOf m i) x → Deeds (bookView m) (withBookArea i (m′ .book) x (bookView m)) deed)
       → SimulatesBook m m′ deed
-  area-simulates law = record { meets = λ κ ps others b H. area-law lt own o H (λ x r. law x r .meets κ ps b (H .keeping)) }
-
-  pub area-places : {place : ℕ} {deed : Book → Placed}
-      → ((x : List ℕ) → R (areaOf m i) x → Places (bookView m) (withBookArea i (m′ .book) x (bookView m)) place deed) → SimulatesPlaced m m′ place deed
-  area-places law = record {
-    meets = λ κ ps others b H. area-law lt own o H (λ x r. law x r .meets κ ps b (H .keeping));
-    placed = λ κ ps others b H z. let p = o .on (H .fits) in law (p .words) (p .does) .placed κ ps b (H .keeping) z;
-  }
+  area-simulates law = record { meets = λ κ ps others b H. area-law lt own count o H (λ x r. law x r .meets κ ps b (H .keeping)) }
 
   pub area-seeks : {found : Found} {deed : Book → MaybePlaced}
       → ((x : List ℕ) → R (areaOf m i) x → Seeks (bookView m) (withBookArea i (m′ .book) x (bookView m)) found deed) → SimulatesSought m m′ found deed
   area-seeks law = record {
-    meets = λ κ ps others b H. area-law lt own o H (λ x r. law x r .meets κ ps b (H .keeping));
+    meets = λ κ ps others b H. area-law lt own count o H (λ x r. law x r .meets κ ps b (H .keeping));
     sought = λ κ ps others b H z. let p = o .on (H .fits) in law (p .words) (p .does) .sought κ ps b (H .keeping) z;
   }
 
@@ -118,7 +150,7 @@ area-back {i} h a w w′ n = record { same = refl; on = λ f. absurd (omega (ari
 -- with the mark set the memory stands for whatever is compiled further
 pub represents-longer : {κ : Limits} {ps ps′ : List ℕ} {others : ℕ → List ℕ} {m : BookMemory} {b b′ : Book} → Longer (b .uses) (b′ .uses)
     → (m .book .full ≡ 0 → ⊥) → RepresentsBook κ ps others m b → RepresentsBook κ ps′ others m b′
-represents-longer l ne H = record { fits = H .fits; preserves = H .preserves; keeping = keeping-longer l ne (H .keeping) }
+represents-longer l ne H = record { fits = H .fits; preserves = H .preserves; keeping = keeping-longer l ne (H .keeping); slots = H .slots }
 
 -- not full after, not full before
 pub represents-unfilled : {κ : Limits} {ps ps′ : List ℕ} {others : ℕ → List ℕ} {m m′ : BookMemory} {b b′ : Book} → Longer (b .uses) (b′ .uses)
@@ -150,4 +182,4 @@ area-map g o = record {
 -- the memory as it was stands for another book
 pub represents-same : {κ : Limits} {ps ps′ : List ℕ} {others : ℕ → List ℕ} {m : BookMemory} {b b′ : Book} → RepresentsBook κ ps others m b
     → Keeping κ ps′ (bookView m) b′ → RepresentsBook κ ps′ others m b′
-represents-same H K = record { fits = H .fits; preserves = H .preserves; keeping = K }
+represents-same H K = record { fits = H .fits; preserves = H .preserves; keeping = K; slots = H .slots }

@@ -256,6 +256,7 @@ module _ {tree : List ℕ} {end done count : ℕ} {set : List ℕ} {s s₁ : str
                     fits = R .kept .fits;
                     preserves = record { same = R .kept .preserves .same };
                     keeping = put-away clean (R .kept .keeping) .ready;
+                    slots = R .kept .slots;
                   };
                 };
               };

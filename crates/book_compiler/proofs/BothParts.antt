@@ -2,7 +2,7 @@
 use Prim.Native.Nat.{ℕ, suc, _+_, _-_, _≤_, _<_, min}
 use native.Mathlib.Omega.{arith}
 use mathlib.Core.Path.{_≡_, refl, sym, ap, subst, _∙_}
-use mathlib.Core.Bool.{Bool, true, false, cond, _||_}
+use mathlib.Core.Bool.{Bool, true, false, cond}
 use mathlib.Core.List.{List, [], _∷_}
 use lib.ListN.{length}
 use lib.Dec.{eqb}
@@ -24,17 +24,20 @@ use Rattle.building.specs.Emission.{Coded, coded, Breaking, breaking, nextC, em
 use Rattle.building.specs.Held.{Machine, machine, Held, isOpen}
 use Rattle.building.proofs.Emitting.{patch-turn, patch-end, exit-full, exit-more, break-in, break-out}
 use Rattle.building.proofs.BreakLaws.{held-breaking, breakingMachine, break-law, exit-break-law}
-use Rattle.book_compiler.specs.Represents.{Memory, laid, partOf, view, isBuilt, Preserves, Represents, Replaced, On, Acts}
+use Rattle.book_compiler.specs.Represents.{Memory, laid, partOf, Represents, Replaced, On, Acts}
+use Rattle.constant_slots.specs.Plain.{poolOf}
+use Rattle.book_compiler.proofs.Parts.{unbuilt, slots-same}
+use Rattle.book_compiler.proofs.ConstantCount.{break-count, exit-break-count}
 use Rattle.book_compiler.specs.Leaves.{OnCode, OnBreaks, GivesUpBreaks, WaitingBreak, PushesBreak, Both, OnBoth, patched}
 
 -- every part after a routine that was lent part i
-record Replacing (i : ℕ) (R : List ℕ → List ℕ → Type 0) (m m′ : Memory) : Type 0 where
-  words : List ℕ
-  does : R (partOf m i) words
-  fits : Fits (m′ .starts) (length (m′ .words))
-  parts : (j : ℕ) → j < 14 → partOf m′ j ≡ cond (eqb i j) words (partOf m j)
+pub record Replacing (i : ℕ) (R : List ℕ → List ℕ → Type 0) (m m′ : Memory) : Type 0 where
+  pub words : List ℕ
+  pub does : R (partOf m i) words
+  pub fits : Fits (m′ .starts) (length (m′ .words))
+  pub parts : (j : ℕ) → j < 14 → partOf m′ j ≡ cond (eqb i j) words (partOf m j)
 
-replacing : {i : ℕ} {R : List ℕ → List ℕ → Type 0} {m m′ : Memory} → i < 14 → On i R m m′ → Fits (m .starts) (length (m .words)) → Replacing i R m m′
+pub replacing : {i : ℕ} {R : List ℕ → List ℕ → Type 0} {m m′ : Memory} → i < 14 → On i R m m′ → Fits (m .starts) (length (m .words)) → Replacing i R m m′
 replacing {i} {R} {m} {m′} h o f =
     let p = o .on f in
     let a = m .starts in
@@ -46,31 +49,22 @@ replacing {i} {R} {m} {m′} h o f =
       parts = λ j g. ap (λ (b : List ℕ). part b j (m′ .words)) (o .same) ∙ ap (part a j) (p .is) ∙ put-part a (m .words) (p .words) f i h (p .long) j g;
     }
 
-true-false : _≡_ {A = Bool} true false → ⊥
-true-false q = let y : _≡_ {A = ℕ} 0 1 = ap (λ (b : Bool). cond b 0 1) q in omega arith
-
--- a method over both on what the memory stands for
-unbuilt : (j : ℕ) → isBuilt j ≡ false → (eqb j 1 ≡ false) × (eqb j 10 ≡ false)
-unbuilt j q = go (eqb j 1) (eqb j 2) (eqb j 9) (eqb j 10) (eqb j 11) q
-  where
-    go : (a b c d e : Bool) → (a || b || c || d || e) ≡ false → (a ≡ false) × (d ≡ false)
-    go false false false false e q = (refl, refl)
-    go true b c d e q = absurd (true-false q)
-    go false true c d e q = absurd (true-false q)
-    go false false true d e q = absurd (true-false q)
-    go false false false true e q = absurd (true-false q)
-
+-- a method over both on what the memory stands for: it keeps the count of constants
 pub both-law : {κ : Limits} {E : Entries} {others : ℕ → List ℕ} {f : Breaking → Breaking} {m m′ : Memory} {w w′ : Work} → m′ .starts ≡ m .starts
-    → OnBoth f m m′ → Represents κ E others m w
+    → OnBoth f m m′ → Represents κ E others m w → ((g : Breaking) → f g .state .constants ≡ g .state .constants)
     → Held κ E (breakingMachine (f (breaking (m .state) (partOf m 1) (partOf m 10))) (partOf m 2) (partOf m 9) (partOf m 11)) w′
     → Represents κ E others m′ w′
-both-law {m = m} {m′ = m′} same o H G =
+both-law {m = m} {m′ = m′} same o H count G =
     let B = o .on (H .fits) in
     record {
       fits = B .fits;
-      preserves = record { same = λ j g q. let u = unbuilt j q in B .others j g (u .0) (u .1) ∙ H .preserves .same j g q };
+      preserves = record { same = λ j g q. let u = unbuilt j q in B .others j g (u .code) (u .breaks) ∙ H .preserves .same j g q };
       held = rw (B .others 2 (omega arith) refl refl, B .others 9 (omega arith) refl refl, B .others 11 (omega arith) refl refl)
           (held-breaking (m′ .state) (partOf m′ 1) (partOf m′ 10) (B .is) G);
+      slots = slots-same (B .others 13 (omega arith) refl refl)
+          (ap (λ (u : List ℕ). poolOf (m′ .state .constants) u) (B .others 2 (omega arith) refl refl)
+          ∙ ap (λ (n : ℕ). poolOf n (partOf m 2))
+          (ap (λ (x : Breaking). x .state .constants) (B .is) ∙ count (breaking (m .state) (partOf m 1) (partOf m 10)))) (H .slots);
     }
 
 -- `emit_break`
@@ -116,7 +110,7 @@ break-inside p {s} {a} {l} {index} {m₁} {m′} inside at d e = record {
 
 pub break-acts : {s : FunctionState} {a l : List ℕ} {s′ : FunctionState} {l′ : List ℕ} (p : ℕ) → OnBoth (emitBreakC p) (laid s a l) (laid s′ a l′)
     → Acts (laid s a l) (laid s′ a l′) (doing (method.emitBreak p))
-break-acts p o = record { meets = λ κ E others w H. both-law refl o H (break-law p (H .held)) }
+break-acts p o = record { meets = λ κ E others w H. both-law refl o H (break-count p) (break-law p (H .held)) }
 
 -- `patch_breaks`: what is left to patch from i is what was to patch at first
 pub record Patching (v i : ℕ) (m m′ : Memory) : Type 0 where
@@ -188,4 +182,4 @@ pub exited : {κ : Limits} {E : Entries} {others : ℕ → List ℕ} {start : �
     → OnBoth (exitBreakC start inside) (laid s a l) (laid s′ a l′) → (s .full ≡ 0 → start ≡ total (tail (tail (w .function .breakScopes))))
     → (s .full ≡ 0 → inside ≡ isOpen (tail (w .function .breakScopes))) → Represents κ E others (laid s a l) w
     → Represents κ E others (laid s′ a l′) (doing (method.exitBreakScope exit) w)
-exited {start = start} {inside = inside} exit o hs hi H = both-law refl o H (exit-break-law exit start inside (H .held) hs hi)
+exited {start = start} {inside = inside} exit o hs hi H = both-law refl o H (exit-break-count start inside) (exit-break-law exit start inside (H .held) hs hi)

@@ -93,6 +93,7 @@ module _ {tree : List ℕ} {at end name : ℕ} {s s₁ : struct.Book} {a l l₁ 
         full = over-longer κ (calm-rest f (local .place) (compileBase f (local .book)) .uses) (built .function .held .full) ne;
         rest = λ z. absurd (ne z);
       };
+      slots = built .function .slots;
     }
 
     instance-represents : r .full ≡ 0 → r .«is_instance» ≡ true → {m′ : BookMemory} → DropsBookFunction tree at r (bookLaid s₁ a l′) m′

@@ -174,6 +174,7 @@ module _ (tree : List ℕ) (at end : ℕ) {m : BookMemory} where
               preserves = record { same = H .preserves .same };
               keeping = keeping-over K z (notPublicArea at) 1 x refl (fitted-locals refl (K .fitted)) refl (omega arith)
                   (let none′ = K .fitted .others (notPublicArea at) (omega arith) in omega arith);
+              slots = H .slots;
             });
       };
     }

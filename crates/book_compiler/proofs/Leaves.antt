@@ -186,6 +186,7 @@ module _ {start count : ℕ} {m m′ : Memory} {kind position value : ℕ} where
                 fits = G .fits;
                 preserves = G .preserves;
                 held = put-reads (G .held) (w .function .log .thisReads ++ (getNextInstructionIndex (w .function) ∷ []));
+                slots = G .slots;
               };
         }
 

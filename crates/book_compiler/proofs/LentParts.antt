@@ -19,9 +19,11 @@ use Rattle.compiler_laws.specs.declared.book.Book as struct
 use Rattle.compiler_laws.specs.BookAreas.{Shelf, shelf, Keeping}
 use Rattle.compiler_laws.specs.OpenedBooks.{openedBook, nobody}
 use Rattle.compiler_laws.specs.BooksInOrder.{Zero}
+use Rattle.constant_slots.specs.Plain.{poolOf}
 use Rattle.book_compiler.specs.Represents.{Replaced}
 use Rattle.book_compiler.specs.RepresentsBook.{bookLaid, bookView, isBookArea, RepresentsBook}
 use Rattle.book_compiler.specs.BookOrder.{LentPart, ReadsPart, AtRest, withBooks}
+use Rattle.book_compiler.proofs.Parts.{slots-same}
 
 -- the part was lent
 pub part-lent : {i : ℕ} {R : List ℕ → List ℕ → Type 0} (a w x : List ℕ) → R (part a i w) x → length x ≡ length (part a i w)
@@ -95,6 +97,8 @@ still-at-rest {κ} {others} {R} {s} {a} {w} {w′} {context} {uses} L H =
           preserves = record { same = λ j g q. go j g q (eqb j booksArea) refl };
           keeping = subst (λ (v : Shelf). Keeping κ [] v (opened nobody context uses)) (sym (books-view {s = openedBook s (bookCount context)} f L))
               (before .keeping);
+          slots = slots-same (lent-part (omega arith) f L 13 (omega arith))
+              (ap (λ (k : List ℕ). poolOf (s .constants) k) (lent-part (omega arith) f L 2 (omega arith))) (before .slots);
         };
       };
     }

@@ -1,3 +1,5 @@
+pub mod PoolSlots
+pub mod ConstantCount
 pub mod Parts
 pub mod Breaks
 pub mod Steps
@@ -26,3 +28,5 @@ pub mod ImplementDefinitions
 pub mod Parameters
 pub mod MakingFunctions
 pub mod FunctionDefinitions
+pub mod SlotSteps
+pub mod SlotFilling

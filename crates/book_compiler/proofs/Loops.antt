@@ -63,7 +63,7 @@ start-acts one two opened entered′ = record {
         let H₄ = loop-entered H₃ entered′ in
         let G₃ = held-renoted f₃ g (H₂ .held) (omega arith) (omega arith) (omega arith) (H₄ .held) in
         let G₂ = held-renoted f₂ g (H₁ .held) (omega arith) (omega arith) (omega arith) G₃ in
-        record { fits = H₄ .fits; preserves = H₄ .preserves; held = held-renoted f₁ g (H .held) (omega arith) (omega arith) (omega arith) G₂ };
+        record { fits = H₄ .fits; preserves = H₄ .preserves; held = held-renoted f₁ g (H .held) (omega arith) (omega arith) (omega arith) G₂; slots = H₄ .slots };
   };
 }
 

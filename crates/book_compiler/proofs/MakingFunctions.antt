@@ -26,7 +26,7 @@ use Rattle.building.specs.declared.function_state.FunctionState.{FunctionState}
 use Rattle.building.specs.declared.scopes.Found.{Found}
 use Rattle.building.specs.Emission.{Coded, coded, dropC}
 use Rattle.building.specs.State.{begun, withCodeCount}
-use Rattle.building.specs.Scopes.{endFunctionC}
+use Rattle.building.specs.Scopes.{Naming, naming, endFunctionC}
 use Rattle.building.specs.Taking.{givenUp}
 use Rattle.building.specs.Found.{foundOf}
 use Rattle.building.specs.Held.{machine}
@@ -48,14 +48,15 @@ use Rattle.book_compiler.specs.Leaves.{OnCode, OnNames}
 use Rattle.book_compiler.specs.RepresentsBook.{BookMemory, bookLaid, areaOf, isBookArea, PreservesParts, RepresentsBook, OnArea}
 use Rattle.book_compiler.specs.BookLeaves.{PushesBookError, AddsBookConstant, SetsLocalValue}
 use Rattle.book_compiler.specs.FunctionSteps.{CompilesBase, Built, MakesFunction, AddsBookFunction, DropsBookFunction, AddsPlainFunction}
-use Rattle.book_compiler.proofs.Parts.{on-law}
+use Rattle.book_compiler.proofs.Parts.{on-other}
+use Rattle.book_compiler.proofs.ConstantCount.{end-function-count, drop-count}
 use Rattle.book_compiler.proofs.BookParts.{area-kept}
 use Rattle.book_compiler.proofs.BookLeaves.{error-pushed, constant-added, value-set}
 
 -- a book's memory as that of its next function
 begins : {κ : Limits} {ps : List ℕ} {others : ℕ → List ℕ} {s : struct.Book} {a l : List ℕ} {x : Book} → RepresentsBook κ ps others (bookLaid s a l) x
     → Represents κ (codeSoFar x) (areaOf (bookLaid s a l)) (laid (begun (s .full) (s .code) (s .constants) (s .errors)) a l) (working x)
-begins H = record { fits = H .fits; preserves = record { same = λ i h q. refl }; held = held-working (H .keeping) }
+begins H = record { fits = H .fits; preserves = record { same = λ i h q. refl }; held = held-working (H .keeping); slots = H .slots }
 
 -- `make`
 module _ {tree : List ℕ} {at end : ℕ} {s : struct.Book} {a l : List ℕ} {r : FunctionState}
@@ -70,6 +71,7 @@ module _ {tree : List ℕ} {at end : ℕ} {s : struct.Book} {a l : List ℕ} {r 
             fits = G .fits;
             preserves = record { same = G .preserves .same };
             held = held-longer {w′ = ended (baseOf f x)} (base-longer f x) ne (G .held);
+            slots = G .slots;
           });
         };
   }
@@ -81,26 +83,31 @@ module _ {tree : List ℕ} {at end : ℕ} {s : struct.Book} {a l : List ℕ} {r 
     makes = λ kind f h q κ ps others x H.
         let G = begins H in
         let A : Represents κ (codeSoFar x) (areaOf (bookLaid s a l)) (laid r a l) (withFunction newFunctionState (working x)) =
-        rw worked (record { fits = G .fits; preserves = record { same = G .preserves .same }; held = touch-law (G .held) }) in
+        rw worked (record { fits = G .fits; preserves = record { same = G .preserves .same }; held = touch-law (G .held); slots = G .slots }) in
         let M = B .meets kind f h q κ (codeSoFar x) (areaOf (bookLaid s a l)) (working x) (H .keeping .rest z .named) A in
-        record { book = H; function = on-law (omega arith) refl (ends .acts) M (λ n e. end-law (M .held) e) };
+        record {
+          book = H;
+          function = on-other (omega arith) refl refl refl (ends .acts) M
+              (λ n e. ap (λ (g : Naming). g .state .constants) e ∙ end-function-count (naming r₁ (part a 9 l₁))) (λ n e. end-law (M .held) e);
+        };
   }
 
 -- the parts that a function is built in are a book's
 not-built : (i : ℕ) → isBookArea i ≡ false → isBuilt i ≡ false
-not-built i q = go (eqb i 1) refl (eqb i 2) refl (eqb i 9) refl (eqb i 10) refl (eqb i 11) refl
+not-built i q = go (eqb i 1) refl (eqb i 2) refl (eqb i 9) refl (eqb i 10) refl (eqb i 11) refl (eqb i 13) refl
   where
     but : (j : ℕ) → eqb i j ≡ true → isBookArea j ≡ true → true ≡ false
     but j e t = sym t ∙ ap isBookArea (sym (eqb-true i j e)) ∙ q
 
     go : (a : Bool) → eqb i 1 ≡ a → (b : Bool) → eqb i 2 ≡ b → (c : Bool) → eqb i 9 ≡ c → (d : Bool) → eqb i 10 ≡ d → (e : Bool) → eqb i 11 ≡ e
-        → (a || b || c || d || e) ≡ false
-    go true p b p₁ c p₂ d p₃ e p₄ = but 1 p refl
-    go false p true p₁ c p₂ d p₃ e p₄ = but 2 p₁ refl
-    go false p false p₁ true p₂ d p₃ e p₄ = but 9 p₂ refl
-    go false p false p₁ false p₂ true p₃ e p₄ = but 10 p₃ refl
-    go false p false p₁ false p₂ false p₃ true p₄ = but 11 p₄ refl
-    go false p false p₁ false p₂ false p₃ false p₄ = refl
+        → (f : Bool) → eqb i 13 ≡ f → (a || b || c || d || e || f) ≡ false
+    go true p b p₁ c p₂ d p₃ e p₄ f p₅ = but 1 p refl
+    go false p true p₁ c p₂ d p₃ e p₄ f p₅ = but 2 p₁ refl
+    go false p false p₁ true p₂ d p₃ e p₄ f p₅ = but 9 p₂ refl
+    go false p false p₁ false p₂ true p₃ e p₄ f p₅ = but 10 p₃ refl
+    go false p false p₁ false p₂ false p₃ true p₄ f p₅ = but 11 p₄ refl
+    go false p false p₁ false p₂ false p₃ false p₄ true p₅ = but 13 p₅ refl
+    go false p false p₁ false p₂ false p₃ false p₄ false p₅ = refl
 
 module _ {κ : Limits} {ps : List ℕ} {others : ℕ → List ℕ} {s : struct.Book} {a l l′ : List ℕ} {r : FunctionState} {x : Book} {f : FunctionDefinition}
     (B : Built κ ps others (bookLaid s a l) x f (laid r a l′)) where
@@ -133,8 +140,8 @@ module _ {κ : Limits} {ps : List ℕ} {others : ℕ → List ℕ} {s : struct.B
   pub added-represents : {name : ℕ} {s₁ : struct.Book} {l″ : List ℕ} → Bounded f → AddsBookFunction name r (bookLaid s a l′) (bookLaid s₁ a l″)
       → RepresentsBook κ ps others (bookLaid s₁ a l″) (addFunction (compileBase f x .state) name (compileBase f x .book))
   added-represents bounded d =
-      area-kept (omega arith) refl (B .function .fits) built-kept (d .acts) (λ g F.
-      F .adds f bounded (part a 1 l) (part a 2 l) (part a 9 l) (part a 10 l) (part a 11 l) (part a 1 l′) (part a 2 l′) (part a 9 l′) (part a 10 l′)
+      area-kept (omega arith) refl (B .function .fits) built-kept (B .function .slots) (d .acts) (λ g F. F .1) (λ g F.
+      F .0 .adds f bounded (part a 1 l) (part a 2 l) (part a 9 l) (part a 10 l) (part a 11 l) (part a 1 l′) (part a 2 l′) (part a 9 l′) (part a 10 l′)
       (part a 11 l′) (part a 4 l′) (part a 5 l′) (part a 6 l′) (part a 7 l′) (part a 8 l′) κ ps x built-parts)
 
 -- `drop_instance`
@@ -192,7 +199,8 @@ pub drop-meets : {tree : List ℕ} {at : ℕ} {s s₁ : struct.Book} {r r₁ : F
 drop-meets {tree} {at} {s} {s₁} {r} {r₁} {a} {l} {l₁} {m′} d back F = record {
   drops = λ f l₀ κ ps others x B.
       let K : RepresentsBook κ ps others (bookLaid (resumedBook s r₁) a l₁) (compileBase f x .book) =
-      area-kept (omega arith) refl (B .function .fits) (built-kept B {s′ = s}) (on-area {s = s} {s′ = resumedBook s r₁} (d .acts)) (λ c q.
+      area-kept (omega arith) refl (B .function .fits) (built-kept B {s′ = s}) (B .function .slots) (on-area {s = s} {s′ = resumedBook s r₁} (d .acts))
+      (λ c q. ap (λ (y : Coded). y .state .constants) q ∙ drop-count (coded r (part a 1 l))) (λ c q.
       drop-keeping (built-parts B) q) in
       error-pushed F .meets κ ps others (compileBase f x .book) (rw back K);
 }
@@ -282,6 +290,7 @@ module _ {name : ℕ} {found : Found} {s s₁ s₂ : struct.Book} {r : FunctionS
       fits = plain-represents .fits;
       preserves = record { same = plain-represents .preserves .same };
       keeping = keeping-entry (functionCount (x .context)) (plain-represents .keeping);
+      slots = plain-represents .slots;
     }
 
   pub plain-other : (name ≡ 1 → ⊥) → AddsPlainFunction name found r (bookLaid s a l) (bookLaid s₂ a l₃) place

@@ -49,7 +49,7 @@ module _ {tree : List ℕ} {at first : ℕ} {m : BookMemory} where
     pub property-again : {i : ℕ} → g ≡ At i → PushesBookError 6 (tokenAt tree at) m m′ → AddsModelProperty tree at first m m′
     property-again at-i E = record {
       meets = λ κ ps others w start H.
-          area-law (omega arith) refl
+          area-law (omega arith) refl (E .constants)
           (area-map {R′ = λ e e′. area.AddsProperty tree at first (m .book) (areaOf m propertiesArea) e (m′ .book) (areaOf m propertiesArea) e′}
           (λ f x r. property-there z value (searched .reads .on f) at-i r) (E .acts)) H
           (λ x r. r .meets (areaOf m codeArea) (areaOf m constantsArea) (areaOf m functionsArea) (areaOf m modelsArea) (areaOf m methodsArea)
@@ -59,7 +59,7 @@ module _ {tree : List ℕ} {at first : ℕ} {m : BookMemory} where
     pub property-more : g ≡ Nothing → TakesProperty name m m′ → AddsModelProperty tree at first m m′
     property-more lost T = record {
       meets = λ κ ps others w start H.
-          area-law (omega arith) refl
+          area-law (omega arith) refl (T .constants)
           (area-map {R′ = λ p p′. area.AddsProperty tree at first (m .book) p (areaOf m errorsArea) (m′ .book) p′ (areaOf m errorsArea)}
           (λ f x r. rw (r .counts) (property-new z value (searched .reads .on f) lost (r .took))) (T .acts)) H
           (λ x r. r .meets (areaOf m codeArea) (areaOf m constantsArea) (areaOf m functionsArea) (areaOf m modelsArea) (areaOf m methodsArea)
@@ -157,7 +157,7 @@ entry-taken {s} {m = m} {ps = ps} {w = w} name {r} z T H =
 
 model-taken : {κ : Limits} {ps : List ℕ} {others : ℕ → List ℕ} {m m₁ : BookMemory} {w : Book} (name : ℕ) → m .book .full ≡ 0 → TakesModel name m m₁
     → RepresentsBook κ ps others m w → RepresentsBook κ [] others m₁ (addModel ps name w)
-model-taken name z T H = area-law (omega arith) refl (T .acts) H (λ x r. rw (r .counts) (entry-taken name z (r .took) (H .keeping)))
+model-taken name z T H = area-law (omega arith) refl (T .constants) (T .acts) H (λ x r. rw (r .counts) (entry-taken name z (r .took) (H .keeping)))
 
 -- its constant
 abbrev modelConstant : List ℕ → ℕ → Book → Placed

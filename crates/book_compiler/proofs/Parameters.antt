@@ -36,6 +36,8 @@ use Rattle.book_compiler.specs.Represents.{Memory, laid, view, Represent
 use Rattle.book_compiler.specs.Leaves.{OnCode, DefinesLocal, PushesError, LastPosition}
 use Rattle.book_compiler.specs.Members.{token, MeetsSs}
 use Rattle.book_compiler.specs.FunctionSteps.{CompilesParameter, CompilesParameters, CompilesBase}
+use Rattle.book_compiler.proofs.Parts.{slots-count}
+use Rattle.book_compiler.proofs.ConstantCount.{parameters-count}
 use Rattle.book_compiler.proofs.Laws.{defined, defined-found, pushed, returned, last-is}
 
 -- the mark stays
@@ -58,7 +60,7 @@ module _ {tree : List ℕ} {at : ℕ} {s : FunctionState} {a l : List ℕ} where
   pub parameter-full : (s .full ≡ 0 → ⊥) → CompilesParameter tree at (laid s a l) (laid s a l)
   parameter-full ne = record {
     meets = λ t h κ E others w o H.
-        record { fits = H .fits; preserves = H .preserves; held = held-longer (steady-parameter t w .uses) ne (H .held) };
+        record { fits = H .fits; preserves = H .preserves; held = held-longer (steady-parameter t w .uses) ne (H .held); slots = H .slots };
   }
 
   module _ (live : s .full ≡ 0) {kind name : ℕ} {instance : Bool} {s₁ s₂ : FunctionState} {found : Found} {l′ : List ℕ} (kind-is : kind ≡ kindAt tree at)
@@ -80,6 +82,7 @@ module _ {tree : List ℕ} {at : ℕ} {s : FunctionState} {a l : List ℕ} where
             (parameters-law (H .held) instance (cond (eqb (t .kind) 41) true (w .function .header .isInstance)) (s .«parameter_count»)
             (w .function .header .parameterCount)
             (λ z. instance-is ∙ rw (same-kind, H .held .rest z .is-instance)) (λ z. H .held .rest z .parameters));
+        slots = slots-count (ap (λ (x : FunctionState). x .constants) s₁-is ∙ parameters-count s instance (s .«parameter_count»)) (H .slots);
       }
 
       live₁ : s₁ .full ≡ 0
@@ -177,6 +180,7 @@ module _ {tree : List ℕ} {at end start count : ℕ} where
           held = subst (λ (x : FunctionState). Held κ E (view (laid x a l₁)) w₂) (sym s₂-is)
               (parameters-law (H₁ .held) (s₁ .«is_instance») (w₁ .function .header .isInstance) parameters (length ts)
               (λ z. H₁ .held .rest z .is-instance) (λ z. omega arith));
+          slots = slots-count (ap (λ (x : FunctionState). x .constants) s₂-is ∙ parameters-count s₁ (s₁ .«is_instance») parameters) (H₁ .slots);
         } in
         let S = steady-parameters ts w₀ in
         let I : Inside start count (others contextLocalsArea) w₂ = record { is-open = stay-open ts w₀ refl; named = same-locals (S .locals) L } in

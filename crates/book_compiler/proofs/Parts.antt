@@ -7,15 +7,17 @@ use mathlib.Core.Bool.{Bool, true, false, cond}
 use mathlib.Core.List.{List}
 use lib.ListN.{length, getD}
 use lib.Dec.{eqb}
-use borrow.Author.Tests.{eqb-true}
+use borrow.Author.Tests.{eqb-true, eqb-false, ne-eqb}
 use Rattle.memory.specs.Layout.{part, withPart, partCount, Fits}
 use Rattle.memory.proofs.Parts.{put-part, put-fits, ends-within}
+use Rattle.constant_slots.specs.Plain.{poolOf}
+use Rattle.constant_slots.specs.Slots.{slotsOf}
 use Rattle.definition.specs.Uses.{Limits}
 use Rattle.definition.specs.Compiler.{Work}
 use Rattle.definition.specs.Program.{Entries}
 use Rattle.building.specs.declared.function_state.FunctionState.{FunctionState}
 use Rattle.building.specs.Held.{Machine, machine, Held}
-use Rattle.book_compiler.specs.Represents.{Memory, laid, partOf, view, isBuilt, Preserves, Represents, Replaced, On}
+use Rattle.book_compiler.specs.Represents.{Memory, laid, partOf, view, isBuilt, Preserves, SlotsFilled, Represents, Replaced, On}
 use Rattle.book_compiler.specs.Leaves.{Reads}
 
 -- the machine with another state and another area i
@@ -42,11 +44,36 @@ apart i j p q = go (eqb i j) refl
     go false e = refl
     go true e = sym (sym q ∙ ap isBuilt (sym (eqb-true i j e)) ∙ p)
 
--- a routine on one part: what it does to the machine
+-- a part that no function changes is none of those
+pub record Unbuilt (j : ℕ) : Type 0 where
+  pub code : eqb j 1 ≡ false
+  pub constants : eqb j 2 ≡ false
+  pub breaks : eqb j 10 ≡ false
+  pub slots : eqb j 13 ≡ false
+
+pub unbuilt : (j : ℕ) → isBuilt j ≡ false → Unbuilt j
+unbuilt j q = record { code = flip 1 refl; constants = flip 2 refl; breaks = flip 10 refl; slots = flip 13 refl }
+  where
+    flip : (i : ℕ) → isBuilt i ≡ true → eqb j i ≡ false
+    flip i p = ne-eqb j i (λ r. eqb-false i j (apart i j p q) (sym r))
+
+-- the same slots over the same constants
+pub slots-same : {n n′ : ℕ} {a a′ l l′ : List ℕ} → part a′ 13 l′ ≡ part a 13 l → poolOf n′ (part a′ 2 l′) ≡ poolOf n (part a 2 l)
+    → SlotsFilled n a l → SlotsFilled n′ a′ l′
+slots-same {n} {n′} {a} {a′} {l} {l′} t q S = record {
+  filled = t ∙ S .filled ∙ ap (slotsOf (length (part a 13 l))) (sym q) ∙ ap (λ (u : List ℕ). slotsOf (length u) (poolOf n′ (part a′ 2 l′))) (sym t);
+}
+
+-- as many constants
+pub slots-count : {n n′ : ℕ} {a l : List ℕ} → n′ ≡ n → SlotsFilled n a l → SlotsFilled n′ a l
+slots-count {a = a} {l = l} q S = subst (λ (k : ℕ). SlotsFilled k a l) (sym q) S
+
+-- a routine on one part, not the slots: what it does to the machine; and of the constants it leaves kinds and values as they were
 pub on-law : {κ : Limits} {E : Entries} {others : ℕ → List ℕ} {i : ℕ} {R : List ℕ → List ℕ → Type 0} {m m′ : Memory} {w w′ : Work}
-    → i < 14 → isBuilt i ≡ true → On i R m m′ → Represents κ E others m w
+    → i < 14 → isBuilt i ≡ true → eqb i 13 ≡ false → On i R m m′ → Represents κ E others m w
+    → ((x : List ℕ) → R (partOf m i) x → poolOf (m′ .state .constants) (cond (eqb i 2) x (partOf m 2)) ≡ poolOf (m .state .constants) (partOf m 2))
     → ((x : List ℕ) → R (partOf m i) x → Held κ E (withArea i (m′ .state) x (view m)) w′) → Represents κ E others m′ w′
-on-law {κ} {E} {others} {i} {R} {m} {m′} {w} {w′} lt built o H law =
+on-law {κ} {E} {others} {i} {R} {m} {m′} {w} {w′} lt built not-slots o H pool law =
     let p = o .on (H .fits) in
     let a = m .starts in
     let here : Held κ E (view (laid (m′ .state) a (m′ .words))) w′ =
@@ -58,11 +85,26 @@ on-law {κ} {E} {others} {i} {R} {m} {m′} {w} {w′} lt built o H law =
           ap (part a j) (p .is) ∙ put-part a (m .words) (p .words) (H .fits) i lt (p .long) j g
           ∙ ap (λ (t : Bool). cond t (p .words) (partOf m j)) (apart i j built q) ∙ H .preserves .same j g q;
     } in
+    let slots : SlotsFilled (m′ .state .constants) a (m′ .words) =
+    slots-same
+    (ap (part a 13) (p .is) ∙ put-part a (m .words) (p .words) (H .fits) i lt (p .long) 13 (omega arith)
+    ∙ ap (λ (t : Bool). cond t (p .words) (partOf m 13)) not-slots)
+    (ap (λ (l : List ℕ). poolOf (m′ .state .constants) l)
+    (ap (part a 2) (p .is) ∙ put-part a (m .words) (p .words) (H .fits) i lt (p .long) 2 (omega arith)) ∙ pool (p .words) (p .does)) (H .slots) in
     record {
       fits = rw (o .same) fits;
       preserves = subst (λ (b : List ℕ). Preserves others (laid (m′ .state) b (m′ .words))) (sym (o .same)) kept;
       held = rw (o .same) here;
+      slots = subst (λ (b : List ℕ). SlotsFilled (m′ .state .constants) b (m′ .words)) (sym (o .same)) slots;
     }
+
+-- a routine on a part without constants: it keeps their count
+pub on-other : {κ : Limits} {E : Entries} {others : ℕ → List ℕ} {i : ℕ} {R : List ℕ → List ℕ → Type 0} {m m′ : Memory} {w w′ : Work}
+    → i < 14 → isBuilt i ≡ true → eqb i 13 ≡ false → eqb i 2 ≡ false → On i R m m′ → Represents κ E others m w
+    → ((x : List ℕ) → R (partOf m i) x → m′ .state .constants ≡ m .state .constants)
+    → ((x : List ℕ) → R (partOf m i) x → Held κ E (withArea i (m′ .state) x (view m)) w′) → Represents κ E others m′ w′
+on-other {m = m} {m′ = m′} lt built not-slots not-constants o H count law = on-law lt built not-slots o H
+    (λ x r. ap (λ (t : Bool). poolOf (m′ .state .constants) (cond t x (partOf m 2))) not-constants ∙ ap (λ (n : ℕ). poolOf n (partOf m 2)) (count x r)) law
 
 -- what a routine that was lent part i does to it, once the memory has its layout
 pub on-part : {i : ℕ} {R : List ℕ → List ℕ → Type 0} {s s′ : FunctionState} (a w x : List ℕ) → R (part a i w) x → length x ≡ length (part a i w)

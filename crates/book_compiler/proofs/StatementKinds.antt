@@ -42,6 +42,8 @@ use Rattle.book_compiler.specs.Represents.{Memory, laid, Represents, Act
 use Rattle.book_compiler.specs.Leaves.{OnCode, OnNames, DefinesLocal, PushesError}
 use Rattle.book_compiler.specs.Members.{token, MeetsE, MeetsS, MeetsSs, MeetsBlock, MeetsFor, MeetsVariable, MeetsVariables}
 use Rattle.book_compiler.proofs.Steps.{back, acts-does, does-then, full-does, full-acts, either}
+use Rattle.book_compiler.proofs.Parts.{slots-count}
+use Rattle.book_compiler.proofs.ConstantCount.{rescue-count}
 use Rattle.book_compiler.proofs.Laws.{last-emitted, null-emitted, removed, returned, left, pushed, entered, deepened, at-depth}
 
 -- the loop over statements
@@ -220,9 +222,14 @@ pub rescue-here : (position kind value : ℕ) {s s₁ s′ : FunctionState} {a l
     → OnCode (emitReturnC position) (laid s a l) (laid s₁ a l′) → s′ ≡ rescueC s₁
     → Acts (laid s a l) (laid s′ a l′) (compileRescue (token position kind value))
 unfolding compileRescue
-rescue-here position kind value z l d q = record {
+rescue-here position kind value {s₁ = s₁} z l d q = record {
   meets = λ κ E others w H.
       let G = returned position position d (λ y. refl) H in
       rw (q, le-ltb 1 (w .function .depth) (omega (arith, l, H .held .rest z .depth)))
-      (record { fits = G .fits; preserves = record { same = G .preserves .same }; held = put-rescue (G .held) });
+      (record {
+        fits = G .fits;
+        preserves = record { same = G .preserves .same };
+        held = put-rescue (G .held);
+        slots = slots-count (rescue-count s₁) (G .slots);
+      });
 }

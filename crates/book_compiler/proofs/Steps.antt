@@ -30,7 +30,7 @@ module _ {m m₁ m′ : Memory} {s t : Step} where
 -- with the mark set
 pub full-acts : {m : Memory} {s : Step} → Steadily s → (m .state .full ≡ 0 → ⊥) → Acts m m s
 full-acts S ne = record {
-  meets = λ κ E others w H. record { fits = H .fits; preserves = H .preserves; held = held-longer (S w .uses) ne (H .held) };
+  meets = λ κ E others w H. record { fits = H .fits; preserves = H .preserves; held = held-longer (S w .uses) ne (H .held); slots = H .slots };
 }
 
 pub full-does : {start count : ℕ} {m : Memory} {s : Step} → Steadily s → (m .state .full ≡ 0 → ⊥) → Does start count m m s
@@ -39,4 +39,4 @@ full-does S ne = acts-does (full-acts S ne)
 -- with the mark set before, what stands for one step stands for any other
 pub either : {κ : Limits} {E : Entries} {others : ℕ → List ℕ} {m m′ : Memory} {w w₁ w₂ : Work} → Longer (w .uses) (w₁ .uses) → Longer (w .uses) (w₂ .uses)
     → (m .state .full ≡ 0 → ⊥) → Represents κ E others m w → Represents κ E others m′ w₁ → Represents κ E others m′ w₂
-either l₁ l₂ ne H H₁ = record { fits = H₁ .fits; preserves = H₁ .preserves; held = held-either l₁ l₂ ne (H .held) (H₁ .held) }
+either l₁ l₂ ne H H₁ = record { fits = H₁ .fits; preserves = H₁ .preserves; held = held-either l₁ l₂ ne (H .held) (H₁ .held); slots = H₁ .slots }

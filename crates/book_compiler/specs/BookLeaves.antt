@@ -7,28 +7,39 @@ use mathlib.Core.List.{List, [], _∷_}
 use lib.ListN.{length}
 use Rattle.memory.specs.Layout.{Fits}
 use Rattle.words.specs.Ast.{Token}
-use Rattle.words.specs.Object.{constantOf}
-use Rattle.words.specs.Areas.{constantsArea, modelsArea, propertiesArea, methodsArea, contextLocalsArea, publicNamesArea, errorsArea, booksArea}
-use Rattle.definition.specs.Book.{pushBookError, addBookConstant, defineContextLocal}
+use Rattle.words.specs.Areas.{constantsArea, propertiesArea, methodsArea, contextLocalsArea, publicNamesArea, errorsArea, booksArea}
+use Rattle.definition.specs.Book.{pushBookError, defineContextLocal}
+use Rattle.building.specs.declared.function_state.FunctionState.{FunctionState}
 use Rattle.building.specs.declared.scopes.Found.{Found}
-use Rattle.building.specs.declared.taking.Taken.{Taken}
-use Rattle.building.specs.Taking.{Took}
+use Rattle.building.specs.State.{begun}
 use Rattle.building.specs.Found.{foundOf, findContextLocalC}
 use Rattle.compiler_laws.specs.declared.book.Book as struct
-use Rattle.compiler_laws.specs.BookSteps.{ErrorsDo, ConstantsPlace, LocalsSeek, LocalsValue}
+use Rattle.compiler_laws.specs.BookSteps.{resumedBook, ErrorsDo, LocalsSeek, LocalsValue}
 use Rattle.compiler_laws.specs.IncludeSteps.{findPairC, includedC, AsksMode}
 use Rattle.compiler_laws.specs.ModelSteps.{InsertsMethod, CopiesMethods, Publishes, modelAtC}
+use Rattle.book_compiler.specs.Represents.{laid}
+use Rattle.book_compiler.specs.Leaves.{AddsConstant}
 use Rattle.book_compiler.specs.RepresentsBook.{BookMemory, areaOf, OnArea}
 
--- `push_error`, `add_constant`
+-- the count of constants is as it was
+abbrev pub SameConstantCount : BookMemory → BookMemory → Type 0
+SameConstantCount m m′ = m′ .book .constants ≡ m .book .constants
+
+-- `push_error`
 pub record PushesBookError (number : ℕ) (token : Token) (m m′ : BookMemory) : Type 0 where
+  pub constants : SameConstantCount m m′
   pub acts : OnArea errorsArea (λ e e′. ErrorsDo (m .book) e (m′ .book) e′ (pushBookError number token)) m m′
 
+-- `add_constant`: that of a function that begins, in the book's state
 pub record AddsBookConstant (kind value place : ℕ) (m m′ : BookMemory) : Type 0 where
-  pub acts : OnArea constantsArea (λ k k′. ConstantsPlace (m .book) k (m′ .book) k′ place (addBookConstant (constantOf kind value))) m m′
+  pub state : FunctionState
+  pub adds : AddsConstant kind value place (laid (begun (m .book .full) (m .book .code) (m .book .constants) (m .book .errors)) (m .starts) (m .words))
+      (laid state (m′ .starts) (m′ .words))
+  pub counts : m′ .book ≡ resumedBook (m .book) state
 
 -- `define_local` of the compiler's state
 pub record DefinesContextLocal (name : ℕ) (found : Found) (m m′ : BookMemory) : Type 0 where
+  pub constants : SameConstantCount m m′
   pub acts : OnArea contextLocalsArea (λ l l′. LocalsSeek (m .book) l (m′ .book) l′ found (defineContextLocal name)) m m′
 
 -- `local_values.insert`, where a local was found
@@ -38,13 +49,16 @@ pub record SetsLocalValue (found : Found) (constant : ℕ) (m m′ : BookMemory)
 
 -- a method of a model; all methods of a model under another
 pub record InsertsBookMethod (model name function : ℕ) (m m′ : BookMemory) : Type 0 where
+  pub constants : SameConstantCount m m′
   pub acts : OnArea methodsArea (λ t t′. InsertsMethod model name function (m .book) t (m′ .book) t′) m m′
 
 pub record CopiesBookMethods (source target : ℕ) (m m′ : BookMemory) : Type 0 where
+  pub constants : SameConstantCount m m′
   pub acts : OnArea methodsArea (λ t t′. CopiesMethods source target (m .book) t (m′ .book) t′) m m′
 
 -- `public_indices.insert`
 pub record PublishesName (place name : ℕ) (m m′ : BookMemory) : Type 0 where
+  pub constants : SameConstantCount m m′
   pub acts : OnArea publicNamesArea (λ u u′. Publishes place name (m .book) u (m′ .book) u′) m m′
 
 -- a read of a memory that has its layout

@@ -31,6 +31,7 @@ use Rattle.compiler_laws.specs.BooksInOrder.{Zero, Rings, Accepted, MarkedFrom}
 use Rattle.compiler_laws.specs.CallEnd.{totals, markRefusal}
 use Rattle.book_compiler.specs.declared.order.Next.{Next}
 use Rattle.book_compiler.specs.Represents.{Replaced}
+use Rattle.book_compiler.specs.Leaves.{ClearsSlots}
 use Rattle.book_compiler.specs.RepresentsBook.{BookMemory, bookLaid, areaOf, bookView, RepresentsContext}
 
 -- a routine that is lent part i of a memory: R is what it does to the part
@@ -120,11 +121,11 @@ pub record ClearsButErrors (starts before after : List ℕ) : Type 0 where
   pub kept : Fits starts (length before) → part starts errorsArea after ≡ part starts errorsArea before
   pub zeros : Fits starts (length before) → (i : ℕ) → i < partCount → (errorsArea ≡ i → ⊥) → Zero (part starts i after)
 
--- `finish`: after a full area all is cleared; after a row all but the errors; else the memory stays, and the reply has its totals
+-- `finish`: after a full area all is cleared; after a row all but the errors; else the slots, and the reply has the totals
 pub record Finishes (m : BookMemory) (row place : ℕ) (after : List ℕ) (r : reply.Reply) : Type 0 where
   pub full : (m .book .full ≡ 0 → ⊥) → Zero after × (r ≡ markRefusal (m .book .full))
   pub refused : m .book .full ≡ 0 → (row ≡ 0 → ⊥) → ClearsButErrors (m .starts) (m .words) after × (r ≡ refusal row place)
-  pub whole : m .book .full ≡ 0 → row ≡ 0 → (after ≡ m .words)
+  pub whole : m .book .full ≡ 0 → row ≡ 0 → ClearsSlots (m .starts) (m .words) after
       × ((globals : ℕ) × (ReadsPart constantsArea (λ k. MarkedFrom k 0 (m .book .constants) 0 globals) (m .starts) (m .words)
       × (r ≡ delivery (totals (m .book) place globals))))
 

@@ -27,6 +27,7 @@ use Rattle.compiler_laws.specs.ImplementSteps.{implementing, implementingAll, n
 use Rattle.compiler_laws.specs.ModelSteps.{placeModel}
 use Rattle.compiler_laws.proofs.BookCounts.{withModelCount, withPropertyCount}
 use Rattle.book_compiler.specs.RepresentsBook.{BookMemory, RepresentsBook, OnArea, SimulatesBook, SimulatesPlaced, SimulatesSought}
+use Rattle.book_compiler.specs.BookLeaves.{SameConstantCount}
 
 -- of a context local that was found: it is the definition's, where nothing is full
 pub record SimulatesLocated (found : Found) (m m′ : BookMemory) (deed : Option ℕ → Deed) : Type 0 where
@@ -78,9 +79,11 @@ pub record TookModel (name : ℕ) (s : struct.Book) (t : List ℕ) (s′ : struc
   pub counts : s′ ≡ withModelCount taken s
 
 pub record TakesProperty (name : ℕ) (m m′ : BookMemory) : Type 0 where
+  pub constants : SameConstantCount m m′
   pub acts : OnArea propertiesArea (λ p p′. TookProperty name (m .book) p (m′ .book) p′) m m′
 
 pub record TakesModel (name : ℕ) (m m′ : BookMemory) : Type 0 where
+  pub constants : SameConstantCount m m′
   pub acts : OnArea modelsArea (λ t t′. TookModel name (m .book) t (m′ .book) t′) m m′
 
 -- `add_property`; the properties of the model that is not there yet start at entry `first`

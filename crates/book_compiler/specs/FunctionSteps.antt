@@ -52,9 +52,9 @@ pub record MakesFunction (tree : List ℕ) (at end : ℕ) (m : BookMemory) (m′
   pub makes : (kind : ℕ) (f : FunctionDefinition) → FunctionAt kind f tree at → at + sizeF f ≡ end → (κ : Limits) (ps : List ℕ) (others : ℕ → List ℕ)
       (x : Book) → RepresentsBook κ ps others m x → Built κ ps others m x f m′
 
--- `add_function`: part 3
+-- `add_function`: part 3; the book's constants are then the function's
 pub record AddsBookFunction (name : ℕ) (r : FunctionState) (m m′ : BookMemory) : Type 0 where
-  pub acts : OnArea functionsArea (λ g g′. AddsFunction name (m .book) r g (m′ .book) g′) m m′
+  pub acts : OnArea functionsArea (λ g g′. AddsFunction name (m .book) r g (m′ .book) g′ × (m′ .book .constants ≡ r .constants)) m m′
 
 -- `drop_instance`: error 8, at the function's name; l are the memory's words before the function
 pub record DropsBookFunction (tree : List ℕ) (at : ℕ) (r : FunctionState) (m m′ : BookMemory) : Type 0 where

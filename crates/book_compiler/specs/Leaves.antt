@@ -4,11 +4,16 @@ use Prim.Native.Nat.{ℕ, _-_, _<_}
 use mathlib.Core.Path.{_≡_}
 use mathlib.Core.Bool.{false}
 use mathlib.Core.List.{List, [], _∷_}
-use lib.ListN.{length}
+use lib.ListN.{length, replicate}
 use lib.Dec.{eqb}
 use Rattle.memory.specs.Layout.{partCount, Fits}
 use Rattle.words.specs.Areas.{codeArea, constantsArea, contextLocalsArea, scopeNamesArea, breaksArea, errorsArea, entryField}
+use Rattle.words.specs.Object.{constantOf}
 use Rattle.words.specs.Opcode.{toInstruction, word, Jump}
+use Rattle.constant_slots.specs.declared.plain.Found as slots
+use Rattle.constant_slots.specs.Plain as plain
+use Rattle.constant_slots.specs.Plain.{poolOf}
+use Rattle.constant_slots.specs.Slots.{slotsOf, putNumber, searchSlots}
 use Rattle.building.specs.declared.function_state.FunctionState.{FunctionState}
 use Rattle.building.specs.declared.scopes.Found.{Found}
 use Rattle.building.specs.State.{withBreaks}
@@ -16,9 +21,10 @@ use Rattle.building.specs.Taking.{takenOf, tookWords, givenUp}
 use Rattle.building.specs.Found.{foundOf, findContextLocalC}
 use Rattle.building.specs.Emission.{Coded, coded, Breaking, breaking, lastPositionC, nextC, patchC}
 use Rattle.building.specs.Scopes.{Naming, naming, findLocalC, Defines}
-use Rattle.building.specs.Pool.{pooling, addConstantC, markGlobalC, erring, pushErrorC}
+use Rattle.building.specs.Pool.{Pooling, pooling, addNoCheckC, addConstantC, markGlobalC, erring, pushErrorC}
 use Rattle.compiler_laws.specs.Cells.{defined}
-use Rattle.book_compiler.specs.Represents.{Memory, partOf, On}
+use Rattle.memory.specs.Layout.{part}
+use Rattle.book_compiler.specs.Represents.{Memory, partOf, slotsPart, Slotted, Replaced, On}
 
 -- a method over the code alone
 pub record OnCode (f : Coded → Coded) (m m′ : Memory) : Type 0 where
@@ -32,10 +38,45 @@ pub record OnNames (f : Naming → Naming) (m m′ : Memory) : Type 0 where
 pub record DefinesLocal (name : ℕ) (r : Found) (m m′ : Memory) : Type 0 where
   pub acts : On scopeNamesArea (λ n n′. Defines name (naming (m .state) n) (defined r (m′ .state)) n′) m m′
 
--- `add_constant`, `mark_global`, `push_error`
-pub record AddsConstant (kind value index : ℕ) (m m′ : Memory) : Type 0 where
-  pub acts : On constantsArea (λ k k′. pooling index (m′ .state) k′ ≡ addConstantC kind value (m .state) k) m m′
+-- the parts after a method over the constants and their slots, which are lent one after the other; the slots are again what filling anew gives
+pub record ConstantAdded (f : FunctionState → List ℕ → Pooling) (index : ℕ) (m m′ : Memory) : Type 0 where
+  pub fits : Fits (m′ .starts) (length (m′ .words))
+  pub others : (i : ℕ) → i < partCount → eqb i constantsArea ≡ false → eqb i slotsPart ≡ false → partOf m′ i ≡ partOf m i
+  pub is : pooling index (m′ .state) (partOf m′ constantsArea) ≡ f (m .state) (partOf m constantsArea)
+  pub slotted : Slotted m′
 
+-- `add_constant`, which searches through the slots: on a memory whose slots are filled it answers as with the plain search
+pub record AddsConstant (kind value index : ℕ) (m m′ : Memory) : Type 0 where
+  pub adds : Fits (m .starts) (length (m .words)) → Slotted m → ConstantAdded (addConstantC kind value) index m m′
+
+-- without the search, and with the constant's slot or without
+pub record AddsNewConstant (kind value index : ℕ) (m m′ : Memory) : Type 0 where
+  pub adds : Fits (m .starts) (length (m .words)) → Slotted m → ConstantAdded (addNoCheckC kind value) index m m′
+
+pub record AddsNoCheck (kind value index : ℕ) (m m′ : Memory) : Type 0 where
+  pub acts : On constantsArea (λ k k′. pooling index (m′ .state) k′ ≡ addNoCheckC kind value (m .state) k) m m′
+
+-- the search through the slots, of constants and slots as they are
+pub record FindsConstant (kind value : ℕ) (r : slots.Found) (m : Memory) : Type 0 where
+  pub on : Fits (m .starts) (length (m .words))
+      → r ≡ plain.foundOf (searchSlots (m .state .constants) (constantOf kind value) (partOf m constantsArea) (partOf m slotsPart) .found)
+
+-- a constant of a number takes its slot; all slots filled anew with the first constants; all slots zero. These have no state
+pub record PutsSlot (number kind value : ℕ) (starts before after : List ℕ) : Type 0 where
+  pub on : Fits starts (length before) → Replaced slotsPart (λ t t′. t′ ≡ putNumber t number (constantOf kind value)) starts before after
+
+pub record FillsSlots (count : ℕ) (starts before after : List ℕ) : Type 0 where
+  pub on : Fits starts (length before)
+      → Replaced slotsPart (λ t t′. t′ ≡ slotsOf (length t) (poolOf count (part starts constantsArea before))) starts before after
+
+pub record ClearsSlots (starts before after : List ℕ) : Type 0 where
+  pub on : Fits starts (length before) → Replaced slotsPart (λ t t′. t′ ≡ replicate (length t) 0) starts before after
+
+-- a word of a constant
+pub record ConstantWord (i k r : ℕ) (starts words : List ℕ) : Type 0 where
+  pub on : Fits starts (length words) → r ≡ entryField 3 i k (part starts constantsArea words)
+
+-- `mark_global`, `push_error`
 pub record MarksGlobal (index : ℕ) (m m′ : Memory) : Type 0 where
   pub state : m′ .state ≡ m .state
   pub acts : On constantsArea (λ k k′. k′ ≡ markGlobalC index (m .state) k) m m′

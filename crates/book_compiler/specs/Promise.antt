@@ -16,7 +16,7 @@ use Rattle.definition.specs.Within.{Areas}
 abbrev pub areasIn : List ℕ → List ℕ → Areas
 areasIn lengths memory = [] ∷ take 12 (layout.areasOf lengths memory)
 
--- the words behind them: part 13
+-- the words behind them, which the call has as its table of slots (2026-12): part 13
 abbrev pub leftOver : List ℕ → List ℕ → List ℕ
 leftOver lengths memory = getD (layout.areasOf lengths memory) 12 []
 
@@ -27,5 +27,5 @@ answerAreas strict tree lengths before = areasOf (lengthsOf (areasIn lengths bef
 pub record CompilesInto (strict : Bool) (tree lengths before after : List ℕ) (r : struct.Reply) : Type 0 where
   -- 01's three demands, of the areas in the memory: the lengths that the answer sees are theirs, cut where they pass the memory's end
   pub compiles : Compiles strict tree (areasIn lengths before) (areasIn lengths after) r
-  -- every word: the answer's areas, one after the other, and then zeros, as many as words were left over
+  -- every word: the answer's areas, one after the other, and then zeros, as many as words were left over: 'After it all [slots] are zero' (2026-12)
   pub words : after ≡ flat (answerAreas strict tree lengths before) ++ replicate (length (leftOver lengths before)) 0

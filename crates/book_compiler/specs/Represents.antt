@@ -8,6 +8,8 @@ use lib.ListN.{length}
 use lib.Dec.{eqb}
 use Rattle.memory.specs.Layout.{part, withPart, partCount, Fits}
 use Rattle.words.specs.Areas.{codeArea, constantsArea, contextLocalsArea, scopeNamesArea, breaksArea, errorsArea}
+use Rattle.constant_slots.specs.Plain.{poolOf}
+use Rattle.constant_slots.specs.Slots.{slotsOf}
 use Rattle.definition.specs.Uses.{Limits}
 use Rattle.definition.specs.Compiler.{Work, Step}
 use Rattle.definition.specs.Program.{Entries}
@@ -31,19 +33,31 @@ partOf m i = part (m .starts) i (m .words)
 abbrev pub view : Memory → Machine
 view m = machine (m .state) (partOf m codeArea) (partOf m constantsArea) (partOf m scopeNamesArea) (partOf m breaksArea) (partOf m errorsArea)
 
+-- what is left over of the memory is the table of slots (2026-12)
+abbrev pub slotsPart : ℕ
+slotsPart = 13
+
 -- the parts that functions are built in
 abbrev pub isBuilt : ℕ → Bool
-isBuilt i = eqb i codeArea || eqb i constantsArea || eqb i scopeNamesArea || eqb i breaksArea || eqb i errorsArea
+isBuilt i = eqb i codeArea || eqb i constantsArea || eqb i scopeNamesArea || eqb i breaksArea || eqb i errorsArea || eqb i slotsPart
 
 -- the parts that no function changes are these
 pub record Preserves (others : ℕ → List ℕ) (m : Memory) : Type 0 where
   pub same : (i : ℕ) → i < partCount → isBuilt i ≡ false → partOf m i ≡ others i
+
+-- the slots are what filling them anew with the constants in use gives (2026-12; reading 5.3), whether an area is full or not
+pub record SlotsFilled (count : ℕ) (starts words : List ℕ) : Type 0 where
+  pub filled : part starts slotsPart words ≡ slotsOf (length (part starts slotsPart words)) (poolOf count (part starts constantsArea words))
+
+abbrev pub Slotted : Memory → Type 0
+Slotted m = SlotsFilled (m .state .constants) (m .starts) (m .words)
 
 -- within the limits κ, behind the code E of the functions before and beside the other parts, the memory stands for w
 pub record Represents (κ : Limits) (E : Entries) (others : ℕ → List ℕ) (m : Memory) (w : Work) : Type 0 where
   pub fits : Fits (m .starts) (length (m .words))
   pub preserves : Preserves others m
   pub held : Held κ E (view m) w
+  pub slots : Slotted m
 
 -- part i has other words, as many as before
 pub record Replaced (i : ℕ) (R : List ℕ → List ℕ → Type 0) (starts before after : List ℕ) : Type 0 where

@@ -2,10 +2,10 @@
 -- Private contracts alone cite this file: whoever reads the promises need not believe it
 use Prim.Native.Nat.{ℕ, _+_, _<_}
 use mathlib.Core.Path.{_≡_}
-use mathlib.Core.Bool.{Bool, false, _&&_}
+use mathlib.Core.Bool.{Bool, false, _&&_, _||_}
 use mathlib.Core.List.{List, []}
 use lib.ListN.{length}
-use lib.Dec.{ltb}
+use lib.Dec.{eqb, ltb}
 use Rattle.memory.specs.Layout.{part, partCount, Fits}
 use Rattle.words.specs.Areas.{codeArea, constantsArea, functionsArea, modelsArea, propertiesArea, methodsArea, contextLocalsArea, publicNamesArea}
 use Rattle.words.specs.Areas.{scopeNamesArea, breaksArea, errorsArea, booksArea}
@@ -20,7 +20,7 @@ use Rattle.building.specs.Found.{foundOf}
 use Rattle.compiler_laws.specs.declared.book.Book as struct
 use Rattle.compiler_laws.specs.BookAreas.{Shelf, shelf, Keeping, Shelved}
 use Rattle.compiler_laws.specs.OpenedBooks.{openedBook, nobody}
-use Rattle.book_compiler.specs.Represents.{Replaced}
+use Rattle.book_compiler.specs.Represents.{slotsPart, SlotsFilled, Replaced}
 
 -- the book's counts, the table of starts, and the memory's words
 pub record BookMemory : Type 0 where
@@ -40,11 +40,11 @@ bookView m =
     shelf (m .book) (areaOf m codeArea) (areaOf m constantsArea) (areaOf m functionsArea) (areaOf m modelsArea) (areaOf m propertiesArea) (areaOf m methodsArea)
     (areaOf m contextLocalsArea) (areaOf m publicNamesArea) (areaOf m scopeNamesArea) (areaOf m breaksArea) (areaOf m errorsArea)
 
--- the areas that a book is compiled into: 1 to 11
+-- the parts that a book is compiled into: areas 1 to 11, and the slots
 abbrev pub isBookArea : ℕ → Bool
-isBookArea i = ltb 0 i && ltb i booksArea
+isBookArea i = ltb 0 i && ltb i booksArea || eqb i slotsPart
 
--- the parts that no definition changes are these: area 12, and what is left over
+-- the parts that no definition changes are these: area 12
 pub record PreservesParts (others : ℕ → List ℕ) (m : BookMemory) : Type 0 where
   pub same : (i : ℕ) → i < partCount → isBookArea i ≡ false → areaOf m i ≡ others i
 
@@ -53,6 +53,7 @@ pub record RepresentsBook (κ : Limits) (ps : List ℕ) (others : ℕ → List �
   pub fits : Fits (m .starts) (length (m .words))
   pub preserves : PreservesParts others m
   pub keeping : Keeping κ ps (bookView m) b
+  pub slots : SlotsFilled (m .book .constants) (m .starts) (m .words)
 
 -- between two books it stands for a context: it is ready for the next book, whichever it is
 pub record RepresentsContext (κ : Limits) (others : ℕ → List ℕ) (m : BookMemory) (context : Context) (uses : List Use) : Type 0 where

@@ -1,4 +1,4 @@
-// The book under compilation over one memory: its errors and constants, each lent its part. The entry of area i has the words from starts[i] on.
+// The book under compilation over one memory: its errors, lent their part, and its constants. Part i has the words from starts[i] up to starts[i + 1].
 ghost use mathlib.Core.Path.{_≡_};
 ghost use Rattle.words.specs.Record.{tokenAt, kindAt, positionAt, valueAt};
 ghost use Rattle.building.specs.Pool.{erring, pushErrorC};
@@ -6,9 +6,9 @@ ghost use Rattle.building.specs.State.{begun};
 ghost use Rattle.compiler_laws.specs.BookSteps.{resumedBook};
 ghost use Rattle.book_compiler.specs.RepresentsBook.{bookLaid};
 ghost use Rattle.book_compiler.specs.BookLeaves.{PushesBookError, AddsBookConstant};
-use building::function_state;
+use crate::cells;
+use crate::function_state;
 use building::function_state::FunctionState;
-use building::pool;
 use building::scopes::Found;
 use compiler_laws::book::Book;
 use words::record;
@@ -30,7 +30,7 @@ pub struct Sought {
 pub(crate) fn working(book: Book) -> FunctionState
     ensures { λ r. ⌜ r ≡ begun (book .full) (book .code) (book .constants) (book .errors) ⌝ }
 {
-    function_state::new(book.full, book.code, book.constants, book.errors)
+    building::function_state::new(book.full, book.code, book.constants, book.errors)
 }
 
 pub(crate) fn resumed(book: Book, state: FunctionState) -> Book
@@ -85,6 +85,7 @@ pub(crate) fn push_error(
     book
 }
 
+// The constant of a function that begins, in the book's state.
 pub(crate) fn add_constant(
     starts: &[usize; 15],
     memory: &mut [u64],
@@ -95,16 +96,11 @@ pub(crate) fn add_constant(
     ensures { λ r. ⌜ AddsBookConstant kind value (r .place) (bookLaid book (now (starts .entry)) (now (memory .entry)))
         (bookLaid (r .book) (now (starts .entry)) (now (memory .exit))) ⌝ }
 {
-    let start = starts[2];
-    let end = starts[3];
-    if start <= end {
-        if end <= memory.len() {
-            let before = working(book);
-            let a = pool::add_constant(&mut memory[start..end], before, kind, value);
-            let place = a.index;
-            let after = resumed(book, a.state);
-            return Placed { place, book: after };
-        }
-    }
-    Placed { place: 0, book }
+    let before = working(book);
+    let mut cells: [u64; 15] = [0; 15];
+    cells::store(&mut cells, before);
+    let place = function_state::add_constant(starts, memory, &mut cells, kind, value);
+    let state = cells::load(&cells);
+    let after = resumed(book, state);
+    Placed { place, book: after }
 }

@@ -7,7 +7,7 @@ ghost use Rattle.building.specs.Emission.{coded, nextC, lastPositionC, emitC, e
 ghost use Rattle.building.specs.Emission.{enterBreakC, deeperC, depthC, rescueC};
 ghost use Rattle.building.specs.Found.{foundOf};
 ghost use Rattle.building.specs.Scopes.{naming, findLocalC, enterScopeC, exitScopeC, defineAnonymousC, Defines};
-ghost use Rattle.building.specs.Pool.{pooling, addConstantC, markGlobalC, erring, pushErrorC};
+ghost use Rattle.building.specs.Pool.{pooling, addNoCheckC, markGlobalC, erring, pushErrorC};
 ghost use Rattle.building.specs.Taking.{taken, givenUp};
 ghost use Rattle.words.specs.Areas.{entryField};
 ghost use Rattle.building.specs.State.{withCode, withConstants, withScope, withDepth, withLoop};
@@ -326,17 +326,17 @@ pub(crate) fn define_local(names: &mut [u64], cells: &mut [u64; 15], name: u64) 
     found
 }
 
-pub(crate) fn add_constant(
+pub(crate) fn add_constant_no_check(
     constants: &mut [u64],
     cells: &mut [u64; 15],
     kind: u64,
     value: u64,
 ) -> u64
     ensures { λ r. ⌜ pooling r (stateOf (now (cells .exit))) (now (constants .exit))
-        ≡ addConstantC kind value (stateOf (now (cells .entry))) (now (constants .entry)) ⌝ }
+        ≡ addNoCheckC kind value (stateOf (now (cells .entry))) (now (constants .entry)) ⌝ }
 {
     let s = load(cells);
-    let a = pool::add_constant(constants, s, kind, value);
+    let a = pool::add_constant_no_check(constants, s, kind, value);
     let t = a.state;
     keep_constants(cells, t.full, t.constants);
     a.index
@@ -371,6 +371,14 @@ pub(crate) fn full(cells: &[u64; 15]) -> u64
 {
     let s = load(cells);
     s.full
+}
+
+// How many constants there are.
+pub(crate) fn constant_count(cells: &[u64; 15]) -> usize
+    ensures { λ r. ⌜ r ≡ stateOf (now (cells .entry)) .constants ⌝ }
+{
+    let s = load(cells);
+    s.constants
 }
 
 // Where the innermost scope starts.

@@ -14,6 +14,7 @@ use crate::definitions::compile_document;
 use crate::ending;
 use crate::ending::Ended;
 use crate::order;
+use crate::slots;
 use crate::solver;
 use crate::subtree;
 use building::scopes::Found;
@@ -192,7 +193,7 @@ fn drive(
     }
 }
 
-// The books that are needed, into a memory of zeros, with an empty set for those compiled.
+// The books that are needed, into a memory of zeros, with an empty set for those compiled. The slots are filled with the first constants (2026-12).
 fn work(
     tree: &[u64],
     strict: bool,
@@ -224,6 +225,7 @@ fn work(
             place: 0,
         };
     }
+    slots::fill_slots(starts, memory, x.count);
     drive(tree, end, 0, t.count, start, starts, memory, compiled)
 }
 

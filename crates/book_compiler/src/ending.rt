@@ -7,6 +7,7 @@ ghost use Rattle.compiler_laws.specs.BooksInOrder.{markOf, MarkedFrom};
 ghost use Rattle.compiler_laws.specs.CallEnd.{totals, markRefusal};
 ghost use Rattle.book_compiler.specs.RepresentsBook.{bookLaid};
 ghost use Rattle.book_compiler.specs.BookOrder.{ReadsPart, ClearsPart, ClearsButErrors, Finishes};
+use crate::slots;
 use compiler_laws::book::Book;
 use words::areas;
 use words::reply;
@@ -126,7 +127,8 @@ fn delivered(ended: Ended, marked: u64) -> Reply
     Reply::delivered(totals)
 }
 
-// The end of a call: a full area or a row clears the memory, the errors of rows 7 and 8 apart; else the reply says what stands in it.
+// The end of a call: a full area or a row clears the memory, the errors of rows 7 and 8 apart; else the slots are cleared, and the reply says what stands
+// in the areas.
 pub(crate) fn finish(ended: Ended, starts: &[usize; 15], memory: &mut [u64]) -> Reply
     ensures { λ r. ⌜ Finishes (bookLaid (ended .book) (now (starts .entry)) (now (memory .entry))) (ended .row) (ended .place) (now (memory .exit)) r ⌝ }
 {
@@ -140,5 +142,6 @@ pub(crate) fn finish(ended: Ended, starts: &[usize; 15], memory: &mut [u64]) -> 
         return Reply::refused(ended.row, ended.place);
     }
     let marked = count_global_dependencies(ended.book.constants, starts, memory);
+    slots::clear_slots(starts, memory);
     delivered(ended, marked)
 }

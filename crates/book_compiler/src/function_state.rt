@@ -9,8 +9,10 @@ ghost use Rattle.book_compiler.specs.Represents.{laid};
 ghost use Rattle.book_compiler.specs.Leaves.{OnCode, OnNames, OnBreaks, GivesUpBreaks, DefinesLocal, AddsConstant, MarksGlobal, PushesError};
 ghost use Rattle.book_compiler.specs.Leaves.{LastPosition, FindsLocal, FindsContextLocal, WaitingBreak, OnBoth, patched};
 use crate::cells;
+use crate::slots;
 use building::context;
 use building::scopes::Found;
+use constant_slots::plain;
 use words::opcode::Instruction;
 use words::opcode::OpCode;
 
@@ -217,6 +219,7 @@ pub(crate) fn exit_scope(
     }
 }
 
+// The number of a constant: of the first that is the same, where its kind is shared, else of a new one; 0 with the mark set.
 pub(crate) fn add_constant(
     starts: &[usize; 15],
     memory: &mut [u64],
@@ -227,14 +230,19 @@ pub(crate) fn add_constant(
     ensures { λ r. ⌜ AddsConstant kind value r (laid (stateOf (now (cells .entry))) (now (starts .entry)) (now (memory .entry)))
         (laid (stateOf (now (cells .exit))) (now (starts .entry)) (now (memory .exit))) ⌝ }
 {
-    let start = starts[2];
-    let end = starts[3];
-    if start <= end {
-        if end <= memory.len() {
-            return cells::add_constant(&mut memory[start..end], cells, kind, value);
-        }
+    let full = cells::full(cells);
+    if full != 0 {
+        return 0;
     }
-    0
+    let shared = slots::is_shared(kind);
+    if shared {
+        let found = slots::find_constant(starts, memory, cells, kind, value);
+        if let plain::Found::At(index) = found {
+            return index;
+        }
+        return slots::add_new_constant(starts, memory, cells, kind, value);
+    }
+    slots::add_new_constant(starts, memory, cells, kind, value)
 }
 
 pub(crate) fn mark_global(starts: &[usize; 15], memory: &mut [u64], cells: &[u64; 15], index: u64)

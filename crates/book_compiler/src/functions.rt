@@ -236,7 +236,7 @@ fn make(
 
 // An entry of area 3 more.
 fn add_entry(functions: &mut [u64], book: Book, state: FunctionState, name: u64) -> Book
-    ensures { λ r. ⌜ AddsFunction name book state (now (functions .entry)) r (now (functions .exit)) ⌝ }
+    ensures { λ r. ⌜ AddsFunction name book state (now (functions .entry)) r (now (functions .exit)) × (r .constants ≡ state .constants) ⌝ }
 {
     let mut b = book::resumed(book, state);
     let t = context::add_function(functions, b.full, b.functions, state, b.file, name);

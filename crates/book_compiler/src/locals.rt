@@ -1,5 +1,6 @@
 // `backend/compiler.rs`: a book's context locals (area 7) and `compile_local_definition` over one memory.
 ghost use Prim.Native.Nat.{_+_};
+ghost use mathlib.Core.Path.{_≡_};
 ghost use Rattle.definition.specs.Book.{defineContextLocal};
 ghost use Rattle.compiler_laws.specs.BookSteps.{LocalsSeek, LocalsValue};
 ghost use Rattle.book_compiler.specs.RepresentsBook.{bookLaid};
@@ -18,7 +19,8 @@ use words::reply;
 
 // `define_local` of the compiler's state, on area 7; nothing is found with the mark set.
 fn define_entry(locals: &mut [u64], book: Book, name: u64) -> Sought
-    ensures { λ r. ⌜ LocalsSeek book (now (locals .entry)) (r .book) (now (locals .exit)) (r .found) (defineContextLocal name) ⌝ }
+    ensures { λ r. ⌜ LocalsSeek book (now (locals .entry)) (r .book) (now (locals .exit)) (r .found) (defineContextLocal name)
+        × (r .book .constants ≡ book .constants) ⌝ }
 {
     if book.full != 0 {
         return Sought {

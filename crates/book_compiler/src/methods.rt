@@ -14,7 +14,7 @@ const FUNCTION: usize = 2;
 
 // One entry for a model and a name: the last function wins.
 fn insert_entry(methods: &mut [u64], book: Book, model: u64, name: u64, function: u64) -> Book
-    ensures { λ r. ⌜ InsertsMethod model name function book (now (methods .entry)) r (now (methods .exit)) ⌝ }
+    ensures { λ r. ⌜ InsertsMethod model name function book (now (methods .entry)) r (now (methods .exit)) × (r .constants ≡ book .constants) ⌝ }
 {
     if book.full != 0 {
         return book;
@@ -62,7 +62,7 @@ pub(crate) fn insert_method(
 
 // One method of the source under the target, if it is one.
 fn copy_entry(methods: &mut [u64], book: Book, i: usize, source: u64, target: u64) -> Book
-    ensures { λ r. ⌜ CopiesMethod source target i book (now (methods .entry)) r (now (methods .exit)) ⌝ }
+    ensures { λ r. ⌜ CopiesMethod source target i book (now (methods .entry)) r (now (methods .exit)) × (r .constants ≡ book .constants) ⌝ }
 {
     if book.full != 0 {
         return book;
@@ -78,7 +78,7 @@ fn copy_entry(methods: &mut [u64], book: Book, i: usize, source: u64, target: u6
 
 // The methods that there are of the source, one by one under the target.
 fn copy_entries(methods: &mut [u64], book: Book, source: u64, target: u64) -> Book
-    ensures { λ r. ⌜ CopiesMethods source target book (now (methods .entry)) r (now (methods .exit)) ⌝ }
+    ensures { λ r. ⌜ CopiesMethods source target book (now (methods .entry)) r (now (methods .exit)) × (r .constants ≡ book .constants) ⌝ }
 {
     let count = book.methods;
     let mut i: usize = 0;

@@ -32,7 +32,8 @@ const VALUE: usize = 3;
 
 // `public_indices.insert` on area 8.
 fn publish_entry(publics: &mut [u64], placed: Placed, name: u64) -> Book
-    ensures { λ r. ⌜ Publishes (placed .place) name (placed .book) (now (publics .entry)) r (now (publics .exit)) ⌝ }
+    ensures { λ r. ⌜ Publishes (placed .place) name (placed .book) (now (publics .entry)) r (now (publics .exit))
+        × (r .constants ≡ placed .book .constants) ⌝ }
 {
     let place = placed.place;
     let book = placed.book;

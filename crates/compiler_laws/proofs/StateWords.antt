@@ -2,19 +2,15 @@
 use Prim.Native.Nat.{ℕ, min}
 use mathlib.Core.Path.{_≡_, refl, sym, ap, _∙_}
 use mathlib.Core.Bool.{Bool, true, false, not, cond}
-use mathlib.Core.Option.{Option, none, some}
 use mathlib.Core.List.{List, [], _∷_}
 use lib.ListN.{length}
 use lib.Dec.{eqb}
 use Rattle.building.specs.declared.function_state.FunctionState.{FunctionState}
-use Rattle.building.specs.State.{withCode, withConstants, withScope, withDepth}
+use Rattle.building.specs.State.{withCode, withScope, withDepth}
 use Rattle.building.specs.Taking.{taken, takenOf, givenUp}
-use Rattle.building.specs.Found.{findConstantC}
 use Rattle.building.specs.Emission.{Coded, coded, lastOpcodeC, emitC, emitNullC, popC, removePopC, emitReturnC, depthC}
 use Rattle.building.specs.Scopes.{Naming, naming, enterScopeC, exitScopeC}
-use Rattle.building.specs.Pool.{Pooling, pooling, addBy, addNoCheckC, addConstantC}
 use Rattle.words.specs.Areas.{codeArea}
-use Rattle.words.specs.Object.{constantOf, isShared}
 use Rattle.words.specs.Opcode.{word, toInstruction, Pop, ReturnOp}
 use Rattle.compiler_laws.specs.Cells.{stateOf, wordsOf, flagWord}
 
@@ -121,21 +117,3 @@ depth-kept n s = go (eqb (s .full) 0)
     go : (free : Bool) → let g = cond free (withDepth n s) s in withDepth (g .depth) s ≡ g
     go true = refl
     go false = refl
-
--- a constant more changes the mark and the constants' count alone
-adds : (shared free : Bool) (o : Option ℕ) (kind value : ℕ) (s : FunctionState) (k : List ℕ)
-    → let g = cond free (cond shared (addBy o kind value s k) (addNoCheckC kind value s k)) (pooling 0 s k) in
-    g .state ≡ withConstants (taken (g .state .full) (g .state .constants)) s
-adds true true (some i) kind value s k = refl
-adds true true none kind value s k = refl
-adds false true o kind value s k = refl
-adds shared false o kind value s k = refl
-
-pub add-words : (kind value : ℕ) (s : FunctionState) (k : List ℕ) {i : ℕ} {a : FunctionState} {k′ : List ℕ} (t : FunctionState)
-    → a ≡ withConstants (taken (t .full) (t .constants)) s → pooling i t k′ ≡ addConstantC kind value s k
-    → pooling i a k′ ≡ addConstantC kind value s k
-unfolding addConstantC
-add-words kind value s k t kept q =
-    let is = ap (λ (m : Pooling). m .state) q
-    ∙ adds (isShared kind) (eqb (s .full) 0) (findConstantC (s .constants) (constantOf kind value) k) kind value s k in
-    rw (kept ∙ ap (λ (t : FunctionState). withConstants (taken (t .full) (t .constants)) s) is ∙ sym is) q

@@ -30,25 +30,30 @@ returns-2 c =
     work-full _ (c10 .begin-constants .ensures) (c5 .begin-books .ensures) calm-definition (c .before .before .begun2 .ensures) (c .if2 .taken) 0 0
 
 drive-requires : tie.Need-drive-requires
-drive-requires c κs = ap (λ (x : Book). x .full) (c .before .before .before .before .begun2 .ensures) ∙ c .before .before .if2 .left
+drive-requires c κs =
+    let c6 = c .before .before .before .before .before .before in
+    ap (λ (x : Book). x .full) (c6 .before .before .begun2 .ensures) ∙ c6 .if2 .left
 
 same-length-3 : tie.Need-same-length-3
 same-length-3 c =
-    let c12 = c .before .before .before .before .before .before .before .before .before .before .before .before in
-    let c17 = c12 .before .before .before .before .before in
-    (c .before .before .before .before .drive .kept .1 .1 .1 .1 .1 .1 .0) ∙ (c12 .begin-books .kept .1 .1 .1 .1 .1 .0) ∙ (c17 .begin-constants .kept .1 .0)
+    let c9 = c .before .before .before .before .before .before .before .before .before in
+    let c16 = c9 .before .before .before .before .before .before .before in
+    let c21 = c16 .before .before .before .before .before in
+    (c .before .before .before .before .drive .kept .1 .1 .1 .1 .1 .1 .0) ∙ (c9 .fill-slots .kept .1 .0) ∙ (c16 .begin-books .kept .1 .1 .1 .1 .1 .0) ∙ (c21 .begin-constants .kept .1 .0)
 
 same-length-4 : tie.Need-same-length-4
 same-length-4 c = (c .before .before .before .before .drive .kept .1 .1 .1 .1 .1 .1 .1 .0)
 
 returns-3 : tie.Need-returns-3
 returns-3 c =
-    let c7 = c .before .before .before .before .before .before .before in
-    let c9 = c7 .before .before in
-    let c12 = c9 .before .before .before in
-    let c17 = c12 .before .before .before .before .before in
-    let c23 = c17 .before .before .before .before .before .before in
-    work-on _ (c17 .begin-constants .ensures) (c12 .begin-books .ensures) calm-definition (c9 .begun2 .ensures) (c7 .if2 .left) (c23 .pre)
+    let c9 = c .before .before .before .before .before .before .before .before .before in
+    let c11 = c9 .before .before in
+    let c13 = c11 .before .before in
+    let c16 = c13 .before .before .before in
+    let c21 = c16 .before .before .before .before .before in
+    let c27 = c21 .before .before .before .before .before .before in
+    work-on _ (c21 .begin-constants .ensures) (c16 .begin-books .ensures) calm-definition (c13 .begun2 .ensures) (c11 .if2 .left) (c9 .fill-slots .ensures)
+    (c27 .pre)
     (c .before .before .before .before .drive .ensures)
 
 pub work-spec : {M : Type 1} → statement M
@@ -63,6 +68,7 @@ work-spec =
     (λ c κs. search needs)
     same-length-2
     returns-2
+    (λ c κs. search needs)
     drive-requires
     same-length-3
     same-length-4
