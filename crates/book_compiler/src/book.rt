@@ -9,6 +9,7 @@ ghost use Rattle.book_compiler.specs.BookLeaves.{PushesBookError, AddsBo
 use crate::cells;
 use crate::function_state;
 use building::function_state::FunctionState;
+use building::pool;
 use building::scopes::Found;
 use compiler_laws::book::Book;
 use words::record;
