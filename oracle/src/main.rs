@@ -43,9 +43,12 @@ oracle strict [--seed S] [--seeds K] [--count N] [--ours]
 oracle programs [--seed S] [--count N] [--each] [--bench]
     the library's program check and the reading over N programs, six in seven damaged; or over every
     single damage of samples, N of them made by chance; or its times on programs long in one way
-oracle onto --self N [--seed S] [--plant FAULT] [--stop]; or --self N S
+oracle onto --self N [--seed S] [--plant FAULT] [--next] [--stop]; or --self N S
     N programs from seed S on, grown by up to four bundles with refusals in between: the reading of laying on, trial and commit
-    (onto.rs) against the Rust with a context that is compiled on; --plant holds a reading with a fault against it
+    (onto.rs) against the Rust with a context that is compiled on; --plant holds a reading with a fault against it; --next
+    looks at the row of a refusal alone, so that what it leaves must be seen at the next bundle
+oracle onto --small K [--plant FAULT] [--next]
+    the same over every book of up to two definitions of a list with every book of up to K of them laid on it, in both modes
 oracle onto --calls N [--seed S] [--plant FAULT] [--ours]; or --calls N S
     the same reading against that of standing.rs (or the library) over the calls of N sequences, odd and damaged programs
     among them: reply and every word
@@ -331,7 +334,9 @@ fn onto_library() -> Box<dyn oracle::onto_calls::OntoCalls> {
 
 fn run_onto(arguments: &Arguments) -> ExitCode {
     use oracle::onto::{Fault, Reading};
-    use oracle::onto_calls::{compare_calls, compare_self, OntoCalls, Standing};
+    use oracle::onto_calls::{compare_calls, OntoCalls, Standing};
+    use oracle::onto_grown::{compare_self, Look};
+    use oracle::onto_small::compare_small;
     if arguments.has("--faults") {
         Fault::ALL.iter().for_each(|fault| println!("{fault:?}"));
         return ExitCode::SUCCESS;
@@ -359,7 +364,11 @@ fn run_onto(arguments: &Arguments) -> ExitCode {
         seen.print();
         seen.first
     } else {
-        let seen = compare_self(reading, seed, arguments.number("--self", 1000), arguments.has("--stop"));
+        let look = if arguments.has("--next") { Look::NextBundle } else { Look::AllLeft };
+        let seen = match arguments.has("--small") {
+            true => compare_small(reading, look, arguments.number("--small", 2) as usize),
+            false => compare_self(reading, look, seed, arguments.number("--self", 1000), arguments.has("--stop")),
+        };
         seen.print();
         seen.first
     };
@@ -509,11 +518,13 @@ const COMMANDS: [Command; 21] = [
         "onto",
         &[
             Number("--self"),
+            Number("--small"),
             Number("--calls"),
             Number("--seed"),
             Word("--plant"),
             Switch("--faults"),
             Switch("--ours"),
+            Switch("--next"),
             Switch("--stop"),
         ],
         true,

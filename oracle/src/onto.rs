@@ -180,9 +180,8 @@ impl Reading {
             return Err((BOOK_TWICE, 0));
         }
         // "books already standing are skipped, their includes too, and need no copy in the bundle"
-        let is_skipped = |file: &u64| {
-            standing.contains(file) && !(self.is(Fault::CopyCompiled) && places.contains_key(file))
-        };
+        let is_skipped =
+            |file: &u64| standing.contains(file) && !(self.is(Fault::CopyCompiled) && places.contains_key(file));
         let mut reached = BTreeSet::from([root]);
         loop {
             let follows = |file: &&u64| !is_skipped(file) || self.is(Fault::CopyIncludesFollowed);

@@ -11,6 +11,7 @@ use clover::backend::compiler::{compile_document, CompilerContext};
 use clover::backend::dependency_solver::DependencySolver;
 use clover::intermediate::ast::{Definition, Document};
 use clover::intermediate::CompileErrorList;
+use clover::runtime::program::{Model, Program};
 use std::collections::{BTreeMap, BTreeSet, HashSet};
 
 const BOOK_MISSING: u64 = 6;
@@ -32,7 +33,37 @@ pub struct Laid {
     pub outcome: Outcome,
     books: Vec<Vec<Record>>,
     /// After row 7: what the Rust's context holds although it refused.
-    pub kept: Option<Delivery>,
+    pub kept: Option<Kept>,
+}
+
+/// What a context has more than before, and what it has changed of what stood.
+#[derive(Clone, Copy, Debug, Default, PartialEq, Eq)]
+pub struct Kept {
+    pub files: usize,
+    pub functions: usize,
+    pub constants: usize,
+    pub models: usize,
+    pub locals: usize,
+    pub globals: usize,
+    pub methods_changed: bool,
+    pub entry_point_changed: bool,
+}
+
+impl Kept {
+    pub fn between(before: &Program, after: &Program) -> Kept {
+        let files = |program: &Program| program.file_info.as_ref().expect("to_program gives it").filenames.len();
+        let methods = |(old, new): (&Model, &Model)| old.functions != new.functions;
+        Kept {
+            files: files(after) - files(before),
+            functions: after.functions.len() - before.functions.len(),
+            constants: after.constants.len() - before.constants.len(),
+            models: after.models.len() - before.models.len(),
+            locals: after.local_count - before.local_count,
+            globals: after.global_dependencies.len() - before.global_dependencies.len(),
+            methods_changed: before.models.iter().zip(&after.models).any(methods),
+            entry_point_changed: before.entry_point != after.entry_point,
+        }
+    }
 }
 
 /// Records of the documents of a list, one after the other.
@@ -42,7 +73,6 @@ fn documents_of(records: &[Record]) -> Vec<(usize, &[Record])> {
     starts.take_while(|&at| at < records.len()).map(whole).collect()
 }
 
-
 /// What the Rust's solver says of a bundle: the books to compile, in 01's order, and those left.
 struct Solved {
     order: Vec<u64>,
@@ -50,7 +80,12 @@ struct Solved {
 }
 
 /// `compile_to`'s loading and ordering, or row 6's place.
-fn solve(documents: &BTreeMap<u64, Document>, root: u64, texts: &Texts, loaded: &HashSet<String>) -> Result<Solved, u64> {
+fn solve(
+    documents: &BTreeMap<u64, Document>,
+    root: u64,
+    texts: &Texts,
+    loaded: &HashSet<String>,
+) -> Result<Solved, u64> {
     let mut solver = DependencySolver::new();
     let mut missing = BTreeSet::new();
     let mut asked: BTreeSet<u64> = BTreeSet::new();
@@ -266,23 +301,14 @@ impl Laying<'_> {
         Laid { outcome: Outcome::Answer(answer), books: planned.order[stood..].iter().map(of).collect(), kept: None }
     }
 
-    /// What the Rust's context holds after an error: its totals, and what can be read without asking it anything.
-    fn kept(&self, planned: &Planned, failed: usize, context: CompilerContext) -> Delivery {
-        let program = context.to_program();
-        let info = program.file_info.as_ref().expect("to_program gives it");
-        assert_eq!(info.filenames.len(), failed + 1, "the Rust keeps the file of a book with errors");
-        let mut globals: Vec<u64> = program.global_dependencies.iter().map(|&index| index as u64).collect();
-        globals.sort_unstable();
-        let value = |local: usize| program.local_values.get(&local).map(|&constant| constant as u64);
-        Delivery {
-            functions: self.driven.functions(&program),
-            constants: program.constants.iter().map(|object| self.driven.constant(object)).collect(),
-            globals,
-            models: self.driven.models(&program),
-            context: (0..program.local_count).map(|local| (0, 0, value(local))).collect(),
-            public: BTreeMap::new(),
-            entry_point: program.entry_point as u64,
-            books: planned.order[..=failed].to_vec(),
+    /// What the Rust's context holds after an error that it did not hold before the bundle.
+    fn kept(&self, planned: &Planned, failed: usize, context: CompilerContext) -> Kept {
+        let mut before = CompilerContext::new();
+        for file in &planned.order[..self.grown.books.len()] {
+            compile_document(&planned.documents[file].1, &mut before).expect("it had no errors before");
         }
+        let kept = Kept::between(&before.to_program(), &context.to_program());
+        assert_eq!(kept.files, failed + 1 - self.grown.books.len(), "the Rust keeps the file of a book with errors");
+        kept
     }
 }

@@ -347,7 +347,7 @@ impl Driven<'_> {
         }
     }
 
-    pub(crate) fn functions(&self, program: &Program) -> Vec<FunctionAnswer> {
+    fn functions(&self, program: &Program) -> Vec<FunctionAnswer> {
         let info = program.file_info.as_ref().expect("to_program gives it");
         let positions = &program.debug_info.as_ref().expect("to_program gives it").functions;
         let read = |index: usize| {
@@ -367,7 +367,7 @@ impl Driven<'_> {
         (0..program.functions.len()).map(read).collect()
     }
 
-    pub(crate) fn models(&self, program: &Program) -> Vec<ModelAnswer> {
+    fn models(&self, program: &Program) -> Vec<ModelAnswer> {
         let info = program.file_info.as_ref().expect("to_program gives it");
         let read = |index: usize| {
             let model = &program.models[index];
@@ -386,7 +386,7 @@ impl Driven<'_> {
     }
 
     /// Kind and value, kinds in 01's order from 0.
-    pub(crate) fn constant(&self, object: &Object) -> (u64, u64) {
+    fn constant(&self, object: &Object) -> (u64, u64) {
         match object {
             Object::Null => (0, 0),
             Object::Boolean(value) => (1, *value as u64),
