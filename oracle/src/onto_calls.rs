@@ -3,7 +3,7 @@
 
 use crate::areas::{Areas, Lengths, AREAS};
 use crate::onto::{Lent, Reading};
-use crate::standing::{fresh, Answered, Call, Order, Totals, PROGRAM_PLACE};
+use crate::standing::{fresh, Answered, Call, Order, Totals, MOST_BUNDLES, PROGRAM_PLACE};
 use crate::standing_calls::calls;
 use std::collections::BTreeMap;
 
@@ -17,10 +17,17 @@ pub struct Replied {
     pub totals: Totals,
 }
 
-/// The calls on a program: one function, so that a side is one function to write. `memory` holds the areas one after the
-/// other, each of its length in words, and then words that belong to none (docs/FORMAT.md, 'One memory').
+/// The calls on a program: one function, so that a side is one function to write.
 pub trait OntoCalls {
+    /// `memory` holds the areas one after the other, each of its length in words, and then words that belong to none
+    /// (docs/FORMAT.md, 'One memory'); a side with twelve slices splits it. `order` has the program's totals.
     fn call(&mut self, order: &Order, tree: &[u64], strict: bool, lengths: &Lengths, memory: &mut [u64]) -> Replied;
+
+    /// Whether totals carry the number of bundles (2026-08). Before, laying on alone is asked for, and the number is not
+    /// looked at.
+    fn counts_bundles(&self) -> bool {
+        true
+    }
 }
 
 /// Splits one memory into its areas.
@@ -75,23 +82,30 @@ impl OntoCalls for Standing {
     }
 }
 
-/// Words behind the areas that no call may touch.
+/// Words before and after what is lent that no call may touch, and at its end words that belong to no area.
 const BESIDE: [u64; 8] = [0x5A5A_0000_0000_5A5A; 8];
+const LEFT_OVER: [u64; 3] = [7, 8, 9];
 
-/// One call of a side: reply, every word of every area, the words behind and the bundle.
+/// One call of a side: reply, every word of every area, the words beside them and the bundle.
 pub fn judge(side: &mut dyn OntoCalls, call: &Call) -> Result<Answered, String> {
     let wanted = answered(&Reading::default(), call);
     let lengths = lengths_of(&call.areas);
-    let mut memory = [call.areas.concat(), BESIDE.to_vec()].concat();
-    let replied = side.call(&call.order, &call.words, call.strict, &lengths, &mut memory);
-    let expected = Replied { row: wanted.row, place: wanted.place, totals: wanted.totals };
+    let mut memory = [&BESIDE[..], &call.areas.concat(), &LEFT_OVER, &BESIDE].concat();
+    let end = memory.len() - BESIDE.len();
+    let tree = call.words.clone();
+    let replied = side.call(&call.order, &tree, call.strict, &lengths, &mut memory[BESIDE.len()..end]);
+    let mut expected = Replied { row: wanted.row, place: wanted.place, totals: wanted.totals };
+    if !side.counts_bundles() {
+        expected.totals.bundles = replied.totals.bundles;
+    }
     if replied != expected {
         return Err(format!("replied {replied:?}, not {expected:?}"));
     }
-    if !memory.ends_with(&BESIDE) {
-        return Err("words behind the areas were written".to_string());
+    let behind = [&LEFT_OVER[..], &BESIDE].concat();
+    if !memory.starts_with(&BESIDE) || !memory.ends_with(&behind) || tree != call.words {
+        return Err("words beside the areas, or the bundle, were written".to_string());
     }
-    let left = split(&memory, &lengths);
+    let left = split(&memory[BESIDE.len()..], &lengths);
     match (0..AREAS).find(|&i| left[i] != wanted.areas[i]) {
         None => Ok(wanted),
         Some(i) => {
@@ -99,6 +113,15 @@ pub fn judge(side: &mut dyn OntoCalls, call: &Call) -> Result<Answered, String> 
             let (found, wanted) = (left[i][at], wanted.areas[i][at]);
             Err(format!("row {}: area {}, word {at} is {found}, not {wanted}", expected.row, i + 1))
         }
+    }
+}
+
+/// Whether a side has this call.
+fn is_known(side: &dyn OntoCalls, call: &Call) -> bool {
+    match call.order {
+        Order::Fresh => false,
+        Order::Lay(totals) => side.counts_bundles() || (1..=MOST_BUNDLES).contains(&totals.bundles),
+        Order::Trial(_) | Order::Commit(..) => side.counts_bundles(),
     }
 }
 
@@ -133,7 +156,10 @@ fn area_of(row: u64, place: u64) -> u64 {
 pub fn compare_calls(side: &mut dyn OntoCalls, seed: u64, count: u64) -> Compared {
     let mut seen = Compared::default();
     for index in 0..count {
-        for call in calls(seed, index).iter().filter(|call| call.order != Order::Fresh) {
+        for call in &calls(seed, index) {
+            if !is_known(side, call) {
+                continue;
+            }
             seen.calls += 1;
             match judge(side, call) {
                 Ok(Answered { row: 0, .. }) => seen.delivered += 1,
