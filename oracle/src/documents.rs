@@ -16,6 +16,11 @@ impl Texts {
         Texts { this: records.iter().find(|r| r.kind == kind::THIS_PARAMETER).map(|r| r.value) }
     }
 
+    /// For several bundles that number `this` alike.
+    pub fn with_this(this: u64) -> Texts {
+        Texts { this: Some(this) }
+    }
+
     /// A bundle may number `this` as 1, which is `main`; no string is both, so the Rust can then be
     /// driven only where nothing depends on which of the two it is.
     pub fn consistent(&self, records: &[Record]) -> bool {

@@ -22,6 +22,14 @@ pub mod hostile;
 pub mod listing;
 pub mod merge;
 pub mod model;
+pub mod onto;
+pub mod onto_bodies;
+pub mod onto_calls;
+pub mod onto_grown;
+pub mod onto_real;
+pub mod onto_seen;
+pub mod onto_small;
+pub mod onto_work;
 #[cfg(feature = "link")]
 pub mod ours;
 pub mod pieces;

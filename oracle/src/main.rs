@@ -43,6 +43,17 @@ oracle strict [--seed S] [--seeds K] [--count N] [--ours]
 oracle programs [--seed S] [--count N] [--each] [--bench]
     the library's program check and the reading over N programs, six in seven damaged; or over every
     single damage of samples, N of them made by chance; or its times on programs long in one way
+oracle onto --self N [--seed S] [--plant FAULT] [--next] [--stop]; or --self N S
+    N programs from seed S on, grown by up to four bundles with refusals in between: the reading of laying on, trial and commit
+    (onto.rs) against the Rust with a context that is compiled on; --plant holds a reading with a fault against it; --next
+    looks at the row of a refusal alone, so that what it leaves must be seen at the next bundle
+oracle onto --small K [--plant FAULT] [--next]
+    the same over every book of up to two definitions of a list with every book of up to K of them laid on it, in both modes
+oracle onto --calls N [--seed S] [--plant FAULT] [--ours]; or --calls N S
+    the same reading against that of standing.rs (or the library) over the calls of N sequences, odd and damaged programs
+    among them: reply and every word
+oracle onto --faults
+    the faults that can be planted
 oracle program-cases
     writes the stored cases of the program `program_cases` anew
 oracle table-cases
@@ -311,6 +322,64 @@ fn run_programs(_: &Arguments) -> ExitCode {
     unreachable!("`needs_library` holds it back");
 }
 
+#[cfg(feature = "link")]
+fn onto_library() -> Box<dyn oracle::onto_calls::OntoCalls> {
+    Box::new(oracle::ours::Library)
+}
+
+#[cfg(not(feature = "link"))]
+fn onto_library() -> Box<dyn oracle::onto_calls::OntoCalls> {
+    unreachable!("`needs_library` holds it back");
+}
+
+fn run_onto(arguments: &Arguments) -> ExitCode {
+    use oracle::onto::{Fault, Reading};
+    use oracle::onto_calls::{compare_calls, OntoCalls, Standing};
+    use oracle::onto_grown::{compare_self, Look};
+    use oracle::onto_small::compare_small;
+    if arguments.has("--faults") {
+        Fault::ALL.iter().for_each(|fault| println!("{fault:?}"));
+        return ExitCode::SUCCESS;
+    }
+    let seed = match arguments.files.as_slice() {
+        [] => Some(arguments.number("--seed", 1)),
+        [seed] => seed.parse().ok(),
+        _ => None,
+    };
+    let fault = arguments.word("--plant").map(Fault::named);
+    let (Some(seed), false) = (seed, fault == Some(None)) else {
+        eprintln!("oracle onto: one seed, a number; `--plant` is followed by a name that `oracle onto --faults` prints");
+        return ExitCode::from(WRONGLY_CALLED);
+    };
+    let reading = Reading { fault: fault.flatten() };
+    let start = Instant::now();
+    println!("seed {seed}");
+    let first = if arguments.has("--calls") {
+        let mut side: Box<dyn OntoCalls> = match (reading.fault, arguments.has("--ours")) {
+            (Some(_), _) => Box::new(reading),
+            (None, true) => onto_library(),
+            (None, false) => Box::new(Standing),
+        };
+        let seen = compare_calls(&mut *side, seed, arguments.number("--calls", 1000));
+        seen.print();
+        seen.first
+    } else {
+        let look = if arguments.has("--next") { Look::NextBundle } else { Look::AllLeft };
+        let seen = match arguments.has("--small") {
+            true => compare_small(reading, look, arguments.number("--small", 2) as usize),
+            false => compare_self(reading, look, seed, arguments.number("--self", 1000), arguments.has("--stop")),
+        };
+        seen.print();
+        seen.first
+    };
+    println!("seconds {:.1}", start.elapsed().as_secs_f64());
+    let Some(first) = first else {
+        return ExitCode::SUCCESS;
+    };
+    println!("first difference: {first}");
+    ExitCode::FAILURE
+}
+
 fn run_program_cases(_: &Arguments) -> ExitCode {
     let (given, wanted) = oracle::program_calls::stored();
     let files = [("stdin", given), ("stdout", wanted)].map(|(name, text)| (name.to_string(), text.into_bytes()));
@@ -423,7 +492,7 @@ const WRONGLY_CALLED: u8 = 2;
 /// A command, its flags, whether it takes files, and what it does.
 type Command = (&'static str, &'static [Flag], bool, fn(&Arguments) -> ExitCode);
 
-const COMMANDS: [Command; 20] = [
+const COMMANDS: [Command; 21] = [
     (
         "compare",
         &[
@@ -445,6 +514,22 @@ const COMMANDS: [Command; 20] = [
     ("tables", &[Number("--seed"), Number("--count"), Switch("--limits")], false, run_tables),
     ("strict", &[Number("--seed"), Number("--seeds"), Number("--count"), Switch("--ours")], false, run_strict),
     ("programs", &[Number("--seed"), Number("--count"), Switch("--each"), Switch("--bench")], false, run_programs),
+    (
+        "onto",
+        &[
+            Number("--self"),
+            Number("--small"),
+            Number("--calls"),
+            Number("--seed"),
+            Word("--plant"),
+            Switch("--faults"),
+            Switch("--ours"),
+            Switch("--next"),
+            Switch("--stop"),
+        ],
+        true,
+        run_onto,
+    ),
     ("program-cases", &[], false, run_program_cases),
     ("table-cases", &[], false, run_table_cases),
     ("table-bench", &[Number("--runs")], false, run_table_bench),
@@ -461,7 +546,7 @@ const COMMANDS: [Command; 20] = [
 
 fn needs_library(command: &str, arguments: &Arguments) -> bool {
     match command {
-        "compare" | "hostile" | "strict" => arguments.has("--ours"),
+        "compare" | "hostile" | "strict" | "onto" => arguments.has("--ours"),
         "convert" | "bench" | "speed" | "tables" | "table-bench" | "errors" => true,
         "once" => !arguments.has("--original"),
         _ => false,

@@ -55,7 +55,7 @@ thread_local! {
 }
 
 /// A panic inside the Rust is an answer here, not a message on the screen.
-fn quiet<T>(work: impl FnOnce() -> T) -> Result<T, String> {
+pub(crate) fn quiet<T>(work: impl FnOnce() -> T) -> Result<T, String> {
     static HOOK: Once = Once::new();
     HOOK.call_once(|| {
         let loud = panic::take_hook();
@@ -74,7 +74,7 @@ fn quiet<T>(work: impl FnOnce() -> T) -> Result<T, String> {
 }
 
 /// Only the panic that 01 names may be met; any other is a fault of the oracle or news.
-fn is_the_known_panic(message: &str) -> bool {
+pub(crate) fn is_the_known_panic(message: &str) -> bool {
     message.contains("function_state.rs") && message.contains("`Option::unwrap()` on a `None` value")
 }
 
@@ -164,18 +164,18 @@ impl Prepared {
     }
 }
 
-struct Driven<'a> {
-    records: &'a [Record],
-    texts: Texts,
+pub(crate) struct Driven<'a> {
+    pub(crate) records: &'a [Record],
+    pub(crate) texts: Texts,
     /// Given where all fit the Rust's 16 bits, else tagged and mapped back.
-    positions: Positions,
+    pub(crate) positions: Positions,
 }
 
 /// The bundle as the Rust holds it, with the order of compiling.
-struct Planned {
-    documents: BTreeMap<u64, (usize, Document)>,
-    order: Vec<u64>,
-    left: Vec<u64>,
+pub(crate) struct Planned {
+    pub(crate) documents: BTreeMap<u64, (usize, Document)>,
+    pub(crate) order: Vec<u64>,
+    pub(crate) left: Vec<u64>,
 }
 
 fn no_books() -> HashSet<String> {
@@ -183,7 +183,7 @@ fn no_books() -> HashSet<String> {
 }
 
 /// A book with nothing but its includes.
-fn includes_alone(book: &Document) -> Document {
+pub(crate) fn includes_alone(book: &Document) -> Document {
     let is_include = |definition: &&Definition| matches!(definition, Definition::Include(_));
     Document {
         definitions: book.definitions.iter().filter(is_include).cloned().collect(),
@@ -192,7 +192,7 @@ fn includes_alone(book: &Document) -> Document {
 }
 
 impl Driven<'_> {
-    fn builder(&self, positions: Positions) -> Builder<'_> {
+    pub(crate) fn builder(&self, positions: Positions) -> Builder<'_> {
         Builder { records: self.records, texts: self.texts, positions }
     }
 
@@ -287,7 +287,11 @@ impl Driven<'_> {
     /// Numbers by message, positions as they came, and the record of each token by a second run in
     /// which every record has a position of its own.
     fn errors(&self, errors: &CompileErrorList) -> Vec<ErrorAnswer> {
-        let tagged = self.tagged_errors();
+        self.numbered(errors, &self.tagged_errors())
+    }
+
+    /// The same, with the errors of the second run.
+    pub(crate) fn numbered(&self, errors: &CompileErrorList, tagged: &CompileErrorList) -> Vec<ErrorAnswer> {
         assert_eq!(errors.errors.len(), tagged.errors.len(), "positions change the errors");
         let pairs = errors.errors.iter().zip(&tagged.errors);
         pairs
@@ -318,7 +322,7 @@ impl Driven<'_> {
         documents.find_map(|document| compile_document(document, &mut context).err()).expect("it had errors before")
     }
 
-    fn read(&self, planned: &Planned, mut context: CompilerContext) -> Delivery {
+    pub(crate) fn read(&self, planned: &Planned, mut context: CompilerContext) -> Delivery {
         let program = context.to_program();
         let info = program.file_info.as_ref().expect("to_program gives it");
         let mut globals: Vec<u64> = program.global_dependencies.iter().map(|&index| index as u64).collect();
