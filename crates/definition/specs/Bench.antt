@@ -1,6 +1,7 @@
--- The bench pieces of 01 in one table (`BenchPieces`); then a row for each kind of record (`Kinds`), each error (`Errors`) and each case of 01 (`Cases`).
--- A row has the words of a bundle and what the whole call comes to on them. All are proved by computing, in proofs/AllRows.antt; (l) where the listing is
--- defined, in crates/listings
+-- The bench pieces of 01 in one table (`BenchPieces`); then a row for each kind of record (`Kinds`), each error (`Errors`) and each case of 01 (`Levels`,
+-- `ExactAreas`, `Cases`). A row has the words of a bundle and what the whole call comes to on them. All are proved by computing, in proofs/AllRows.antt;
+-- `Levels` and `ExactAreas`, which take longest and which no edit of a definition needs, in crates/definition_laws; (l) where the listing is defined, in
+-- crates/listings
 use Prim.Native.Nat.{ℕ, zero, suc, _+_, _-_}
 use mathlib.Core.Path.{_≡_}
 use mathlib.Core.Bool.{Bool, false}
@@ -412,22 +413,27 @@ inTurn less lengths w areas = map (λ area. runIn (set ample area (getD lengths 
 abbrev rowOf : Result → ℕ
 rowOf x = x .row
 
--- what 01 asks a program to run, and its rows and rules
-pub record Cases : Type 0 where
+-- the deepest level that 01 allows, and one more
+pub record Levels : Type 0 where
   -- level 64: 61 arrays in each other. The 0 is the row: delivered
   pub level-64 : rowOf (runIn (0 ∷ replicate 12 400) (expression (nested 61))) ≡ 0
   -- level 65: the record at index 64
   pub level-65 : runIn (0 ∷ replicate 12 400) (expression (nested 62)) ≡ refused 4 64 []
+
+-- every area exactly full, and one word short: row 9 and the area. The code of 01's example takes a seventh entry for a Pop and gives it back
+pub record ExactAreas : Type 0 where
+  pub full : inTurn 0 exact example exampleAreas ≡ map (λ area. run example) exampleAreas
+  pub short : inTurn 1 exact example exampleAreas ≡ map (λ area. refused 9 area []) exampleAreas
+  pub full-models : inTurn 0 widths modelAndLoop otherAreas ≡ map (λ area. run modelAndLoop) otherAreas
+  pub short-models : inTurn 1 widths modelAndLoop otherAreas ≡ map (λ area. refused 9 area []) otherAreas
+
+-- what 01 asks a program to run, and its rows and rules
+pub record Cases : Type 0 where
   -- text 1,048,575 and 1,048,576
   pub text-most : run (bundle (r 1 1 0 1048575 ∷ [])) ≡ delivered [] []
   pub text-over : run (bundle (r 1 1 0 1048576 ∷ [])) ≡ refused 3 0 []
   -- no records
   pub no-records : run [] ≡ refused 3 0 []
-  -- every area exactly full, and one word short: row 9 and the area. The code of 01's example takes a seventh entry for a Pop and gives it back
-  pub full : inTurn 0 exact example exampleAreas ≡ map (λ area. run example) exampleAreas
-  pub short : inTurn 1 exact example exampleAreas ≡ map (λ area. refused 9 area []) exampleAreas
-  pub full-models : inTurn 0 widths modelAndLoop otherAreas ≡ map (λ area. run modelAndLoop) otherAreas
-  pub short-models : inTurn 1 widths modelAndLoop otherAreas ≡ map (λ area. refused 9 area []) otherAreas
   pub full-errors : runIn (set ample 11 4) (book (r 16 1 8 3 ∷ [])) ≡ refused 7 2 (error 10 8 16 3 ∷ [])
   pub short-errors : runIn (set ample 11 3) (book (r 16 1 8 3 ∷ [])) ≡ refused 9 11 []
   -- every area empty: the first constants come first

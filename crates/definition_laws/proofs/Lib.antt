@@ -47,3 +47,4 @@ pub mod StandingRoot
 pub mod ReadKnown
 pub mod OntoPasses
 pub mod PromisePasses
+pub mod LongRows
