@@ -137,6 +137,18 @@ impl Memory {
         Memory { words: vec![stale; size + 2 * BESIDE], lengths: *lengths, stale }
     }
 
+    /// As long as the areas together and these words behind them.
+    pub fn with_left_over(lengths: &Lengths, left_over: &[u64], stale: u64) -> Memory {
+        let mut memory = Memory::of(lengths, lengths.iter().sum::<usize>() + left_over.len(), stale);
+        let end = memory.words.len() - BESIDE;
+        memory.words[end - left_over.len()..end].copy_from_slice(left_over);
+        memory
+    }
+
+    pub fn lengths(&self) -> &Lengths {
+        &self.lengths
+    }
+
     pub fn lend(&mut self) -> Lent<'_> {
         let end = self.words.len() - BESIDE;
         Lent { lengths: self.lengths, memory: &mut self.words[BESIDE..end] }

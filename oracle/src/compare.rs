@@ -12,6 +12,7 @@ use crate::model::{compile, first_beyond, Run};
 use crate::random::Random;
 use crate::real::{run_counting, Outcome};
 use crate::records::{flatten, records, trees, words, Node, Record};
+use crate::slot_calls::{judge_tables, Tables};
 use crate::views::{view, Answered, Viewed};
 use std::fmt::Debug;
 
@@ -46,7 +47,7 @@ impl Side for Model {
 }
 
 /// What lent memory holds before a call.
-const STALE: u64 = 0xA5A5_A5A5_A5A5_A5A5;
+pub const STALE: u64 = 0xA5A5_A5A5_A5A5_A5A5;
 
 #[derive(Clone, Debug, Default, PartialEq, Eq)]
 pub struct Tally {
@@ -70,6 +71,8 @@ pub struct Tally {
     /// Calls of the third side, by row, and row 9 by area.
     pub calls: [u64; 10],
     pub calls_full: [u64; AREAS],
+    /// Those among them with a table of slots.
+    pub tables: Tables,
     pub differences: u64,
 }
 
@@ -271,9 +274,7 @@ fn judge_call(
     ways(lengths).iter().try_for_each(|(lengths, size)| judge_lent(side, words, lengths, *size, reply, areas))
 }
 
-/// One call of a third side in stale memory: the reply, every word of every area, what the typed views
-/// say, the words left over and those beside the memory, and the input left alone. `areas` are the words
-/// expected up to the last entry.
+/// One call of a third side in stale memory of this many words.
 fn judge_lent(
     side: &mut dyn Side,
     words: &[u64],
@@ -282,8 +283,21 @@ fn judge_lent(
     reply: &Reply,
     areas: &Areas,
 ) -> Result<(), String> {
+    judge_in(side, words, Memory::of(lengths, size, STALE), reply, areas)
+}
+
+/// One call of a third side: the reply, every word of every area, what the typed views say, the words left
+/// over and those beside the memory, and the input left alone. `areas` are the words expected up to the last
+/// entry.
+pub fn judge_in(
+    side: &mut dyn Side,
+    words: &[u64],
+    mut memory: Memory,
+    reply: &Reply,
+    areas: &Areas,
+) -> Result<(), String> {
     let kept = words.to_vec();
-    let mut memory = Memory::of(lengths, size, STALE);
+    let lengths = *memory.lengths();
     let places: [_; AREAS] = std::array::from_fn(|i| memory.area(i).as_ptr_range());
     let answered = side.compile(words, memory.lend());
     let met: Reply = answered.reply.into();
@@ -313,8 +327,9 @@ fn judge_lent(
         let message = difference(("the views", &viewed), ("the model", &expected));
         return Err(format!("lengths {lengths:?}: {message}"));
     }
-    if memory.left_over().iter().any(|&word| word != 0) {
-        return Err(format!("lengths {lengths:?}: {} leaves words behind the areas", side.name()));
+    if let Some(at) = memory.left_over().iter().position(|&word| word != 0) {
+        let (slots, left) = (memory.left_over().len(), memory.left_over()[at]);
+        return Err(format!("lengths {lengths:?}: {} leaves {left} in slot {at} of {slots}", side.name()));
     }
     if !memory.is_kept_beside() {
         return Err(format!("lengths {lengths:?}: {} writes beside the memory", side.name()));
@@ -340,10 +355,17 @@ fn judge_cut(side: &mut dyn Side, words: &[u64], lengths: &Lengths, size: usize)
 }
 
 /// Row and place of each call of a third side.
-type Calls = Vec<(u64, u64)>;
+pub type Calls = Vec<(u64, u64)>;
 
-/// Each area exactly full; each one entry short in turn; all empty. What must be answered is foretold
-/// from the run without limits.
+/// What must be answered with these lengths, foretold from the run without limits.
+pub fn foretold(free: &Run, lengths: &Lengths) -> (Reply, Areas) {
+    match first_beyond(free, &capacities(lengths)) {
+        Some(place) => (Reply::refusal(AREA_FULL, place), Areas::default()),
+        None => (free.reply, free.areas.clone()),
+    }
+}
+
+/// Each area exactly full; each one entry short in turn; all empty.
 fn judge_edges(side: &mut dyn Side, case: &Case, free: &Run) -> Result<Calls, String> {
     let peaks = free.peaks();
     let exact: Lengths = std::array::from_fn(|i| peaks[i] as usize * ENTRY_WORDS[i]);
@@ -355,13 +377,8 @@ fn judge_edges(side: &mut dyn Side, case: &Case, free: &Run) -> Result<Calls, St
     }));
     let mut calls = Vec::new();
     for lengths in tried {
-        let full = first_beyond(free, &capacities(&lengths));
-        let refusal = full.map(|place| Reply::refusal(AREA_FULL, place));
-        match refusal {
-            Some(reply) => judge_call(side, &case.words, &lengths, &reply, &Areas::default())?,
-            None => judge_call(side, &case.words, &lengths, &free.reply, &free.areas)?,
-        }
-        let reply = refusal.unwrap_or(free.reply);
+        let (reply, areas) = foretold(free, &lengths);
+        judge_call(side, &case.words, &lengths, &reply, &areas)?;
         calls.push((reply.row, reply.place));
     }
     Ok(calls)
@@ -381,12 +398,13 @@ struct Judged {
     verdict: Verdict,
     full: Vec<u64>,
     calls: Calls,
+    tables: Tables,
 }
 
 /// Everything about one case; lengths come from the case's own stream, so that shrinking keeps them alike.
 fn judge_all(case: &Case, stream: u64, side: &mut Option<&mut dyn Side>) -> Result<Judged, String> {
     let (verdict, free) = judge(case)?;
-    let mut judged = Judged { verdict, full: Vec::new(), calls: Vec::new() };
+    let mut judged = Judged { verdict, full: Vec::new(), calls: Vec::new(), tables: Tables::default() };
     if matches!(judged.verdict.outcome, Seen::Oversized) {
         if let Some(side) = side {
             judged.calls = judge_oversized(*side, case, &free)?;
@@ -408,6 +426,9 @@ fn judge_all(case: &Case, stream: u64, side: &mut Option<&mut dyn Side>) -> Resu
     }
     if let Some(side) = side {
         judged.calls.extend(judge_edges(*side, case, &free)?);
+        let (calls, tables) = judge_tables(*side, &case.words, &free, &mut sizes)?;
+        judged.calls.extend(calls);
+        judged.tables = tables;
     }
     Ok(judged)
 }
@@ -464,7 +485,8 @@ pub fn compare(plan: Plan, mut side: Option<&mut dyn Side>) -> (Tally, Option<Di
 }
 
 impl Tally {
-    fn add(&mut self, Judged { verdict, full, calls }: &Judged) {
+    fn add(&mut self, Judged { verdict, full, calls, tables }: &Judged) {
+        self.tables.join(tables);
         for &(row, place) in calls {
             self.calls[row as usize] += 1;
             if row == AREA_FULL {
@@ -512,6 +534,7 @@ impl Tally {
         each(&mut self.full, &other.full);
         each(&mut self.calls, &other.calls);
         each(&mut self.calls_full, &other.calls_full);
+        self.tables.join(&other.tables);
         self.differences += other.differences;
     }
 
@@ -539,6 +562,8 @@ impl Tally {
         if calls > 0 {
             println!("calls of the library {calls}, by row 0 to 9: {:?}", self.calls);
             println!("  row 9 by area 1 to 12: {:?}", self.calls_full);
+            let Tables { lent, to_the_end, slots } = self.tables;
+            println!("  with a table of slots {lent}, delivered with more slots than constants {to_the_end}, slots compared {slots}");
         }
         println!("differences {}", self.differences);
     }

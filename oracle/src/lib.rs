@@ -40,6 +40,7 @@ pub mod real;
 pub mod records;
 pub mod sample;
 pub mod shape;
+pub mod slot_calls;
 pub mod slots;
 pub mod speed;
 pub mod standing;

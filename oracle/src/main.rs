@@ -19,8 +19,8 @@ use std::time::Instant;
 
 const USAGE: &str = "\
 oracle compare [--seed S] [--seeds K] [--count N] [--large] [--ours] [--stop] [--head-includes]
-    the Rust and the model (and the library) over N bundles of each of the K seeds from S on, with a
-    table at the end; --stop ends a seed at its first difference; --head-includes leaves out
+    the Rust and the model (and the library, with tables of slots too) over N bundles of each of the K
+    seeds from S on, with a table of the counts at the end; --stop ends a seed at its first difference; --head-includes leaves out
     bundles with an include below another definition
 oracle case --seed S --index I [--large] [--column]
     the words of one bundle, or its column file
@@ -63,12 +63,12 @@ oracle table-bench [--runs R]
 oracle bench [--runs R]
     the library's converters and shape check beside plain Rust on 1,000,000 records
 oracle speed [--shape NAME] [--runs R] [--longest SECONDS] [--small]
-    the library's compile call beside the original's compile_document and to_program, as a table;
-    --small for bundles of hundreds of records
+    the library's compile call beside the original's compile_document and to_program, as a table, without
+    slots and with a table of twice the constants; --small for bundles of hundreds of records
 oracle shapes [--live]
     the names of that table's shapes; with --live, of those with 30 and 300 live names
-oracle once --shape NAME --records N [--original]
-    one call of a shape, for a profile (see `counts`)
+oracle once --shape NAME --records N [--original] [--slots]
+    one call of a shape, for a profile (see `counts`); --slots with a table of twice the constants
 oracle sample
     writes the files of sample/ anew
 oracle errors [--seed S] [--count N] [--bundles]
@@ -420,7 +420,9 @@ fn run_once(arguments: &Arguments) -> ExitCode {
         let (_, program) = Prepared::new(&records(&words)).compile();
         println!("{} records, {} functions", words.len() / 4, program.functions.len());
     } else {
-        let mut memory = Memory::new(&speed::needs(&words), 1);
+        let exact = speed::needs(&words);
+        let slots = arguments.has("--slots");
+        let mut memory = if slots { speed::with_slots(&exact) } else { Memory::new(&exact, 1) };
         let reply = speed::call_side(&mut *library(), &words, &mut memory);
         println!("{} records, {} functions", words.len() / 4, reply.totals[2]);
     }
@@ -536,7 +538,7 @@ const COMMANDS: [Command; 21] = [
     ("bench", &[Number("--runs")], false, run_bench),
     ("speed", &[Word("--shape"), Number("--runs"), Number("--longest"), Switch("--small")], false, run_speed),
     ("shapes", &[Switch("--live")], false, run_shapes),
-    ("once", &[Word("--shape"), Number("--records"), Switch("--original")], false, run_once),
+    ("once", &[Word("--shape"), Number("--records"), Switch("--original"), Switch("--slots")], false, run_once),
     ("sample", &[], false, run_sample),
     ("errors", &[Number("--seed"), Number("--count"), Switch("--bundles")], false, run_errors),
     ("error-cases", &[], false, run_error_cases),

@@ -1,20 +1,39 @@
 //! The compile call beside the original `compile_document` and `to_program`: one process, turn by
-//! turn, processor time, trees built beforehand on both sides.
+//! turn, processor time, trees built beforehand on both sides; without a table of slots and with one.
 
-use crate::areas::{Lengths, Memory, Reply, ENTRY_WORDS, UNLIMITED};
+use crate::areas::{area, Lengths, Memory, Reply, ENTRY_WORDS, UNLIMITED};
 use crate::clock::{median, now};
 use crate::compare::Side;
 use crate::model::compile;
 use crate::pieces::{document, for_node, function, get, identifier, if_node, infix, leaf, name_node, statement};
 use crate::real::Prepared;
 use crate::records::{flatten, kind, records, Node, RECORD_WORDS};
+use clover_back_end::slots_for;
 
 /// A shape gives a bundle of about so many records.
 pub struct Shape {
     pub name: &'static str,
     make: fn(usize) -> Vec<Node>,
-    /// What 01's linear searches make of it: what grows with the square of the size.
-    pub squared: Option<&'static str>,
+    pub searched: Searched,
+}
+
+/// What 01's linear searches make of a shape: what is searched again and again, so that the time grows with the square.
+#[derive(Clone, Copy, Debug, PartialEq, Eq)]
+pub enum Searched {
+    Nothing,
+    /// The constants, where no table of slots is lent; at each of these.
+    Constants(&'static str),
+    Other(&'static str),
+}
+
+impl Searched {
+    fn grows_squared(self, slots: bool) -> bool {
+        match self {
+            Searched::Nothing => false,
+            Searched::Constants(_) => !slots,
+            Searched::Other(_) => true,
+        }
+    }
 }
 
 const FILE: u64 = 2;
@@ -183,54 +202,54 @@ fn one_book(definitions: Vec<Node>) -> Vec<Node> {
     vec![document(FILE, definitions)]
 }
 
-const SEARCH_FUNCTIONS: &str = "names of the book, searched at each function";
-const SEARCH_FLOATS: &str = "constants, searched at each float";
+const FUNCTIONS: Searched = Searched::Other("names of the book, searched at each function");
+const BOOKS: Searched = Searched::Other("books, looked through for the next ready one");
 
 /// Floats of the catalogue that repeats them.
 const PRICES: u64 = 50;
 
 pub const SHAPES: [Shape; 11] = [
-    Shape { name: "arithmetic bodies", make: |n| one_book(filled(n, arithmetic_function)), squared: None },
+    Shape { name: "arithmetic bodies", make: |n| one_book(filled(n, arithmetic_function)), searched: Searched::Nothing },
     Shape {
         name: "many small functions",
         make: |n| one_book(filled(n, small_function)),
-        squared: Some(SEARCH_FUNCTIONS),
+        searched: FUNCTIONS,
     },
-    Shape { name: "deep nesting", make: |n| one_book(filled(n, nested_function)), squared: None },
-    Shape { name: "loops and breaks", make: |n| one_book(filled(n, loops_function)), squared: None },
+    Shape { name: "deep nesting", make: |n| one_book(filled(n, nested_function)), searched: Searched::Nothing },
+    Shape { name: "loops and breaks", make: |n| one_book(filled(n, loops_function)), searched: Searched::Nothing },
     Shape {
         name: "distinct integers",
         make: |n| one_book(leaves(n, |i| leaf(kind::INTEGER, i))),
-        squared: Some("constants, searched at each integer"),
+        searched: Searched::Constants("integer"),
     },
     Shape {
         name: "distinct texts and globals",
         make: |n| one_book(leaves(n, |i| leaf([kind::STRING, kind::IDENTIFIER][i as usize % 2], text(i)))),
-        squared: Some("constants, searched at each text"),
+        searched: Searched::Constants("text"),
     },
     Shape {
         name: "catalogue of floats",
         make: |n| one_book(leaves(n, |i| leaf(kind::FLOAT, (i as f64 * 0.5).to_bits()))),
-        squared: Some(SEARCH_FLOATS),
+        searched: Searched::Constants("float"),
     },
     Shape {
         name: "catalogue of few floats",
         make: |n| one_book(leaves(n, |i| leaf(kind::FLOAT, (1.35 + (i % PRICES) as f64).to_bits()))),
-        squared: None,
+        searched: Searched::Nothing,
     },
-    Shape { name: "many books", make: many_books, squared: Some("books, looked through for the next ready one") },
-    Shape { name: "late includes", make: late_includes, squared: Some("books, looked through for the next ready one") },
-    Shape { name: "one large book", make: |n| one_book(filled(n, mixed_function)), squared: Some(SEARCH_FLOATS) },
+    Shape { name: "many books", make: many_books, searched: BOOKS },
+    Shape { name: "late includes", make: late_includes, searched: BOOKS },
+    Shape { name: "one large book", make: |n| one_book(filled(n, mixed_function)), searched: Searched::Constants("float") },
 ];
 
 /// Searches through 30 and 300 live names, which begin at the newest (2026-03); beside the table.
 pub const LIVE_SHAPES: [Shape; 6] = [
-    Shape { name: "30 live names, the newest", make: |n| live_names(n, 30, LIVE + 29), squared: None },
-    Shape { name: "30 live names, the oldest", make: |n| live_names(n, 30, LIVE), squared: None },
-    Shape { name: "30 live names, none of them", make: |n| live_names(n, 30, LIVE + 30), squared: None },
-    Shape { name: "300 live names, the newest", make: |n| live_names(n, 300, LIVE + 299), squared: None },
-    Shape { name: "300 live names, the oldest", make: |n| live_names(n, 300, LIVE), squared: None },
-    Shape { name: "300 live names, none of them", make: |n| live_names(n, 300, LIVE + 300), squared: None },
+    Shape { name: "30 live names, the newest", make: |n| live_names(n, 30, LIVE + 29), searched: Searched::Nothing },
+    Shape { name: "30 live names, the oldest", make: |n| live_names(n, 30, LIVE), searched: Searched::Nothing },
+    Shape { name: "30 live names, none of them", make: |n| live_names(n, 30, LIVE + 30), searched: Searched::Nothing },
+    Shape { name: "300 live names, the newest", make: |n| live_names(n, 300, LIVE + 299), searched: Searched::Nothing },
+    Shape { name: "300 live names, the oldest", make: |n| live_names(n, 300, LIVE), searched: Searched::Nothing },
+    Shape { name: "300 live names, none of them", make: |n| live_names(n, 300, LIVE + 300), searched: Searched::Nothing },
 ];
 
 impl Shape {
@@ -259,15 +278,29 @@ pub fn call_side(side: &mut dyn Side, words: &[u64], memory: &mut Memory) -> Rep
     side.compile(words, memory.lend()).reply.into()
 }
 
+/// Memory with a table of slots for the constants that a bundle needs, as `Areas` of the crate has one.
+pub fn with_slots(exact: &Lengths) -> Memory {
+    let slots = slots_for(exact[area::CONSTANTS - 1] / ENTRY_WORDS[area::CONSTANTS - 1]);
+    Memory::with_left_over(exact, &vec![1; slots], 1)
+}
+
 /// Medians in seconds.
 pub struct Measured {
     pub records: usize,
-    /// Areas exactly as long as needed.
-    pub ours: f64,
-    /// Areas four times as long.
-    pub ours_roomy: f64,
+    /// Without a table of slots, where it was asked for.
+    pub plain: Option<Plain>,
+    /// With a table, areas exactly as long as needed.
+    pub slots: f64,
     pub original: f64,
     pub original_with_solver: f64,
+}
+
+#[derive(Clone, Copy)]
+pub struct Plain {
+    /// Areas exactly as long as needed.
+    pub exact: f64,
+    /// Areas four times as long.
+    pub roomy: f64,
 }
 
 fn timed<T>(times: &mut Vec<f64>, work: impl FnOnce() -> T) -> T {
@@ -277,15 +310,19 @@ fn timed<T>(times: &mut Vec<f64>, work: impl FnOnce() -> T) -> T {
     made
 }
 
-pub fn measure(side: &mut dyn Side, words: &[u64], runs: usize) -> Measured {
+pub fn measure(side: &mut dyn Side, words: &[u64], runs: usize, plain: bool) -> Measured {
     let prepared = Prepared::new(&records(words));
     let exact = needs(words);
     let mut tight = Memory::new(&exact, 1);
     let mut roomy = Memory::new(&exact.map(|length| 4 * length), 1);
-    let [mut ours, mut ours_roomy, mut original, mut with_solver] = [(); 4].map(|()| Vec::new());
+    let mut slotted = with_slots(&exact);
+    let [mut ours, mut ours_roomy, mut ours_slots, mut original, mut with_solver] = [(); 5].map(|()| Vec::new());
     for _ in 0..runs {
-        let reply = timed(&mut ours, || call_side(side, words, &mut tight));
-        timed(&mut ours_roomy, || call_side(side, words, &mut roomy));
+        if plain {
+            timed(&mut ours, || call_side(side, words, &mut tight));
+            timed(&mut ours_roomy, || call_side(side, words, &mut roomy));
+        }
+        let reply = timed(&mut ours_slots, || call_side(side, words, &mut slotted));
         let (_, program) = timed(&mut original, || prepared.compile());
         let code: usize = program.functions.iter().map(|function| function.instructions.len()).sum();
         assert_eq!((reply.row, reply.totals[0]), (0, code as u64), "both deliver the same");
@@ -294,8 +331,8 @@ pub fn measure(side: &mut dyn Side, words: &[u64], runs: usize) -> Measured {
     }
     Measured {
         records: words.len() / RECORD_WORDS,
-        ours: median(ours),
-        ours_roomy: median(ours_roomy),
+        plain: plain.then(|| Plain { exact: median(ours), roomy: median(ours_roomy) }),
+        slots: median(ours_slots),
         original: median(original),
         original_with_solver: median(with_solver),
     }
@@ -306,78 +343,100 @@ pub const SIZES: [usize; 3] = [10_000, 100_000, 1_000_000];
 /// Those of a rule book as one writes it.
 pub const SMALL: [usize; 2] = [100, 1_000];
 
-/// A table of every shape, or of one, at each size; a size that would take longer than `longest` seconds a call
-/// is left out.
+/// Records and seconds at the size before.
+type Before = Option<(usize, f64)>;
+
+/// Whether a call on so many records is expected to take longer.
+fn takes_longer(before: Before, count: usize, squared: bool, longest: f64) -> bool {
+    let Some((size, seconds)) = before else { return false };
+    let times = (count / size) as f64;
+    seconds * if squared { times * times } else { times } > longest
+}
+
+/// Nanoseconds a record, and how much more that is than at the size before.
+fn each(before: Before, records: usize, seconds: f64) -> String {
+    let each = seconds / records as f64 * 1e9;
+    let growth = before.map_or(String::new(), |(size, seconds)| format!("{:.2}", each / (seconds / size as f64 * 1e9)));
+    format!("{each:.1} | {growth}")
+}
+
+/// A table of every shape, or of one, at each size; what would take longer than `longest` seconds a call is left out.
 pub fn run(side: &mut dyn Side, only: Option<&Shape>, runs: usize, longest: f64, sizes: &[usize]) {
     println!("Processor time, medians of {runs} runs ({} at 1,000,000 records). Ratios: the library's time by the original's.", least(runs));
     println!();
-    println!("| Shape | Records | Library, ns a record | Growth | Ratio | Ratio, areas 4 times as long | Ratio, the original with its solver |");
-    println!("|---|---|---|---|---|---|---|");
+    println!("| Shape | Records | Without slots, ns a record | Growth | Ratio | Ratio, areas 4 times as long | Ratio, the original with its solver | With slots, ns a record | Growth | Ratio |");
+    println!("|---|---|---|---|---|---|---|---|---|---|");
     let mut ratios = Vec::new();
     for shape in only.map_or(&SHAPES[..], std::slice::from_ref) {
-        let mut before: Option<(usize, f64)> = None;
+        let (mut before, mut before_slots): (Before, Before) = (None, None);
         for &count in sizes {
-            if let Some((size, seconds)) = before {
-                let times = (count / size) as f64;
-                let factor = if shape.squared.is_some() { times * times } else { times };
-                if seconds * factor > longest {
-                    println!("| {} | {count} | not run | | | | |", shape.name);
-                    continue;
-                }
-            }
-            let words = shape.words(count);
-            if before.is_some_and(|(size, _)| size == words.len() / RECORD_WORDS) {
+            if takes_longer(before_slots, count, shape.searched.grows_squared(true), longest) {
+                println!("| {} | {count} | not run | | | | | not run | | |", shape.name);
                 continue;
             }
-            let many =
-                if count == 1_000_000 || before.is_some_and(|(_, s)| s > longest / 100.0) { least(runs) } else { runs };
-            let made = measure(side, &words, many);
-            let each = made.ours / made.records as f64 * 1e9;
-            let growth =
-                before.map_or("".to_string(), |(size, seconds)| format!("{:.2}", each / (seconds / size as f64 * 1e9)));
-            println!(
-                "| {} | {} | {each:.1} | {growth} | {:.2} | {:.2} | {:.2} |",
-                shape.name,
-                made.records,
-                made.ours / made.original,
-                made.ours_roomy / made.original,
-                made.ours / made.original_with_solver
-            );
-            ratios.push((shape.name, made.records, made.ours / made.original));
-            before = Some((made.records, made.ours));
+            let words = shape.words(count);
+            if before_slots.is_some_and(|(size, _)| size == words.len() / RECORD_WORDS) {
+                continue;
+            }
+            let plain = !takes_longer(before, count, shape.searched.grows_squared(false), longest);
+            let slow = count == 1_000_000 || before.is_some_and(|(_, s)| s > longest / 100.0);
+            let made = measure(side, &words, if slow { least(runs) } else { runs }, plain);
+            let without = made.plain.map_or("not run | | | |".to_string(), |plain| {
+                format!(
+                    "{} | {:.2} | {:.2} | {:.2}",
+                    each(before, made.records, plain.exact),
+                    plain.exact / made.original,
+                    plain.roomy / made.original,
+                    plain.exact / made.original_with_solver
+                )
+            });
+            let with = each(before_slots, made.records, made.slots);
+            let ratio = made.slots / made.original;
+            println!("| {} | {} | {without} | {with} | {ratio:.2} |", shape.name, made.records);
+            ratios.push((shape, made.records, made.plain.map(|plain| plain.exact / made.original), ratio));
+            before = made.plain.map(|plain| (made.records, plain.exact)).or(before);
+            before_slots = Some((made.records, made.slots));
         }
     }
     println!();
-    let all = |wanted: fn(&Shape) -> bool| {
-        median(
-            ratios
-                .iter()
-                .filter(|&&(name, _, _)| Shape::named(name).is_some_and(wanted))
-                .map(|&(_, _, ratio)| ratio)
-                .collect(),
-        )
-    };
     if only.is_none() {
-        println!(
-            "Median of the ratios: {:.2}; of the shapes where nothing is searched: {:.2}",
-            all(|_| true),
-            all(|shape| shape.squared.is_none())
-        );
+        medians(&ratios);
     }
     println!();
     plot(&ratios);
     println!();
-    for (name, why) in SHAPES.iter().filter_map(|shape| Some((shape.name, shape.squared?))) {
-        println!("Grows with the square: {name} ({why}).");
+    for shape in &SHAPES {
+        match shape.searched {
+            Searched::Nothing => {}
+            Searched::Constants(at) => {
+                println!("Grows with the square without slots: {} (constants, searched at each {at}).", shape.name)
+            }
+            Searched::Other(why) => println!("Grows with the square: {} ({why}).", shape.name),
+        }
+    }
+}
+
+/// A shape, its records, and the ratios without slots, where they were measured, and with slots.
+type Ratio<'a> = (&'a Shape, usize, Option<f64>, f64);
+
+fn medians(ratios: &[Ratio]) {
+    let of = |wanted: fn(&Shape) -> bool, ratio: fn(&Ratio) -> Option<f64>| {
+        median(ratios.iter().filter(|made| wanted(made.0)).filter_map(ratio).collect())
+    };
+    let nothing = |shape: &Shape| shape.searched == Searched::Nothing;
+    for (name, ratio) in [("without slots", (|made| made.2) as fn(&Ratio) -> Option<f64>), ("with slots", |made| Some(made.3))] {
+        let (all, searching_nothing) = (of(|_| true, ratio), of(nothing, ratio));
+        println!("Median of the ratios {name}: {all:.2}; of the shapes where nothing is searched: {searching_nothing:.2}");
     }
 }
 
 /// A bar for each ratio, four signs for each doubling.
-fn plot(ratios: &[(&str, usize, f64)]) {
+fn plot(ratios: &[Ratio]) {
     const LEAST: f64 = 1.0 / 32.0;
-    println!("Four signs are a factor of 2; the mark is the original's time.");
+    println!("With slots. Four signs are a factor of 2; the mark is the original's time.");
     println!();
-    for (name, records, ratio) in ratios {
+    for (shape, records, _, ratio) in ratios {
+        let name = shape.name;
         let signs = |ratio: f64| (4.0 * (ratio / LEAST).log2()).round().max(1.0) as usize;
         let mut bar: Vec<char> = vec!['#'; signs(*ratio)];
         bar.resize(bar.len().max(signs(1.0) + 1), ' ');
@@ -408,7 +467,7 @@ mod tests {
     fn every_shape_is_delivered_by_both() {
         for shape in SHAPES.iter().chain(&LIVE_SHAPES) {
             let words = shape.words(3000);
-            let made = measure(&mut Model, &words, 1);
+            let made = measure(&mut Model, &words, 1, true);
             assert!((2500..5000).contains(&made.records), "{}: {}", shape.name, made.records);
         }
     }

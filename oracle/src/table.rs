@@ -1,6 +1,7 @@
 //! Counts of comparisons as docs/DIFFERENCES.md has them: a column for each run, and their sum.
 
 use crate::compare::Tally;
+use crate::slot_calls::Tables;
 
 /// One run's counts.
 pub struct Column {
@@ -64,6 +65,9 @@ fn cells(column: &Column) -> Vec<(&'static str, String)> {
         out.push(("of these row 9", grouped(tally.calls[9])));
         let least = tally.calls_full.iter().min().copied().unwrap_or(0);
         out.push(("row 9 of the area that is least often the full one", grouped(least)));
+        let Tables { lent, to_the_end, slots } = tally.tables;
+        out.push(("calls with a table of slots; of these delivered with more slots than constants", several(&[lent, to_the_end])));
+        out.push(("slots compared after the call", grouped(slots)));
     } else {
         out.push(("panics of `emit_return`", grouped(tally.panics)));
         out.push(("`this` numbered as `main`, not comparable", grouped(tally.inexpressible)));

@@ -86,6 +86,52 @@ fn wrong_calls_are_seen() {
     }
 }
 
+/// Constants that the area has room for: with every area exactly full those of the pool.
+fn constants(areas: &[&mut [u64]; AREAS]) -> usize {
+    areas[1].len() / 3
+}
+
+#[test]
+fn wrong_tables_are_seen() {
+    let faults: [SpoilCall; 6] = [
+        // A slot left, the first, the last, or one between, where the table is in use to the end.
+        |_, (areas, table)| {
+            if table.len() > constants(areas) {
+                table[0] = 1;
+            }
+        },
+        |_, (areas, table)| {
+            if table.len() > constants(areas) {
+                table[table.len() - 1] = 3;
+            }
+        },
+        |reply, (areas, table)| {
+            if reply.number == 9 && table.len() == 2 * constants(areas) && !table.is_empty() {
+                table[table.len() / 2] = 2;
+            }
+        },
+        // The slot behind the last.
+        |_, (areas, table)| {
+            if table.len() == constants(areas) + 1 {
+                unsafe { *table.as_mut_ptr().add(table.len()) = 1 }
+            }
+        },
+        // An answer that depends on the table: one that is just long enough, and one that is not.
+        |reply, (areas, table)| {
+            let long_enough = reply.number == 0 && table.len() == constants(areas) + 1;
+            reply.totals.constants += u64::from(long_enough);
+        },
+        |reply, (areas, table)| {
+            if reply.number == 0 && table.len() == constants(areas) && !table.is_empty() {
+                areas[1][1] ^= 1;
+            }
+        },
+    ];
+    for (at, call) in faults.into_iter().enumerate() {
+        assert!(differences(StandIn { call, ..RIGHT }, 33, 60, Sizes::Mixed) > 0, "fault {at}");
+    }
+}
+
 /// Spoils a delivery's views.
 fn on_delivery(viewed: &mut Viewed, spoil: fn(&mut Delivery)) {
     if let Answer::Delivered(delivery) = &mut viewed.answer {

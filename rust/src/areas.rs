@@ -72,11 +72,26 @@ pub fn areas_in(lengths: [usize; AREAS], memory: &[u64]) -> [&[u64]; AREAS] {
     })
 }
 
-/// Memory to lend to a compile call, all areas in one piece, and the program that the last call left
-/// in it. Every call overwrites all of it, so that its cost counts in each call; keep areas for the
-/// next call rather than making new ones.
+/// Slots of the table through which the compile call finds a constant (docs/FORMAT.md, 'The twelve areas'), for so many
+/// constants: the smallest prime above twice as many, so that most searches end at the first slot. A home slot is a remainder by
+/// the number of slots, so constants in equal steps share homes where that number and the step have a divisor. Without
+/// constants there is nothing to find.
+pub fn slots_for(constants: usize) -> usize {
+    if constants == 0 {
+        return 0;
+    }
+    let divisors = |number: usize| (2..).take_while(move |divisor| divisor * divisor <= number);
+    (2 * constants + 1..)
+        .find(|&number| divisors(number).all(|divisor| number % divisor != 0))
+        .expect("primes do not end")
+}
+
+/// Memory to lend to a compile call, all areas in one piece and behind them the table of slots, and the
+/// program that the last call left in it. Every call overwrites all of it, so that its cost counts in
+/// each call; keep areas for the next call rather than making new ones.
 #[derive(Clone, Debug)]
 pub struct Areas {
+    /// The areas, one after the other, then the slots.
     memory: Vec<u64>,
     /// Room of each area.
     entries: [usize; AREAS],
@@ -97,11 +112,16 @@ fn weight(kind: Option<Kind>) -> (usize, usize) {
     }
 }
 
+/// Words of areas with so many entries, and of their slots.
+fn words_for(entries: [usize; AREAS]) -> usize {
+    let areas: usize = Area::each(|area| entries[area.index()] * area.entry_words()).iter().sum();
+    areas + slots_for(entries[Area::Constants.index()])
+}
+
 impl Areas {
-    /// Room for so many entries, in the order of the areas' numbers.
+    /// Room for so many entries, in the order of the areas' numbers, and [slots](slots_for) for the constants among them.
     pub fn with_entries(entries: [usize; AREAS]) -> Areas {
-        let words = Area::each(|area| entries[area.index()] * area.entry_words());
-        Areas { memory: vec![0; words.iter().sum()], entries, reply: None }
+        Areas { memory: vec![0; words_for(entries)], entries, reply: None }
     }
 
     /// Room for most bundles of these records. None suffices for all: a compound assignment compiles
@@ -128,7 +148,8 @@ impl Areas {
         }))
     }
 
-    /// Makes an area twice as long and at least 64 entries. The program that was there is given up.
+    /// Makes an area twice as long and at least 64 entries; the table of slots grows with the constants.
+    /// The program that was there is given up.
     pub fn grow(&mut self, area: Area) {
         *self = Areas::with_entries(self.grown(area));
     }
@@ -139,11 +160,10 @@ impl Areas {
         entries
     }
 
-    /// Words of all areas together, once an area is grown.
+    /// Words of all areas and of the slots, once an area is grown.
     #[cfg(feature = "link")]
     pub(crate) fn len_grown(&self, area: Area) -> usize {
-        let more = self.grown(area)[area.index()] - self.entries(area);
-        self.len() + more * area.entry_words()
+        words_for(self.grown(area))
     }
 
     /// Room of an area in entries.
@@ -151,7 +171,12 @@ impl Areas {
         self.entries[area.index()]
     }
 
-    /// Words of all areas together.
+    /// Slots of the table behind the areas.
+    pub fn slots(&self) -> usize {
+        slots_for(self.entries(Area::Constants))
+    }
+
+    /// Words of all areas and of the slots together.
     pub fn len(&self) -> usize {
         self.memory.len()
     }
@@ -175,12 +200,12 @@ impl Areas {
         Area::each(|area| self.words_of(area))
     }
 
-    /// All areas in one memory, one after the other by number, and the words of each.
+    /// All areas in one memory, one after the other by number, then the slots, and the words of each area.
     pub fn memory(&self) -> (&[u64], [usize; AREAS]) {
         (&self.memory, self.lengths())
     }
 
-    /// The memory with all areas, for a call that is made by hand with their [lengths](Areas::lengths).
+    /// The memory with all areas and the slots, for a call that is made by hand with the areas' [lengths](Areas::lengths).
     pub fn lend(&mut self) -> &mut [u64] {
         self.reply = None;
         &mut self.memory
@@ -226,11 +251,43 @@ mod tests {
     }
 
     #[test]
+    fn slots_are_a_prime_above_twice_the_constants() {
+        let cases = [(0, 0), (1, 3), (2, 5), (3, 7), (4, 11), (8, 17), (64, 131), (100, 211), (1_000_000, 2_000_003)];
+        for (constants, slots) in cases {
+            assert_eq!(slots_for(constants), slots, "{constants}");
+        }
+        let prime = |number: usize| number > 1 && (2..number).all(|divisor| number % divisor != 0);
+        for constants in 1..500 {
+            let slots = slots_for(constants);
+            assert!(slots > 2 * constants && prime(slots), "{constants}");
+            assert!((2 * constants + 1..slots).all(|fewer| !prime(fewer)), "{constants}");
+        }
+    }
+
+    #[test]
+    fn slots_lie_behind_the_areas_and_grow_with_the_constants() {
+        let mut areas = Areas::with_entries([10; AREAS]);
+        let words = areas.lengths().iter().sum::<usize>();
+        assert_eq!((areas.slots(), areas.len()), (23, words + 23));
+        assert_eq!((areas.memory().0.len(), areas.lend().len()), (words + 23, words + 23));
+        areas.grow(Area::Models);
+        assert_eq!(areas.slots(), 23);
+        areas.grow(Area::Constants);
+        assert_eq!((areas.entries(Area::Constants), areas.slots()), (64, 131));
+        assert_eq!(areas.len(), areas.lengths().iter().sum::<usize>() + 131);
+        areas.grow(Area::Constants);
+        assert_eq!((areas.entries(Area::Constants), areas.slots()), (128, 257));
+    }
+
+    #[test]
     fn areas_lie_one_after_the_other() {
         let mut areas = Areas::with_entries(std::array::from_fn(|at| at + 1));
         let mut memory = areas.lengths().into_iter().zip(1..).flat_map(|(words, number)| vec![number; words]);
-        areas.lend().fill_with(|| memory.next().expect("as many words"));
+        areas.lend().fill_with(|| memory.next().unwrap_or(13));
         assert_eq!(memory.next(), None);
+        let (words, lengths) = areas.memory();
+        let slots = &words[lengths.iter().sum()..];
+        assert!(slots.len() == areas.slots() && slots.iter().all(|&slot| slot == 13));
         for &area in Area::ALL {
             let words = areas.words(area);
             assert_eq!(words.len(), area.number() as usize * area.entry_words());

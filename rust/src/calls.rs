@@ -142,7 +142,9 @@ pub fn errors_in_words(errors: &[u64], file: u64, table: &[u64], bytes: &[u8], o
 
 /// Compiles a bundle into the areas of one memory, in the present mode. The areas follow each other in the order of their
 /// numbers, so many words each; a length that passes the memory's end is cut there ([`areas_in`]). Every word of the memory is
-/// written: a tail shorter than an entry and what is left over behind the last area are zeroed.
+/// written: a tail shorter than an entry and what is left over behind the last area are zeroed. What is left over is the table
+/// of slots through which constants are found: any words may be in it, and its length changes nothing but the time
+/// ([`slots_for`](crate::slots_for)).
 pub fn compile<'a>(tree: &[u64], lengths: [usize; AREAS], memory: &'a mut [u64]) -> Answer<'a> {
     compile_in(Mode::Present, tree, lengths, memory)
 }

@@ -18,7 +18,9 @@ use crate::texts::Text;
 fn with_reason(refusal: Refusal, tree: &[u64]) -> Refusal {
     match refusal {
         Refusal::BadShape { record, .. } => Refusal::BadShape { record, reason: ShapeFault::of(tree, record) },
-        Refusal::NameNotPublic { record, .. } => Refusal::NameNotPublic { record, name: first_not_public(tree, record) },
+        Refusal::NameNotPublic { record, .. } => {
+            Refusal::NameNotPublic { record, name: first_not_public(tree, record) }
+        }
         other => other,
     }
 }
@@ -121,8 +123,8 @@ impl Areas {
     }
 
     /// The same, and where an area is full it is [grown](Areas::grow) and the bundle compiled again,
-    /// as long as all areas together have at most `most` words. (A bundle can need more memory than
-    /// any machine has.)
+    /// as long as all areas and their slots together have at most `most` words. (A bundle can need more
+    /// memory than any machine has.)
     pub fn compile_growing(&mut self, tree: &[u64], most: usize) -> Result<Program<'_>, Refusal> {
         self.compile_growing_in(Mode::Present, tree, most)
     }

@@ -65,7 +65,7 @@ mod standing;
 mod table;
 mod texts;
 
-pub use areas::{areas_in, Area, Areas, AREAS};
+pub use areas::{areas_in, slots_for, Area, Areas, AREAS};
 pub use column_file::{LineFault, LINE_BYTES};
 #[cfg(feature = "link")]
 pub use compiling::{

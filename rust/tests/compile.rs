@@ -2,7 +2,9 @@
 #![cfg(feature = "link")]
 
 use clover_back_end::records::{Definitions, Filled, Function, Records, Slot, MAX_LEVEL};
-use clover_back_end::{columns_to_records, compile, compile_in, Area, Areas, Constant, ErrorKind, Infix, Instruction};
+use clover_back_end::{
+    calls, columns_to_records, compile, compile_in, Area, Areas, Constant, ErrorKind, Infix, Instruction,
+};
 use clover_back_end::{Mode, OpCode, Position, Prefix, Program, Refusal, Text, AREAS};
 use std::path::Path;
 
@@ -155,6 +157,43 @@ fn areas_serve_again() {
     assert!(areas.program().is_none());
     assert!(Area::ALL.iter().all(|&area| areas.words(area).iter().all(|&word| word == 0)));
     assert_eq!(compile(seven.words(), &mut areas).expect("no refusal").words(Area::Code), code);
+}
+
+/// The slots as a call left them.
+fn slots(areas: &Areas) -> &[u64] {
+    let (memory, lengths) = areas.memory();
+    &memory[lengths.iter().sum()..]
+}
+
+#[test]
+fn the_table_of_slots_is_the_areas_own() {
+    // 200 integers, each twice: more constants than the first table has slots.
+    let tree = body(|f| {
+        f.body(|body| (0..400).for_each(|i| body.expression(|slot| slot.integer(i % 200, NONE))));
+    });
+    let mut entries = [1000; AREAS];
+    entries[1] = 20;
+    let mut areas = Areas::with_entries(entries);
+    let constants = areas.compile_growing(tree.words(), 100_000).expect("room").constants().len();
+    // null, true, false, the integers and the function.
+    assert_eq!(constants, 204);
+    assert_eq!((areas.entries(Area::Constants), areas.slots()), (256, 521));
+    assert!(slots(&areas).len() == 521 && slots(&areas).iter().all(|&slot| slot == 0));
+
+    // Whatever the table holds before a call, the call answers the same and leaves zeros, refused or not.
+    let answered = areas.memory().0.to_vec();
+    areas.lend().fill(u64::MAX);
+    areas.compile(tree.words()).expect("no refusal");
+    assert_eq!(areas.memory().0, answered);
+    areas.lend().fill(1);
+    areas.compile(&tree.words()[4..]).expect_err("no document");
+    assert!(slots(&areas).iter().all(|&slot| slot == 0));
+
+    // And the same program as without a table.
+    let (lengths, words) = (areas.lengths(), areas.lengths().iter().sum::<usize>());
+    let mut plain = vec![7; words];
+    assert_eq!(calls::compile(tree.words(), lengths, &mut plain).reply.totals.constants, 204);
+    assert_eq!(plain, answered[..words]);
 }
 
 // The listing of 01, so that every view is read.

@@ -25,13 +25,15 @@ gate: 1938 s
 SPEED = """\
 Processor time, medians of 15 runs (3 at 1,000,000 records). Ratios: the library's time by the original's.
 
-| Shape | Records | Library, ns a record | Growth | Ratio | Ratio, areas 4 times as long | Ratio, the original with its solver |
-|---|---|---|---|---|---|---|
-| deep nesting | 10237 | 20.9 |  | 1.03 | 1.07 | 1.08 |
-| deep nesting | 100655 | 22.2 | 1.06 | 0.86 | 1.01 | 0.87 |
-| many books | 1000000 | not run | | | | |
+| Shape | Records | Without slots, ns a record | Growth | Ratio | Ratio, areas 4 times as long | Ratio, the original with its solver | With slots, ns a record | Growth | Ratio |
+|---|---|---|---|---|---|---|---|---|---|
+| deep nesting | 10237 | 20.9 |  | 1.03 | 1.07 | 1.08 | 21.0 |  | 1.04 |
+| deep nesting | 100655 | 22.2 | 1.06 | 0.86 | 1.01 | 0.87 | 22.3 | 1.06 | 0.85 |
+| distinct integers | 1000581 | not run | | | | | 31.0 | 1.10 | 0.40 |
+| many books | 1000000 | not run | | | | | not run | | |
 
-Median of the ratios: 0.78; of the shapes where nothing is searched: 0.70
+Median of the ratios without slots: 0.78; of the shapes where nothing is searched: 0.70
+Median of the ratios with slots: 0.68; of the shapes where nothing is searched: 0.71
 
     deep nesting                   10237     1.03 ####################|
 """
@@ -42,7 +44,11 @@ BENCH = (
     "column file to records: library 1300.0 MB/s, plain Rust 1000.0 MB/s, time ratio 0.77\n"
 )
 
-COUNTS = "| Shape | Library, instructions | Original, instructions | Ratio |\n|---|---|---|---|\n| deep nesting | 3560322 | 2775908 | 1.28 |\n"
+COUNTS = """\
+| Shape | Library, instructions | Original, instructions | Ratio | Library with slots | Ratio |
+|---|---|---|---|---|---|
+| deep nesting | 3560322 | 2775908 | 1.28 | 3600000 | 1.30 |
+"""
 
 KEPT = {
     "commit": "abc",
@@ -68,14 +74,15 @@ class CheckTimes(unittest.TestCase):
 class Benchmarks(unittest.TestCase):
     def test_rates_become_nanoseconds_a_record(self):
         rows = benchmarks.races(BENCH)
-        self.assertEqual(rows[0], ["shape check", "1000000", "16.0", "0.56", "", "", ""])
-        self.assertEqual(rows[1], ["column file to records", "1000000", "40.0", "0.77", "", "", ""])
+        self.assertEqual(rows[0], ["shape check", "1000000", "16.0", "0.56"] + [""] * 7)
+        self.assertEqual(rows[1], ["column file to records", "1000000", "40.0", "0.77"] + [""] * 7)
 
     def test_shapes_have_their_ratios_and_their_instructions_once(self):
         rows = benchmarks.shapes(SPEED, benchmarks.counted(COUNTS))
-        self.assertEqual(rows[0], ["compile: deep nesting", "10237", "20.9", "1.03", "1.07", "1.08", "1.28"])
-        self.assertEqual(rows[1][3:], ["0.86", "1.01", "0.87", ""])
-        self.assertEqual(rows[2], ["compile: many books", "1000000", "not run", "", "", "", ""])
+        self.assertEqual(rows[0], ["compile: deep nesting", "10237", "20.9", "1.03", "1.07", "1.08", "1.28", "21.0", "", "1.04", "1.30"])
+        self.assertEqual(rows[1][3:], ["0.86", "1.01", "0.87", "", "22.3", "1.06", "0.85", ""])
+        self.assertEqual(rows[2][2:], ["not run", "", "", "", "", "31.0", "1.10", "0.40", ""])
+        self.assertEqual(rows[3][2:], ["not run", "", "", "", "", "not run", "", "", ""])
 
     def test_output_without_figures_is_refused(self):
         for read in (benchmarks.races, lambda said: benchmarks.shapes(said, {})):
@@ -85,8 +92,9 @@ class Benchmarks(unittest.TestCase):
     def test_the_table_has_command_commit_and_date(self):
         lines = benchmarks.table(KEPT).splitlines()
         self.assertEqual(lines[0], "`tools/benchmarks run`, commit abc, 2026-11-16, 2 processors with a load of 1.2:")
-        self.assertEqual(len([line for line in lines if line.startswith("| ")]), 1 + 2 + 2 + 3 + 3)
-        self.assertTrue(lines[-1].endswith("of the shapes where nothing is searched: 0.70."))
+        self.assertEqual(len([line for line in lines if line.startswith("| ")]), 1 + 2 + 2 + 4 + 4)
+        self.assertTrue(lines[-2].endswith("of the shapes where nothing is searched: 0.70."))
+        self.assertEqual(lines[-1], "Median of the ratios with slots: 0.68; of the shapes where nothing is searched: 0.71.")
         self.assertTrue(all(line.count("|") == lines[2].count("|") for line in lines if line.startswith("|")))
 
 
