@@ -64,22 +64,24 @@ fn find_narrow(names: &[u64], from: usize, end: usize, name: u32) -> Narrow
 
 // The local of a name among the entries from `from` up to the count, the newest first, in a function of so many locals. Names and locals of 32 bits are
 // searched as such. Where the name, a local of the function or the local found is past 32 bits, the search of 64 bits answers, and where the count is
-// beyond the area: there a word outside reads as 0.
+// beyond the area: there a word outside reads as 0. `find_narrow` asks that again; asked here first, the compiler leaves one test, and fewer instructions.
 fn find_newest(names: &[u64], from: usize, count: usize, locals: u64, name: u64) -> Found
     ensures { λ r. ⌜ r ≡ foundOf (findNewest (count - from) from name (now (names .entry))) ⌝ }
 {
-    if name <= MOST_NARROW {
-        if locals <= MOST_NARROW + 1 {
-            let narrow = find_narrow(names, from, count, name as u32);
-            match narrow {
-                Narrow::At(local) => {
-                    return Found::At(local as u64);
+    if count <= names.len() / areas::SCOPE_NAME_WORDS {
+        if name <= MOST_NARROW {
+            if locals <= MOST_NARROW + 1 {
+                let narrow = find_narrow(names, from, count, name as u32);
+                match narrow {
+                    Narrow::At(local) => {
+                        return Found::At(local as u64);
+                    }
+                    Narrow::Nothing => {
+                        return Found::Nothing;
+                    }
+                    Narrow::Wide => {}
+                    Narrow::Beyond => {}
                 }
-                Narrow::Nothing => {
-                    return Found::Nothing;
-                }
-                Narrow::Wide => {}
-                Narrow::Beyond => {}
             }
         }
     }

@@ -19,16 +19,16 @@ abbrev μ-loop : tie.MeasureT-loop
 
 returns : tie.Need-returns Inv-loop μ-loop
 returns c =
-    let c7 = c .before .before .before .before .before .before .before in
-    narrow-at (c7 .args .from) (c7 .args .count) (c7 .args .name) (c7 .args .names .now) (c .before .before .before .find-narrow .result)
-    (c .before .before .before .find-narrow .ensures) _
+    let c8 = c .before .before .before .before .before .before .before .before in
+    narrow-at (c8 .args .from) (c8 .args .count) (c8 .args .name) (c8 .args .names .now)
+    (c .before .before .before .find-narrow .result) (c .before .before .before .find-narrow .ensures) _
     (c .before .narrow .given .1)
 
 returns-2 : tie.Need-returns-2 Inv-loop μ-loop
 returns-2 c =
-    let c6 = c .before .before .before .before .before .before in
-    narrow-nothing (c6 .args .from) (c6 .args .count) (c6 .args .name) (c6 .args .names .now) (c .before .before .find-narrow .result)
-    (c .before .before .find-narrow .ensures)
+    let c7 = c .before .before .before .before .before .before .before in
+    narrow-nothing (c7 .args .from) (c7 .args .count) (c7 .args .name) (c7 .args .names .now)
+    (c .before .before .find-narrow .result) (c .before .before .find-narrow .ensures)
     (c .enum-told .given .1)
 
 loop-holds : tie.Need-loop-holds Inv-loop μ-loop
@@ -39,13 +39,13 @@ returns-3 c =
     let c7 = c .before .before .before .before .before .before .before in
     newest-here _ (c7 .args .from) (c .before .before .before .before .loop .i) (c7 .args .name) (c7 .args .names .now)
     (c .before .before .before .before .loop .inv) _ _
-    (c .before .before .before .loop-test .taken) (c .before .before .entry-word .ensures) (c .before .if3 .taken) (c .entry-word2 .ensures)
+    (c .before .before .before .loop-test .taken) (c .before .before .entry-word .ensures) (c .before .if4 .taken) (c .entry-word2 .ensures)
 
 loop-again : tie.Need-loop-again Inv-loop μ-loop
 loop-again c =
     let c6 = c .before .before .before .before .before .before in
     newest-next _ (c6 .args .from) (c .before .before .before .loop .i) (c6 .args .name) (c6 .args .names .now) (c .before .before .before .loop .inv) _
-    (c .before .before .loop-test .taken) (c .before .entry-word .ensures) (c .if3 .left)
+    (c .before .before .loop-test .taken) (c .before .entry-word .ensures) (c .if4 .left)
 
 returns-4 : tie.Need-returns-4 Inv-loop μ-loop
 returns-4 c = newest-none _ (c .before .before .before .before .args .from) (c .before .loop .i) (c .before .before .before .before .args .name)
