@@ -24,6 +24,7 @@ pub mod merge;
 pub mod model;
 #[cfg(feature = "link")]
 pub mod ours;
+pub mod parts;
 pub mod pieces;
 pub mod plain;
 pub mod program_calls;
