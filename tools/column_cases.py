@@ -1,5 +1,4 @@
-# Writes the stored cases of column_cases, and those of records and columns, by a reading of 01 of its own. Run at the root of the repository.
-import random, os
+# Writes the stored cases of text_cases by a reading of 01 of its own. Run at the root of the repository.
 W=[4,8,9,9,21]
 LINE=sum(W)+1
 MOST=99999999 # the greatest line, and the greatest column
@@ -47,24 +46,24 @@ def deep(n):
     recs.append((31,1,0,0,0))
     return ''.join(line(*r) for r in recs)
 add('level 64',deep(64),512,ok(deep(64),0)); add('level 65',deep(65),512,ref(4,64)); add('level 65, no room',deep(65),8,ref(4,64)); add('level 64, no room',deep(64),8,ref(9,0))
-os.makedirs('crates/column_cases',exist_ok=True)
-with open('crates/column_cases/stdin','w',newline='') as o, open('crates/column_cases/stdout','w') as s:
-    for name,f,room,exp in cases:
-        o.write(str(len(f)).rjust(8)+str(room).rjust(8)+' '+name+'\n'+f+'\n')
-        s.write(name+': '+' '.join(map(str,exp))+'\n')
-print(len(cases),'cases')
-open('crates/records/stdin','w',newline='').write(ex)
 def words(f):
     out=[]
     for i in range(0,len(f),LINE):
         l=f[i:i+LINE]; k,sp,li,c,v=[int(l[sum(W[:j]):sum(W[:j+1])]) for j in range(5)]
         out+= [k,sp,li*2**32+c,v%2**64]
     return out
-open('crates/records/stdout','w').write('0 0 8\n'+''.join(str(w).rjust(21)+'\n' for w in words(ex)))
+lines=lambda f: ''.join(str(w).rjust(21)+'\n' for w in words(f))
+# a case: its label, the size and the words of room, the file; a part of the program: its name, then its cases and what each must write
+given,wanted='',''
+def part(name,those):
+    global given,wanted
+    given+=f'part {name}\n'; wanted+=f'part {name}\n'
+    for label,f,room,says in those:
+        given+=f'{label}: {len(f)} {room}\n{f}\n'; wanted+=f'{label}: {says}'
+part('files',[(name,f,room,' '.join(map(str,exp))+'\n') for name,f,room,exp in cases])
+# then one record more than the buffers of these two hold
+part('records',[('the example',ex,0,'0 0 8\n'+lines(ex)),('a record too many',D(1,2)*1261,0,'9 0 0\n')])
 f=const(33,-2**63)
-open('crates/columns/stdin','w').write(''.join(str(w).rjust(21)+'\n' for w in words(f)))
-open('crates/columns/stdout','w').write('0 0 4\n'+f)
-# one record more than the buffers hold: `long_records` and `long_columns` are the programs `records` and `columns`
-open('crates/long_records/stdin','w').write(D(1,2)*1261)
-open('crates/long_columns/stdin','w').write(''.join(str(w).rjust(21)+'\n' for w in words(D(1,2)*745)))
-for name in ('long_records','long_columns'): open(f'crates/{name}/stdout','w').write('9 0 0\n')
+part('columns',[('the smallest integer',lines(f),0,'0 0 4\n'+f),('a record too many',lines(D(1,2)*745),0,'9 0 0\n')])
+for name,text in (('stdin',given),('stdout',wanted)): open('crates/text_cases/'+name,'w',newline='').write(text)
+print(len(cases)+4,'cases')

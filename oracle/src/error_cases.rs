@@ -1,7 +1,7 @@
-//! The stored cases of `crates/error_cases`: inputs from a seed, answered by the reading in `error_words`.
+//! The part `errors` of the stored cases of `crates/word_cases`: inputs from a seed, answered by the reading in `error_words`.
 
 use crate::error_words::{case, Case};
-use std::collections::BTreeMap;
+use crate::parts::Part;
 use std::fmt::Write;
 
 const SEED: u64 = 7;
@@ -49,8 +49,8 @@ fn answer(case: &Case) -> String {
     text + std::str::from_utf8(lines).expect("lines are ASCII") + "zeros, kept, kept\n"
 }
 
-/// The program's `stdin` and `stdout`.
-pub fn files() -> BTreeMap<String, Vec<u8>> {
+/// What the part reads, and what it must write.
+pub fn stored() -> Part {
     let (mut input, mut output) = (String::new(), String::new());
     for index in 1.. {
         if input.len() >= MOST_INPUT {
@@ -67,17 +67,13 @@ pub fn files() -> BTreeMap<String, Vec<u8>> {
         input += &(name.clone() + &line(&case));
         output += &(name + &answer(&case));
     }
-    BTreeMap::from([("stdin".to_string(), input.into_bytes()), ("stdout".to_string(), output.into_bytes())])
+    Part { given: input, wanted: output }
 }
 
 #[cfg(test)]
 mod tests {
     #[test]
     fn the_stored_cases_are_current() {
-        let folder = std::path::Path::new(env!("CARGO_MANIFEST_DIR")).join("../crates/error_cases");
-        for (name, content) in super::files() {
-            let stored = std::fs::read(folder.join(&name)).expect("a stored file");
-            assert!(stored == content, "{name}: `oracle error-cases` writes it anew");
-        }
+        assert!(crate::parts::is_stored("errors", &super::stored()), "`oracle error-cases` writes them anew");
     }
 }

@@ -32,6 +32,7 @@ pub mod onto_small;
 pub mod onto_work;
 #[cfg(feature = "link")]
 pub mod ours;
+pub mod parts;
 pub mod pieces;
 pub mod plain;
 pub mod program_calls;

@@ -7,6 +7,7 @@ use oracle::compare::{compare, judge_side, Difference, Model, Plan, Side};
 use oracle::convert::Converters;
 use oracle::generate::{case, Sizes};
 use oracle::hostile::Narrow;
+use oracle::parts::{self, Part};
 use oracle::real::Prepared;
 use oracle::records::records;
 use oracle::table::Column;
@@ -55,9 +56,9 @@ oracle onto --calls N [--seed S] [--plant FAULT] [--ours]; or --calls N S
 oracle onto --faults
     the faults that can be planted
 oracle program-cases
-    writes the stored cases of the program `program_cases` anew
+    writes the part `programs` of the stored cases of the program `word_cases` anew
 oracle table-cases
-    writes the stored cases of the program `table_cases` anew
+    writes the part `tables` of the same program anew
 oracle table-bench [--runs R]
     the same ways beside plain Rust on 300,000 lines
 oracle bench [--runs R]
@@ -75,7 +76,7 @@ oracle errors [--seed S] [--count N] [--bundles]
     the library's errors in words and the reading over N lists, or over what the library's compile call
     leaves in area 11 of N bundles
 oracle error-cases
-    writes the stored cases of the program `error_cases` anew
+    writes the part `errors` of the stored cases of the program `word_cases` anew
 oracle examples
     writes the column files, listings and tables of texts of ../examples anew, from the sources there
 oracle flatten ROOT.clover [OTHER.clover ..]
@@ -380,16 +381,18 @@ fn run_onto(arguments: &Arguments) -> ExitCode {
     ExitCode::FAILURE
 }
 
+fn store(name: &str, part: Part) -> ExitCode {
+    println!("{name}: {} and {} bytes", part.given.len(), part.wanted.len());
+    parts::store(name, part);
+    ExitCode::SUCCESS
+}
+
 fn run_program_cases(_: &Arguments) -> ExitCode {
-    let (given, wanted) = oracle::program_calls::stored();
-    let files = [("stdin", given), ("stdout", wanted)].map(|(name, text)| (name.to_string(), text.into_bytes()));
-    write_files(&Path::new(env!("CARGO_MANIFEST_DIR")).join("../crates/program_cases"), &BTreeMap::from(files))
+    store("programs", oracle::program_calls::stored())
 }
 
 fn run_table_cases(_: &Arguments) -> ExitCode {
-    let (given, wanted) = oracle::table_calls::stored();
-    let files = [("stdin", given), ("stdout", wanted)].map(|(name, text)| (name.to_string(), text.into_bytes()));
-    write_files(&Path::new(env!("CARGO_MANIFEST_DIR")).join("../crates/table_cases"), &BTreeMap::from(files))
+    store("tables", oracle::table_calls::stored())
 }
 
 fn run_speed(arguments: &Arguments) -> ExitCode {
@@ -467,7 +470,7 @@ fn run_errors(_: &Arguments) -> ExitCode {
 }
 
 fn run_error_cases(_: &Arguments) -> ExitCode {
-    write_files(&Path::new(env!("CARGO_MANIFEST_DIR")).join("../crates/error_cases"), &error_cases::files())
+    store("errors", error_cases::stored())
 }
 
 fn run_examples(_: &Arguments) -> ExitCode {

@@ -1,7 +1,8 @@
 //! The program check of one memory (02, 2026-01), held against the reading in standing.rs: row and place, and that nothing is
-//! written. Also the stored cases of the program `program_cases`, and the times of programs that are long in one way.
+//! written. Also the stored cases of the program `word_cases`, and the times of programs that are long in one way.
 
 use crate::areas::{area, Areas, Lengths, AREAS, ENTRY_WORDS};
+use crate::parts::Part;
 use crate::random::Random;
 use crate::records::MAX_TEXT;
 use crate::standing::{program_check, Totals, BAD_SHAPE, PROGRAM_PLACE};
@@ -315,8 +316,8 @@ fn each_word(lines: &mut Lines, stored: &Stored) {
     }
 }
 
-/// What the program `program_cases` reads and what it must print.
-pub fn stored() -> (String, String) {
+/// The part `programs` of the stored cases of `word_cases`.
+pub fn stored() -> Part {
     let mut lines = Lines::default();
     let small = Stored::new(&small());
     lines.program("a small program", &small);
@@ -353,7 +354,7 @@ pub fn stored() -> (String, String) {
     each_word(&mut lines, &small);
     lines.program("the least program", &Stored::new(&Program::least()));
     lines.program("nothing at all", &Stored::new(&Program::of(Areas::default(), 0)));
-    (lines.given, lines.wanted)
+    Part { given: lines.given, wanted: lines.wanted }
 }
 
 // Times.
@@ -505,7 +506,7 @@ mod tests {
     #[test]
     fn small_programs_stand_and_each_area_has_cases() {
         assert_eq!(Stored::answer(&Stored::new(&small()).numbers), [0, 0]);
-        let (_, wanted) = stored();
+        let wanted = stored().wanted;
         for number in (1..=AREAS as u64).filter(|&number| number != 11) {
             let answer = format!(" 3 {}\n", PROGRAM_PLACE + number);
             assert!(wanted.contains(&answer), "area {number}");
@@ -514,9 +515,6 @@ mod tests {
 
     #[test]
     fn the_stored_cases_are_current() {
-        let folder = std::path::Path::new(env!("CARGO_MANIFEST_DIR")).join("../crates/program_cases");
-        let (given, wanted) = stored();
-        let read = |name: &str| std::fs::read_to_string(folder.join(name)).expect("a stored file");
-        assert!(read("stdin") == given && read("stdout") == wanted, "`oracle program-cases` writes them anew");
+        assert!(crate::parts::is_stored("programs", &stored()), "`oracle program-cases` writes them anew");
     }
 }

@@ -2,6 +2,7 @@
 //! parameter; filling, looking and falling back are here. Above each rule stands the sentence that it comes
 //! from.
 
+use crate::parts::Part;
 use crate::random::Random;
 
 /// Kind and value, as area 2 has them (01, "Emission"): null, boolean, integer, float, text, model, function.
@@ -172,7 +173,7 @@ pub fn case(seed: u64, index: u64, home: Home) -> Case {
     Case { table, pool, wanted, filled }
 }
 
-// Stored cases of the program `slot_cases`: a line of its input, and the line that it must write.
+// Stored cases of the program `word_cases`: a line of its input, and the line that it must write.
 
 const SEARCH: u64 = 1;
 const FILL: u64 = 2;
@@ -206,8 +207,8 @@ fn stored(label: &str, way: u64, case: &Case) -> (String, String) {
     (line, format!("{label}:{}", listed([BESIDE].into_iter().chain(table).chain([BESIDE]))))
 }
 
-/// The input of `slot_cases` and what it must write: pieces by hand, then cases from a seed.
-pub fn stored_cases() -> (String, String) {
+/// The part `slots` of the stored cases of `word_cases`: pieces by hand, then cases from a seed.
+pub fn stored_cases() -> Part {
     let hand = |pool: &[Constant], slots: usize, wanted| {
         let table = fill(pool, slots, &specs_home);
         Case { table, pool: pool.to_vec(), wanted, filled: true }
@@ -237,7 +238,7 @@ pub fn stored_cases() -> (String, String) {
         lines.push(stored(&format!("{} {index}", ["fill", "put", "clear"][index as usize % 3]), way, &case));
     }
     let text = |pick: fn(&(String, String)) -> &String| lines.iter().map(|line| pick(line).clone() + "\n").collect();
-    (text(|line| &line.0), text(|line| &line.1))
+    Part { given: text(|line| &line.0), wanted: text(|line| &line.1) }
 }
 
 /// How many slots a pool's constants are looked for in while it grows, on average and at most.
@@ -466,15 +467,11 @@ mod tests {
 
     /// The stored cases are these; `BLESS=1 cargo test slots` writes them anew.
     #[test]
-    fn stored_cases_of_slot_cases() {
-        let (input, output) = stored_cases();
-        let folder = std::path::Path::new(env!("CARGO_MANIFEST_DIR")).join("../crates/slot_cases");
-        for (name, text) in [("stdin", input), ("stdout", output)] {
-            if std::env::var("BLESS").is_ok() {
-                std::fs::write(folder.join(name), &text).unwrap();
-            }
-            assert_eq!(std::fs::read_to_string(folder.join(name)).unwrap(), text);
+    fn the_stored_cases_are_current() {
+        if std::env::var("BLESS").is_ok() {
+            crate::parts::store("slots", stored_cases());
         }
+        assert!(crate::parts::is_stored("slots", &stored_cases()), "`BLESS=1 cargo test slots` writes them anew");
     }
 
     /// Every shape with twice the slots: `cargo test --release slots_looked_at -- --ignored --nocapture` prints the figures.

@@ -1,7 +1,8 @@
 //! The two ways between constant tables and their documents, held against the reading in tables.rs: the reply, every element
 //! that is lent, what stands beside it, and that the input is left alone. Also a plain version, the stored cases of the program
-//! `table_cases`, and the benchmark.
+//! `word_cases`, and the benchmark.
 
+use crate::parts::Part;
 use crate::plain::{check, number, refused, write_number};
 use crate::random::Random;
 use crate::records::{kind, MAX_TEXT, RECORD_WORDS};
@@ -248,8 +249,8 @@ const STORED: usize = 60_000;
 /// Elements that its arrays hold.
 const ELEMENTS: usize = 500;
 
-/// What the program `table_cases` reads and what it must print: the readings' inputs by name, then cases of a seed.
-pub fn stored() -> (String, String) {
+/// The part `tables` of the stored cases of `word_cases`: the readings' inputs by name, then cases of a seed.
+pub fn stored() -> Part {
     let (mut given, mut wanted) = (String::new(), String::new());
     let line = |fields: [&str; 3]| format!("{:>8}{:>4}{:>21}\n", fields[0], fields[1], fields[2]).into_bytes();
     let forward: [(&str, Vec<u8>, u64, usize); 12] = [
@@ -306,7 +307,7 @@ pub fn stored() -> (String, String) {
         there(&format!("table {index}"), forward_case(1, index), &mut put);
         back(&format!("document {index}"), backward_case(2, index), &mut put);
     }
-    (given, wanted)
+    Part { given, wanted }
 }
 
 /// Both sides on a table of 300,000 lines, turn by turn.
@@ -441,10 +442,7 @@ mod tests {
 
     #[test]
     fn the_stored_cases_are_current() {
-        let folder = std::path::Path::new(env!("CARGO_MANIFEST_DIR")).join("../crates/table_cases");
-        let (given, wanted) = stored();
-        let read = |name: &str| std::fs::read_to_string(folder.join(name)).expect("a stored file");
-        assert!(read("stdin") == given && read("stdout") == wanted, "`oracle table-cases` writes them anew");
+        assert!(crate::parts::is_stored("tables", &stored()), "`oracle table-cases` writes them anew");
     }
 
     #[test]

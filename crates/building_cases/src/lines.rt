@@ -3,36 +3,51 @@ use building::scopes::Found;
 
 const OUTPUT: i32 = 1;
 
+pub(crate) fn say(text: &[u8]) {
+    io::write_all(OUTPUT, text);
+}
+
+pub(crate) fn decimal(n: u64) {
+    io::print_decimal(OUTPUT, n);
+}
+
+// The cases behind this line are of this part.
+pub(crate) fn part(name: &[u8]) {
+    say(b"part ");
+    say(name);
+    say(b"\n");
+}
+
 pub(crate) fn begin(label: &[u8]) {
-    io::write_all(OUTPUT, label);
-    io::write_all(OUTPUT, b":");
+    say(label);
+    say(b":");
 }
 
 // A part of a case that writes more than one line.
 pub(crate) fn begin_part(label: &[u8], part: &[u8]) {
-    io::write_all(OUTPUT, label);
-    io::write_all(OUTPUT, b", ");
+    say(label);
+    say(b", ");
     begin(part);
 }
 
 fn number(n: u64) {
-    io::write_all(OUTPUT, b" ");
-    io::print_decimal(OUTPUT, n);
+    say(b" ");
+    decimal(n);
 }
 
 pub(crate) fn answer(name: &[u8], n: u64) {
-    io::write_all(OUTPUT, b" ");
-    io::write_all(OUTPUT, name);
+    say(b" ");
+    say(name);
     number(n);
 }
 
 pub(crate) fn truth(name: &[u8], b: bool) {
-    io::write_all(OUTPUT, b" ");
-    io::write_all(OUTPUT, name);
+    say(b" ");
+    say(name);
     if b {
-        io::write_all(OUTPUT, b" yes");
+        say(b" yes");
     } else {
-        io::write_all(OUTPUT, b" no");
+        say(b" no");
     }
 }
 
@@ -40,22 +55,26 @@ pub(crate) fn found(name: &[u8], found: Found) {
     match found {
         Found::At(i) => answer(name, i),
         Found::Nothing => {
-            io::write_all(OUTPUT, b" ");
-            io::write_all(OUTPUT, name);
-            io::write_all(OUTPUT, b" nothing");
+            say(b" ");
+            say(name);
+            say(b" nothing");
         }
     }
 }
 
-// The end of a line.
-pub(crate) fn area(full: u64, count: usize, words: &[u64]) {
-    answer(b"full", full);
-    answer(b"entries", count as u64);
-    io::write_all(OUTPUT, b" words");
+pub(crate) fn words(words: &[u64]) {
     let mut i: usize = 0;
     while i < words.len() {
         number(words[i]);
         i += 1;
     }
-    io::write_all(OUTPUT, b"\n");
+}
+
+// The end of a line.
+pub(crate) fn area(full: u64, count: usize, area: &[u64]) {
+    answer(b"full", full);
+    answer(b"entries", count as u64);
+    say(b" words");
+    words(area);
+    say(b"\n");
 }

@@ -1,3 +1,4 @@
 mod NumbersBench
 pub mod Places
 pub mod Progress
+pub mod Texts

@@ -1,3 +1,4 @@
--- What `find` and `parse` answer
+-- What `find`, `same` and `parse` answer
 pub mod Places
+pub mod Texts
 pub mod Numbers

@@ -5,6 +5,7 @@ ghost use mathlib.Core.Bool.{cond, _&&_};
 ghost use lib.ListN.{length, set};
 ghost use lib.Dec.{ltb};
 ghost use Rattle.case_numbers.specs.Places.{placeFrom};
+ghost use Rattle.case_numbers.specs.Texts.{isSame};
 ghost use Rattle.case_numbers.specs.Numbers.{isDigit, longerBy, Parsed};
 
 const GREATEST: u64 = 18446744073709551615;
@@ -23,6 +24,23 @@ pub fn find(text: &[u8], from: usize, byte: u8) -> usize
         i += 1;
     }
     text.len()
+}
+
+// Whether two texts are the same.
+pub fn same(text: &[u8], other: &[u8]) -> bool
+    ensures { λ r. ⌜ r ≡ isSame (now (text .entry)) (now (other .entry)) ⌝ }
+{
+    let mut i: usize = 0;
+    while i < text.len() {
+        if i >= other.len() {
+            return false;
+        }
+        if text[i] != other[i] {
+            return false;
+        }
+        i += 1;
+    }
+    i == other.len()
 }
 
 fn is_digit(byte: u8) -> bool
