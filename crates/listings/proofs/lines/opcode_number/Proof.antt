@@ -6,9 +6,6 @@ use Rattle.words.specs.Opcode.{unword}
 use Rattle.words.proofs.Codes.{number-back}
 use Rattle.listings.proofs.lines.opcode_number.Statement.{statement}
 use Rattle.listings.proofs.lines.opcode_number.Tie as tie
-use Rattle.listings.proofs.lines.opcode_number.Reads as reads
-use Rattle.listings.proofs.lines.opcode_number.Lts as lts
-use Rattle.words.proofs.opcode.OpCode.number.Reads as number-reads
 use borrow.Author.Needs.{needs}
 
 returns : tie.Need-returns
@@ -16,8 +13,9 @@ unfolding unword
 returns c = search needs
 
 returns-2 : tie.Need-returns-2
-returns-2 c = ?
+returns-2 c = c .before .number .ensures ∙ ap numberOf (c .before .before .pre) ∙ number-back _ (λ u. c .if1 .left (c .before .number .ensures ∙ ap numberOf
+    (c .before .before .pre ∙ u)))
 
 pub opcode-number-spec : {M : Type 1} → statement M
 opcode-number-spec =
-    tie.close (tie.spec (λ c. search needs) returns (λ c κs. search needs) returns-2)
+    tie.close (tie.spec (λ c κs. search needs) returns returns-2)
