@@ -43,6 +43,7 @@ origin k v l =
   where
     other : (n : ℕ) → eqb k n ≡ true → n < 2 → k ≡ integerKind → ⊥
     other n e t i = let z : k ≡ n = eqb-true k n e in absurd (omega arith)
+
     none : eqb k integerKind ≡ false → k ≡ integerKind → ⊥
     none e = eqb-false k integerKind e
 
