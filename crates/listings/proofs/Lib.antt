@@ -1,5 +1,6 @@
 -- Laws of the listing, each file by its subject. Assumes nothing.
 pub mod BenchTable
+pub mod Cases
 pub mod Walking
 pub mod Keys
 pub mod Sorting

@@ -1,6 +1,9 @@
 // The lines of 01's listing: what each entry of an area says.
 ghost use mathlib.Core.Path.{_≡_};
+ghost use Rattle.words.specs.Codes.{opcodeOf};
+ghost use Rattle.words.specs.Opcode.{unword};
 ghost use Rattle.line_writer.specs.Placed.{placed};
+ghost use Rattle.listings.specs.Cases.{caseLine};
 ghost use Rattle.listings.specs.Lines.{linesAt};
 ghost use Rattle.listings.specs.Sections.{line, functionLine, instructionLine, constantLine, modelLine, propertyIndex, propertyLine, methodLine};
 ghost use Rattle.listings.specs.Sections.{contextValueLine, fileLine, errorLine, entryLine, isListed, entryLines};
@@ -16,9 +19,17 @@ use words::areas::METHOD_WORDS;
 use words::areas::MODEL_WORDS;
 use words::areas::PROPERTY_WORDS;
 use words::areas::entry_word;
-use words::object;
+use words::object::CONSTANT_KIND;
+use words::object::CONSTANT_VALUE;
+use words::object::Constant;
+use words::object::Decoded;
+use words::object::constant_at;
 use words::opcode::OPCODE_UNIT;
+use words::opcode::OpCode;
+use words::program;
 use words::program::function_record;
+use words::program::instruction_at;
+use words::program::position_at;
 use words::record;
 use words::record::column_of;
 use words::record::line_of;
@@ -47,6 +58,9 @@ pub const GLOBAL: u64 = 9;
 pub const FILE: u64 = 10;
 
 pub const ERROR: u64 = 11;
+
+// The number of `OpCode::Unknown`.
+const UNKNOWN: u64 = 0xFF;
 
 // The sections that list the entries of one area; of instructions, those of one function.
 pub enum Section {
@@ -96,30 +110,66 @@ fn function_line(functions: &[u64], i: usize) -> Fields
     }
 }
 
+// The number of a word's opcode; of one that is none of `opcode.rs`, as it stands in the word.
+fn opcode_number(opcode: OpCode, word: u64) -> u64
+    requires { ⌜ opcode ≡ opcodeOf (unword word .opcode) ⌝ }
+    ensures { λ r. ⌜ r ≡ unword word .opcode ⌝ }
+{
+    let number = opcode.number();
+    if number == UNKNOWN {
+        return word / OPCODE_UNIT;
+    }
+    number
+}
+
 fn instruction_line(function: u64, part: &[u64], i: usize) -> Fields
     ensures { λ r. ⌜ r ≡ instructionLine function (now (part .entry)) i ⌝ }
 {
-    let word = entry_word(part, CODE_WORDS, i, 0);
-    let position = entry_word(part, CODE_WORDS, i, 1);
+    let word = entry_word(part, CODE_WORDS, i, program::INSTRUCTION);
+    let instruction = instruction_at(part, i);
+    let position = position_at(part, i);
+    let opcode = instruction.opcode();
     Fields {
         section: INSTRUCTION,
         first: function,
         second: i as u64,
         third: line_of(position),
         fourth: column_of(position),
-        fifth: word / OPCODE_UNIT,
+        fifth: opcode_number(opcode, word),
         sixth: 0,
-        last: word % OPCODE_UNIT,
+        last: instruction.operand(),
         signed: false,
     }
 }
 
+// A constant by its case: integers are signed. A float's bits stay as they stand in the pool, since a NaN has lost its own (docs/DECISIONS.md, 10).
+fn case_line(i: u64, constant: Constant, bits: u64) -> Fields
+    ensures { λ r. ⌜ r ≡ caseLine i constant bits ⌝ }
+{
+    let kind = constant.kind();
+    let value = constant.value();
+    match constant {
+        Constant::Null => short_line(CONSTANT, i, kind, value, false),
+        Constant::Boolean(_) => short_line(CONSTANT, i, kind, value, false),
+        Constant::Integer(_) => short_line(CONSTANT, i, kind, value, true),
+        Constant::Float(_) => short_line(CONSTANT, i, kind, bits, false),
+        Constant::Text(_) => short_line(CONSTANT, i, kind, value, false),
+        Constant::Model(_) => short_line(CONSTANT, i, kind, value, false),
+        Constant::Function(_) => short_line(CONSTANT, i, kind, value, false),
+    }
+}
+
+// Words that are no constant are listed as they stand.
 fn constant_line(constants: &[u64], i: usize) -> Fields
     ensures { λ r. ⌜ r ≡ constantLine (now (constants .entry)) i ⌝ }
 {
-    let kind = entry_word(constants, CONSTANT_WORDS, i, 0);
-    let value = entry_word(constants, CONSTANT_WORDS, i, 1);
-    short_line(CONSTANT, i as u64, kind, value, kind == object::INTEGER)
+    let kind = entry_word(constants, CONSTANT_WORDS, i, CONSTANT_KIND);
+    let value = entry_word(constants, CONSTANT_WORDS, i, CONSTANT_VALUE);
+    let decoded = constant_at(constants, i);
+    match decoded {
+        Decoded::Is(constant) => case_line(i as u64, constant, value),
+        Decoded::NoConstant => short_line(CONSTANT, i as u64, kind, value, false),
+    }
 }
 
 fn model_line(models: &[u64], i: usize) -> Fields

@@ -1,11 +1,11 @@
 -- Opcodes, their numbers and the instruction word: reading a word gives back what was written, and a word fits 64 bits. Assumes nothing.
 use Prim.Native.Nat.{ℕ, _+_, _*_, _/_, _%_, _^_, _<_}
 use native.Mathlib.Omega.{arith}
-use mathlib.Core.Path.{_≡_, refl, ap}
-use mathlib.Core.Bool.{Bool, true, false}
+use mathlib.Core.Path.{_≡_, refl, sym, ap, _∙_}
+use mathlib.Core.Bool.{Bool, true, false, cond}
 use mathlib.Core.List.{List, [], _∷_}
 use lib.Dec.{T, ltb, eqb, lit<}
-use borrow.Author.Tests.{ne-eqb}
+use borrow.Author.Tests.{ne-eqb, eqb-true}
 use Rattle.words.specs.Opcode.{Instruction, toInstruction, word, unword}
 use Rattle.words.specs.Codes.{numberOf, opcodes, opcodeIn, opcodeOf, readWord}
 use Rattle.words.specs.declared.opcode.OpCode.{OpCode}
@@ -113,3 +113,36 @@ unfolding readWord word
 read-word o n =
     rw (word-opcode (toInstruction (numberOf o) n), numbered o .back)
     (omega (arith, word-operand (toInstruction (numberOf o) n)))
+
+-- taken apart, a word of code memory that was read so gives its own operand, and its own opcode or `Unknown`
+pub read-operand : (w : ℕ) → unword (readWord w) .operand ≡ unword w .operand
+unfolding readWord unword
+read-operand w = omega (arith, word-operand (toInstruction (numberOf (opcodeOf (w / 2 ^ 56))) (w % 2 ^ 56)))
+
+pub read-opcode : (w : ℕ) → opcodeOf (unword (readWord w) .opcode) ≡ opcodeOf (unword w .opcode)
+unfolding readWord unword
+read-opcode w =
+    ap opcodeOf (word-opcode (toInstruction (numberOf (opcodeOf (w / 2 ^ 56))) (w % 2 ^ 56))) ∙ numbered (opcodeOf (w / 2 ^ 56)) .back
+
+-- the opcode of a number has that number, unless it is `Unknown`
+has-number : (os : List OpCode) (n : ℕ) → (opcodeIn os n ≡ Unknown → ⊥) → numberOf (opcodeIn os n) ≡ n
+has-number [] n h = absurd (h refl)
+has-number (o ∷ os) n h = go (eqb n (numberOf o)) refl (λ (e : eqb n (numberOf o) ≡ false). has-number os n (λ (u : opcodeIn os n ≡ Unknown). h (simp e u)))
+  where
+    go : (b : Bool) → eqb n (numberOf o) ≡ b → (eqb n (numberOf o) ≡ false → numberOf (opcodeIn os n) ≡ n) → numberOf (cond b o (opcodeIn os n)) ≡ n
+    go true e r = sym (eqb-true n (numberOf o) e)
+    go false e r = r e
+
+pub number-back : (n : ℕ) → (opcodeOf n ≡ Unknown → ⊥) → numberOf (opcodeOf n) ≡ n
+unfolding opcodeOf
+number-back n h = has-number opcodes n h
+
+known-opcode : (o : OpCode) → numberOf o < 255 → o ≡ Unknown → ⊥
+known-opcode o l e = let z : numberOf o ≡ 255 = ap numberOf e in absurd (omega arith)
+
+-- so one that is known by its case is known by its number
+pub is-number : (o : OpCode) (n : ℕ) → numberOf o < 255 → o ≡ opcodeOf n → n ≡ numberOf o
+is-number o n l e = sym (number-back n (λ u. known-opcode o l (e ∙ u))) ∙ ap numberOf (sym e)
+
+pub is-opcode : (o : OpCode) (n : ℕ) → n ≡ numberOf o → opcodeOf n ≡ o
+is-opcode o n e = ap opcodeOf e ∙ numbered o .back

@@ -1,4 +1,4 @@
--- Constants and the pool's words: what is encoded is decoded again. A NaN stays a NaN. Assumes nothing.
+-- Constants and the pool's words: the kind and the value of a constant are decoded to it again. A NaN stays a NaN. Assumes nothing.
 use Prim.Native.Nat.{ℕ, _^_, _<_}
 use mathlib.Core.Path.{_≡_, refl, ap}
 use mathlib.Core.Bool.{Bool, true, false}

@@ -5,8 +5,9 @@ use mathlib.Core.Bool.{true, false, cond}
 use lib.IntN.{ℤ, pos, negsuc}
 use lib.Ieee.{binary64, ofBits, toBits}
 use lib.Dec.{eqb, ltb}
-use Rattle.words.specs.Object.{constantOf, nullKind, booleanKind, integerKind, floatKind, textKind, modelKind, functionKind}
-use Rattle.words.specs.Object as pool
+use mathlib.Core.List.{List}
+use Rattle.words.specs.Areas.{entryWord, widthOf, constantsArea}
+use Rattle.words.specs.Object.{nullKind, booleanKind, integerKind, floatKind, textKind, modelKind, functionKind}
 use Rattle.words.specs.declared.object.Constant.{Constant}
 use Rattle.words.specs.declared.object.Constant.the-variants.{Null, Boolean, Integer, Float, Text, Model, Function}
 use Rattle.words.specs.declared.object.Decoded.{Decoded}
@@ -39,10 +40,6 @@ valueOf (Text t) = t
 valueOf (Model m) = m
 valueOf (Function f) = f
 
--- the constant as the pool keeps it
-abbrev pub encodeOf : Constant → pool.Constant
-encodeOf c = constantOf (kindOf c) (valueOf c)
-
 -- the kinds that hold a number: a text's, a model's or a function's
 unfoldable pub numberedOf : ℕ → ℕ → Decoded
 numberedOf k n =
@@ -58,3 +55,7 @@ decodeOf k v =
     (cond (eqb k integerKind) (Is (Integer (integerOfWord v)))
     (cond (eqb k floatKind) (Is (Float (ofBits binary64 v)))
     (cond (ltb v (2 ^ 32)) (numberedOf k v) NoConstant))))
+
+-- constant i of area 2: what the kind and the value of its entry are
+abbrev pub constantAt : List ℕ → ℕ → Decoded
+constantAt w i = decodeOf (entryWord (widthOf constantsArea) i 0 w) (entryWord (widthOf constantsArea) i 1 w)

@@ -1,7 +1,7 @@
 -- `runtime/program.rs`: a function's record in area 3, the code that belongs to it, and an instruction of that code with its position
 use Prim.Native.Nat.{ℕ, _+_, _*_}
 use mathlib.Core.Bool.{Bool, cond}
-use mathlib.Core.List.{List, [], _∷_}
+use mathlib.Core.List.{List, []}
 use lib.ListN.{length, take, drop}
 use lib.Dec.{leb}
 use Rattle.words.specs.Areas.{
@@ -37,11 +37,6 @@ functionAt w i =
       file = functionWord w i functionFileWord;
       name = functionWord w i functionNameWord;
     }
-
--- the words of its entry
-abbrev pub functionWords : FunctionRecord → List ℕ
-functionWords f =
-    f .parameters ∷ f .locals ∷ f .rescue ∷ f .instance ∷ f .start ∷ f .length ∷ f .file ∷ f .name ∷ []
 
 -- whether a function's code lies in an area of n words
 abbrev pub codeFits : FunctionRecord → ℕ → Bool

@@ -1,9 +1,15 @@
-// `runtime/object.rs`: a constant, decoded from the pool's words and encoded into them. 01's kinds are numbers from 0 in the order of the cases.
+// `runtime/object.rs`: a constant, decoded from the pool's words. 01's kinds are numbers from 0 in the order of the cases.
 ghost use mathlib.Core.Path.{_≡_};
 ghost use lib.Ieee.{binary64, ofBits, toBits};
 ghost use mathlib.Core.Bool.{cond};
-ghost use Rattle.words.specs.Object.{constantOf};
-ghost use Rattle.words.specs.Constants.{wordOfInteger, integerOfWord, numberedOf, decodeOf, kindOf, valueOf, encodeOf};
+ghost use Rattle.words.specs.Constants.{wordOfInteger, integerOfWord, numberedOf, decodeOf, constantAt, kindOf, valueOf};
+use crate::areas::CONSTANT_WORDS;
+use crate::areas::entry_word;
+
+// The words of an entry of constants, but for its global mark.
+pub const CONSTANT_KIND: usize = 0;
+
+pub const CONSTANT_VALUE: usize = 1;
 
 // Kinds of constants.
 pub const NULL: u64 = 0;
@@ -95,8 +101,17 @@ pub fn word_of_float(float: f64) -> u64
     f64::to_bits(float)
 }
 
+// Constant i of area 2; outside it, null.
+pub fn constant_at(constants: &[u64], i: usize) -> Decoded
+    ensures { λ r. ⌜ r ≡ constantAt (now (constants .entry)) i ⌝ }
+{
+    let kind = entry_word(constants, CONSTANT_WORDS, i, CONSTANT_KIND);
+    let value = entry_word(constants, CONSTANT_WORDS, i, CONSTANT_VALUE);
+    decode(kind, value)
+}
+
 // What a kind and a value of the pool are. A value that its kind has not is no constant, nor is another kind.
-pub fn decode(kind: u64, value: u64) -> Decoded
+fn decode(kind: u64, value: u64) -> Decoded
     ensures { λ r. ⌜ r ≡ decodeOf kind value ⌝ }
 {
     if kind == NULL {
@@ -142,12 +157,6 @@ fn numbered(kind: u64, number: u32) -> Decoded
     Decoded::NoConstant
 }
 
-// The two words of a constant in the pool.
-pub struct PoolWords {
-    pub kind: u64,
-    pub value: u64,
-}
-
 impl Constant {
     // 01's number of the case.
     pub fn kind(self) -> u64
@@ -177,14 +186,6 @@ impl Constant {
             Constant::Model(model) => model as u64,
             Constant::Function(function) => function as u64,
         }
-    }
-
-    pub fn encode(self) -> PoolWords
-        ensures { λ r. ⌜ constantOf (r .kind) (r .value) ≡ encodeOf self ⌝ }
-    {
-        let kind = self.kind();
-        let value = self.value();
-        PoolWords { kind, value }
     }
 }
 

@@ -2,12 +2,10 @@
 use crate::areas::CODE_WORDS;
 use crate::areas::FUNCTION_WORDS;
 use crate::areas::entry_word;
-use crate::areas::write_entry;
 use crate::opcode::Instruction;
 ghost use mathlib.Core.Path.{_≡_};
-ghost use Rattle.words.specs.Areas.{Written};
 ghost use Rattle.words.specs.Codes.{codeWord, readWord};
-ghost use Rattle.words.specs.Program.{functionAt, functionWords, codeOf, instructionWord, instructionPosition};
+ghost use Rattle.words.specs.Program.{functionAt, codeOf, instructionWord, instructionPosition};
 
 // The words of an entry of code, and of one of functions.
 pub const INSTRUCTION: usize = 0;
@@ -56,23 +54,6 @@ pub fn function_record(functions: &[u64], i: usize) -> FunctionRecord
         file: entry_word(functions, FUNCTION_WORDS, i, FILE),
         name: entry_word(functions, FUNCTION_WORDS, i, NAME),
     }
-}
-
-// Writes function i of area 3; false, and nothing is written, where it does not fit.
-pub fn write_function(functions: &mut [u64], i: usize, f: FunctionRecord) -> bool
-    ensures { λ r. ⌜ Written 8 i (functionWords f) (now (functions .entry)) (now (functions .exit)) r ⌝ }
-{
-    let words = [
-        f.parameters,
-        f.locals,
-        f.rescue,
-        f.instance,
-        f.start,
-        f.length,
-        f.file,
-        f.name,
-    ];
-    write_entry(functions, FUNCTION_WORDS, i, words)
 }
 
 // `get_instruction`'s list: the function's code entries, where they stand. A record that does not fit has none.

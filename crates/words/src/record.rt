@@ -1,6 +1,6 @@
 // Records of 01, 'The tree': four words each, their kinds, positions and limits.
 ghost use mathlib.Core.Path.{_≡_};
-ghost use Rattle.words.specs.Record.{fieldOf, packPosition, lineOf, columnOf, inPlace};
+ghost use Rattle.words.specs.Record.{fieldOf, lineOf, columnOf, inPlace};
 
 // The words of a record.
 pub const RECORD_WORDS: usize = 4;
@@ -160,13 +160,6 @@ pub fn field(tree: &[u64], at: usize, k: usize) -> u64
         }
     }
     0
-}
-
-// A position's word (2026-06); of a line or a column above MOST_PLACE, one that is not in range.
-pub fn pack_position(line: u32, column: u32) -> u64
-    ensures { λ r. ⌜ r ≡ packPosition line column ⌝ }
-{
-    (line as u64) * POSITION_BASE + column as u64
 }
 
 // The line of a position's word; of any other word, its quotient by POSITION_BASE.
