@@ -23,7 +23,7 @@ use Rattle.definition.specs.Program.{flat}
 use Rattle.definition.specs.Within.{Areas}
 use Rattle.definition_laws.proofs.Strict.{none-there}
 use Rattle.compiler_laws.specs.declared.book.Book as book
-use Rattle.compiler_laws.specs.BooksInOrder.{Zero, Emptied, Cleared, Fronts, MarkedFrom}
+use Rattle.compiler_laws.specs.BooksInOrder.{Zero, Emptied, Cleared, FrontRows, MarkedFrom}
 use Rattle.compiler_laws.specs.BooksInOrder as slices
 use Rattle.compiler_laws.specs.CallEnd.{totals, markRefusal}
 use Rattle.compiler_laws.specs.CallEnd as slices-end
@@ -165,7 +165,7 @@ module _ {strict : Bool} {tree set a w : List ℕ} {m : BookMemory} {row place :
   }
 
   -- a delivery leaves what is left over as it was
-  left-over-stays : {number at : ℕ} → Fronts tree number at set → number ≡ 0 → m .book .full ≡ 0 → row ≡ 0 → areaOf m 13 ≡ part a 13 w
+  left-over-stays : {number at : ℕ} → FrontRows tree number at set [] → number ≡ 0 → m .book .full ≡ 0 → row ≡ 0 → areaOf m 13 ≡ part a 13 w
   left-over-stays F went y h =
       let X = F .accepted went in
       let Y = W .works (X .0) (X .1 .0) (X .1 .1) f z (limitsOf (lengthsOf (partsOf a w))) lent-are in
@@ -197,7 +197,7 @@ same-parts a w w′ f q = record {
 }
 
 -- the ways of `run_in`
-module _ {strict : Bool} {tree set a w : List ℕ} {number at : ℕ} {r : struct.Reply} (F : Fronts tree number at set) where
+module _ {strict : Bool} {tree set a w : List ℕ} {number at : ℕ} {r : struct.Reply} (F : FrontRows tree number at set []) where
   pub run-refused : (number ≡ 0 → ⊥) → r ≡ refusal number at → Runs strict tree a w w r
   run-refused ne says = record {
     compiles = λ f z. run-row F ne says .runs (cleared-parts a z);

@@ -6,6 +6,7 @@ ghost use Rattle.definition.specs.Compiler.{emitConstant, emitGlobal, emitName}
 ghost use Rattle.compiler_laws.specs.Cells.{stateOf};
 ghost use Rattle.book_compiler.specs.Represents.{laid, Acts, Does};
 ghost use Rattle.book_compiler.specs.Members.{MeetsLeaf, MeetsE, MeetsInfix, MeetsIf, MeetsTarget};
+ghost use mathlib.Core.Path.{_≡_};
 ghost use Rattle.compiler_laws.specs.InsideFunction.{standingOf};
 use crate::cells;
 use crate::function_state;
