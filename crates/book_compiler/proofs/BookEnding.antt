@@ -21,7 +21,7 @@ use Rattle.definition.specs.Promise.{areas, lengthsOf, Compiles}
 use Rattle.definition.specs.Program.{flat}
 use Rattle.definition.specs.Within.{Areas}
 use Rattle.compiler_laws.specs.declared.book.Book as book
-use Rattle.compiler_laws.specs.BooksInOrder.{Zero, Emptied, Cleared, Fronts, MarkedFrom}
+use Rattle.compiler_laws.specs.BooksInOrder.{Zero, Emptied, Cleared, FrontRows, MarkedFrom}
 use Rattle.compiler_laws.specs.BooksInOrder as slices
 use Rattle.compiler_laws.specs.CallEnd.{totals, markRefusal}
 use Rattle.compiler_laws.specs.CallEnd as slices-end
@@ -192,7 +192,7 @@ same-parts a w w′ f q = record {
 }
 
 -- the ways of `run_in`
-module _ {strict : Bool} {tree set a w : List ℕ} {number at : ℕ} {r : struct.Reply} (F : Fronts tree number at set) where
+module _ {strict : Bool} {tree set a w : List ℕ} {number at : ℕ} {r : struct.Reply} (F : FrontRows tree number at set []) where
   pub run-refused : (number ≡ 0 → ⊥) → r ≡ refusal number at → Runs strict tree a w w r
   run-refused ne says = record {
     compiles = λ f z. run-row F ne says .runs (cleared-parts a z);

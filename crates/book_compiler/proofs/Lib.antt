@@ -20,6 +20,7 @@ pub mod LentParts
 pub mod BookRounds
 pub mod MemoryAreas
 pub mod BookBeginning
+pub mod StandingProgram
 pub mod BookEnding
 pub mod ModelDefinitions
 pub mod ApplyDefinitions

@@ -4,15 +4,15 @@ use Prim.Native.Nat.{ℕ, _+_, _/_, _%_, _≤_, _<_}
 use mathlib.Core.Path.{_≡_}
 use mathlib.Core.Bool.{Bool, cond}
 use mathlib.Core.List.{List, [], _∷_, _++_}
-use lib.ListN.{length}
+use lib.ListN.{length, drop}
 use lib.Dec.{eqb}
 use Rattle.memory.specs.Layout.{part, partCount, Fits}
 use Rattle.words.specs.Ast.{Document}
-use Rattle.words.specs.Areas.{entryField, clearedFrom, constantsArea, errorsArea, booksArea}
+use Rattle.words.specs.Areas.{entriesIn, entryField, clearedFrom, constantsArea, errorsArea, booksArea}
 use Rattle.words.specs.Areas.{codeArea, functionsArea, modelsArea, propertiesArea, methodsArea, contextLocalsArea, publicNamesArea, scopeNamesArea, breaksArea}
 use Rattle.words.specs.declared.reply.Reply as reply
 use Rattle.words.specs.Reply.{delivery, refusal}
-use Rattle.definition.specs.Uses.{Use, Limits, firstOver}
+use Rattle.definition.specs.Uses.{Use, using′, Limits, firstOver}
 use Rattle.definition.specs.Compiler.{Error}
 use Rattle.definition.specs.Program.{entriesFrom, errorEntry}
 use Rattle.definition.specs.DependencySolver.{needed, compileNeeded, loadedOf, drive, Ending, Delivered, Faulty, Ring, Worked}
@@ -25,7 +25,7 @@ use Rattle.building.specs.declared.taking.Taken.{Taken}
 use Rattle.building.specs.Held.{Filled, Marks, Sized}
 use Rattle.compiler_laws.specs.declared.book.Book as struct
 use Rattle.compiler_laws.specs.BookAreas.{Fitted}
-use Rattle.compiler_laws.specs.FileSets.{Ascends}
+use Rattle.compiler_laws.specs.FileSets.{SetIs, Ascends}
 use Rattle.compiler_laws.specs.SolverSteps.{bookUnit, placeUnit, Distinct, Stands, FindsReady, Brings}
 use Rattle.compiler_laws.specs.BooksInOrder.{Zero, Rings, Accepted, MarkedFrom}
 use Rattle.compiler_laws.specs.CallEnd.{totals, markRefusal}
@@ -104,9 +104,32 @@ pub record Lent (κ : Limits) (m : BookMemory) : Type 0 where
   pub fitted : Fitted κ (bookView m)
   pub books : Sized κ booksArea (areaOf m booksArea)
 
+-- before the books that are needed: in area 12 the file numbers of those that stand, and the rest; and the set of those that stand
+pub record Begins (set : List ℕ) (stand : ℕ) (rest : List ℕ) (κ : Limits) (others : ℕ → List ℕ) (m : BookMemory) (context : Context) (uses : List Use)
+    : Type 0 where
+  pub so-many : stand ≡ bookCount context
+  pub held : SetIs set (loadedOf context)
+  pub area : areaOf m booksArea ≡ loadedOf context ++ rest
+  pub inside : stand ≤ entriesIn 1 (length (areaOf m booksArea))
+  pub sized : Sized κ booksArea (areaOf m booksArea)
+  pub resting : AtRest κ others m context uses
+
+-- the work from a context and its notes: an entry of area 12 for each book that stands or is needed, then the books
+abbrev pub neededWork : Document → List Document → Context → List Use → Worked
+neededWork root others context uses =
+    let numbers = needed (loadedOf context) root others in
+    drive (length numbers) (root ∷ others) (loadedOf context) numbers context
+    (using′ booksArea (length (loadedOf context) + length numbers) ∷ uses)
+
+-- `compile_needed`: into a memory that stands for a context
+pub record CompilesNeeded (tree chosen set : List ℕ) (stand : ℕ) (m m′ : BookMemory) (row place : ℕ) : Type 0 where
+  pub works : (root : Document) (others : List Document) (κ : Limits) (parts : ℕ → List ℕ) (context : Context) (uses : List Use) (rest : List ℕ)
+      → Accepted tree chosen (loadedOf context) root others → length set ≡ length chosen → Begins set stand rest κ parts m context uses
+      → Outcome κ parts m′ (drop (length (needed (loadedOf context) root others)) rest) row place (neededWork root others context uses)
+
 -- `work`: all the books of a bundle, into a memory of zeros
 pub record Works (strict : Bool) (tree set starts before : List ℕ) (m′ : BookMemory) (row place : ℕ) : Type 0 where
-  pub works : (root : Document) (others : List Document) → Accepted tree set root others → Fits starts (length before) → Zero before → (κ : Limits)
+  pub works : (root : Document) (others : List Document) → Accepted tree set [] root others → Fits starts (length before) → Zero before → (κ : Limits)
       → ((s : struct.Book) → Lent κ (bookLaid s starts before))
       → (rest : List ℕ) × (Zero rest
       × Outcome κ (λ i. part starts i before) m′ rest row place (compileNeeded (needed [] root others) (root ∷ others) (newContext strict)))

@@ -9,7 +9,7 @@ ghost use Rattle.words.specs.Record.{mostRecords};
 ghost use Rattle.compiler_laws.specs.SolverSteps.{TakesBooks, Narrows};
 ghost use Rattle.compiler_laws.specs.BooksInOrder.{Fronts, Fresh, FirstConstants, begunBook};
 ghost use Rattle.book_compiler.specs.RepresentsBook.{bookLaid};
-ghost use Rattle.book_compiler.specs.BookOrder.{LentPart, Drives, Works, Runs};
+ghost use Rattle.book_compiler.specs.BookOrder.{LentPart, Drives, CompilesNeeded, Works, Runs};
 use crate::definitions::compile_document;
 use crate::ending;
 use crate::ending::Ended;
@@ -33,10 +33,16 @@ pub struct Row {
     pub place: u64,
 }
 
-// Rows 2 to 6, and the set of the books needed, from three empty sets.
-fn check_bundle(tree: &[u64], chosen: &mut [u64], present: &mut [u64], next: &mut [u64]) -> Row
+// Rows 2 to 6, and the set of the books needed, from the set of those that stand and three empty sets.
+fn check_bundle(
+    tree: &[u64],
+    standing: &[u64],
+    chosen: &mut [u64],
+    present: &mut [u64],
+    next: &mut [u64],
+) -> Row
     requires { ⌜ Fresh (now tree) (now chosen) × (now present ≡ now chosen) × (now next ≡ now chosen) ⌝ }
-    ensures { λ r. ⌜ Fronts (now (tree .entry)) (r .number) (r .place) (now (chosen .exit)) ⌝ }
+    ensures { λ r. ⌜ Fronts (now (tree .entry)) (now (standing .entry)) (r .number) (r .place) (now (chosen .exit)) ⌝ }
 {
     let shape = tree::check(tree);
     if let Shape::Refused(number, at) = shape {
@@ -52,7 +58,7 @@ fn check_bundle(tree: &[u64], chosen: &mut [u64], present: &mut [u64], next: &mu
         };
     }
     areas::clear_from(present, 0);
-    solver::needed(tree, end, present, chosen, next);
+    solver::needed(tree, end, standing, present, chosen, next);
     areas::clear_from(present, 0);
     solver::twice(tree, end, present);
     let absent = solver::missing(chosen, present);
@@ -90,37 +96,38 @@ fn begin_constants(starts: &[usize; 15], memory: &mut [u64]) -> Taken
     Taken { full: 0, count: 0 }
 }
 
-// An entry of area 12 for each book needed.
+// An entry of area 12 for each book needed, behind those of the books that stand.
 fn begin_books(
     tree: &[u64],
     records: usize,
     chosen: &[u64],
     full: u64,
+    stand: usize,
     starts: &[usize; 15],
     memory: &mut [u64],
 ) -> Taken
     requires { ⌜ records ≤ mostRecords ⌝ }
-    ensures { λ r. ⌜ LentPart booksArea (λ o o′. TakesBooks (now (tree .entry)) records (now (chosen .entry)) full o r o′) (now (starts .entry))
+    ensures { λ r. ⌜ LentPart booksArea (λ o o′. TakesBooks (now (tree .entry)) records (now (chosen .entry)) full stand o r o′) (now (starts .entry))
         (now (memory .entry)) (now (memory .exit)) ⌝ }
 {
     let start = starts[12];
     let end = starts[13];
     if start <= end {
         if end <= memory.len() {
-            return solver::take_books(tree, records, chosen, full, &mut memory[start..end]);
+            return solver::take_books(tree, records, chosen, full, stand, &mut memory[start..end]);
         }
     }
     Taken { full: 0, count: 0 }
 }
 
 // The counts of the beginning.
-fn begun(t: Taken, constants: usize, strict: bool) -> Book
-    ensures { λ r. ⌜ r ≡ begunBook strict t constants ⌝ }
+fn begun(constants: Taken, strict: bool) -> Book
+    ensures { λ r. ⌜ r ≡ begunBook strict constants (constants .count) ⌝ }
 {
     Book {
-        full: t.full,
+        full: constants.full,
         code: 0,
-        constants,
+        constants: constants.count,
         functions: 0,
         models: 0,
         properties: 0,
@@ -193,6 +200,40 @@ fn drive(
     }
 }
 
+// `compile_to` after row 6: the books that are needed, behind the `stand` books that stand in a memory; the set of the compiled begins with those.
+fn compile_needed(
+    tree: &[u64],
+    chosen: &[u64],
+    stand: usize,
+    start: Book,
+    starts: &[usize; 15],
+    memory: &mut [u64],
+    compiled: &mut [u64],
+) -> Ended
+    ensures { λ r. ⌜ CompilesNeeded (now (tree .entry)) (now (chosen .entry)) (now (compiled .entry)) stand
+        (bookLaid start (now (starts .entry)) (now (memory .entry))) (bookLaid (r .book) (now (starts .entry)) (now (memory .exit))) (r .row) (r .place) ⌝ }
+{
+    let end = tree.len() / 4;
+    if record::MOST_RECORDS < end {
+        return Ended {
+            book: start,
+            row: 0,
+            place: 0,
+        };
+    }
+    let t = begin_books(tree, end, chosen, start.full, stand, starts, memory);
+    let mut book = start;
+    book.full = t.full;
+    if t.full != 0 {
+        return Ended {
+            book,
+            row: 0,
+            place: 0,
+        };
+    }
+    drive(tree, end, stand, t.count, book, starts, memory, compiled)
+}
+
 // The books that are needed, into a memory of zeros, with an empty set for those compiled. The slots are filled with the first constants (2026-12).
 fn work(
     tree: &[u64],
@@ -206,30 +247,13 @@ fn work(
     ensures { λ r. ⌜ Works strict (now (tree .entry)) (now (chosen .entry)) (now (starts .entry)) (now (memory .entry))
         (bookLaid (r .book) (now (starts .entry)) (now (memory .exit))) (r .row) (r .place) ⌝ }
 {
-    let end = tree.len() / 4;
     let x = begin_constants(starts, memory);
-    if record::MOST_RECORDS < end {
-        let none = begun(x, 0, strict);
-        return Ended {
-            book: none,
-            row: 0,
-            place: 0,
-        };
-    }
-    let t = begin_books(tree, end, chosen, x.full, starts, memory);
-    let start = begun(t, x.count, strict);
-    if t.full != 0 {
-        return Ended {
-            book: start,
-            row: 0,
-            place: 0,
-        };
-    }
     slots::fill_slots(starts, memory, x.count);
-    drive(tree, end, 0, t.count, start, starts, memory, compiled)
+    let start = begun(x, strict);
+    compile_needed(tree, chosen, 0, start, starts, memory, compiled)
 }
 
-// The call from a memory of zeros and three empty sets: rows 2 to 6, the work, its end. The third set, cleared, is that of the books compiled.
+// The call from a memory of zeros and three empty sets: no book stands; rows 2 to 6, the work, its end. The third set, cleared, is that of the books compiled.
 fn run_in(
     tree: &[u64],
     strict: bool,
@@ -242,7 +266,8 @@ fn run_in(
     requires { ⌜ Fresh (now tree) (now chosen) × (now present ≡ now chosen) × (now next ≡ now chosen) ⌝ }
     ensures { λ r. ⌜ Runs strict (now (tree .entry)) (now (starts .entry)) (now (memory .entry)) (now (memory .exit)) r ⌝ }
 {
-    let row = check_bundle(tree, chosen, present, next);
+    let none = [0; 1];
+    let row = check_bundle(tree, &none, chosen, present, next);
     if row.number != 0 {
         return Reply::refused(row.number, row.place);
     }

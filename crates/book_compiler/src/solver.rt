@@ -1,9 +1,10 @@
-// `backend/dependency_solver.rs`: the books that a bundle needs and the next that is ready. Sets of file numbers are words of bits.
+// `backend/dependency_solver.rs`: the books that a bundle needs and the next that is ready. Sets of file numbers are words of bits. `standing` is that of the
+// books that stand before the bundle, which are passed over (2026-01).
 ghost use mathlib.Core.Path.{_≡_};
 ghost use mathlib.Core.Bool.{true, false, cond};
 ghost use Prim.Native.Nat.{_≤_, _<_};
 ghost use lib.ListN.{length};
-ghost use Rattle.compiler_laws.specs.FileSets.{bitOf, Added, NextIn, NoneBetween, Zeros, setSize};
+ghost use Rattle.compiler_laws.specs.FileSets.{bitOf, Added, AddedAbsent, NextIn, NoneBetween, Zeros, setSize};
 ghost use Rattle.compiler_laws.specs.SolverSteps.{FindsTwice, Includes, Reaches, Needs, Misses, Lowers, Resumes, FindsNext, TakesBooks};
 ghost use Rattle.compiler_laws.specs.SolverSteps.{FirstUncompiled, FindsReady, Brings, NarrowIncludes, Narrows};
 ghost use Rattle.words.specs.Record.{mostRecords};
@@ -49,6 +50,16 @@ pub(crate) fn add(set: &mut [u64], n: u64) -> bool
         set[at] = set[at] | (1 << (n % 64));
     }
     true
+}
+
+// The same of a number that does not stand; one that does is not new.
+fn add_absent(standing: &[u64], set: &mut [u64], n: u64) -> bool
+    ensures { λ r. ⌜ AddedAbsent (now (standing .entry)) (now (set .entry)) n (now (set .exit)) r ⌝ }
+{
+    if has(standing, n) {
+        return false;
+    }
+    add(set, n)
 }
 
 // The first from `from` on that is in the set, or SET_SIZE; runs of words without a bit are passed over at once.
@@ -161,9 +172,16 @@ fn either(a: bool, b: bool) -> bool
     b
 }
 
-// The includes, wherever they are written, into the set. Whether there was a new one, or `any`.
-fn add_includes(tree: &[u64], at: usize, end: usize, any: bool, set: &mut [u64]) -> bool
-    ensures { λ r. ⌜ Includes (now (tree .entry)) at end any (now (set .entry)) (now (set .exit)) r ⌝ }
+// The includes, wherever they are written, into the set, but for those that stand. Whether there was a new one, or `any`.
+fn add_includes(
+    tree: &[u64],
+    at: usize,
+    end: usize,
+    standing: &[u64],
+    any: bool,
+    set: &mut [u64],
+) -> bool
+    ensures { λ r. ⌜ Includes (now (tree .entry)) at end (now (standing .entry)) any (now (set .entry)) (now (set .exit)) r ⌝ }
 {
     let mut grew = any;
     let mut j = at;
@@ -172,7 +190,7 @@ fn add_includes(tree: &[u64], at: usize, end: usize, any: bool, set: &mut [u64])
         let kind = field(tree, j, record::KIND);
         if kind == record::INCLUDE_DEFINITION {
             let file = field(tree, j, record::VALUE);
-            let fresh = add(set, file);
+            let fresh = add_absent(standing, set, file);
             grew = either(grew, fresh);
         }
         j = next;
@@ -190,8 +208,16 @@ fn unread(read: &[u64], set: &[u64], file: u64) -> bool
 }
 
 // One reading of the documents: the includes of those in the set that were not read before, into the next. Whether there was a new one.
-fn reach(tree: &[u64], end: usize, read: &[u64], set: &[u64], next: &mut [u64]) -> bool
-    ensures { λ r. ⌜ Reaches (now (tree .entry)) 0 end (now (read .entry)) (now (set .entry)) false (now (next .entry)) (now (next .exit)) r ⌝ }
+fn reach(
+    tree: &[u64],
+    end: usize,
+    standing: &[u64],
+    read: &[u64],
+    set: &[u64],
+    next: &mut [u64],
+) -> bool
+    ensures { λ r. ⌜ Reaches (now (tree .entry)) 0 end (now (standing .entry)) (now (read .entry)) (now (set .entry)) false (now (next .entry))
+        (now (next .exit)) r ⌝ }
 {
     let mut grew = false;
     let mut i: usize = 0;
@@ -199,7 +225,7 @@ fn reach(tree: &[u64], end: usize, read: &[u64], set: &[u64], next: &mut [u64]) 
         let last = skip(tree, i, end);
         let file = field(tree, i, record::VALUE);
         if unread(read, set, file) {
-            grew = add_includes(tree, i + 1, last, grew, next);
+            grew = add_includes(tree, i + 1, last, standing, grew, next);
         }
         i = last;
     }
@@ -219,16 +245,23 @@ fn copy(from: &[u64], to: &mut [u64])
 
 // The books needed, from three empty sets: as many rounds as there are documents, or until one finds nothing new. A document is read in one round, the next
 // after it was found.
-pub(crate) fn needed(tree: &[u64], end: usize, read: &mut [u64], set: &mut [u64], next: &mut [u64])
+pub(crate) fn needed(
+    tree: &[u64],
+    end: usize,
+    standing: &[u64],
+    read: &mut [u64],
+    set: &mut [u64],
+    next: &mut [u64],
+)
     requires { ⌜ (length (now read) ≡ length (now set)) × (now next ≡ now set) ⌝ }
-    ensures { λ _. ⌜ Needs (now (tree .entry)) end (now (read .entry)) (now (set .entry)) (now (set .exit)) ⌝ }
+    ensures { λ _. ⌜ Needs (now (tree .entry)) end (now (standing .entry)) (now (read .entry)) (now (set .entry)) (now (set .exit)) ⌝ }
 {
     let root = field(tree, 0, record::VALUE);
-    add(set, root);
-    add(next, root);
+    add_absent(standing, set, root);
+    add_absent(standing, next, root);
     let mut i: usize = 0;
     while i < end {
-        if !reach(tree, end, read, set, next) {
+        if !reach(tree, end, standing, read, set, next) {
             return;
         }
         copy(set, read);
@@ -306,18 +339,19 @@ fn find_document(tree: &[u64], end: usize, last: Place, file: u64) -> Place
     Place { at: i, above }
 }
 
-// The books needed, ascending, each an entry of area 12. Once the mark is set nothing more is taken, so nothing more is looked for.
+// The books needed, ascending, each an entry of area 12, behind those of `stand` books that stand. Once the mark is set nothing more is taken, so nothing more is looked for.
 pub(crate) fn take_books(
     tree: &[u64],
     end: usize,
     needed: &[u64],
     full: u64,
+    stand: usize,
     books: &mut [u64],
 ) -> taking::Taken
     requires { ⌜ end ≤ mostRecords ⌝ }
-    ensures { λ r. ⌜ TakesBooks (now (tree .entry)) end (now (needed .entry)) full (now (books .entry)) r (now (books .exit)) ⌝ }
+    ensures { λ r. ⌜ TakesBooks (now (tree .entry)) end (now (needed .entry)) full stand (now (books .entry)) r (now (books .exit)) ⌝ }
 {
-    let mut t = taking::Taken { full, count: 0 };
+    let mut t = taking::Taken { full, count: stand };
     let mut place = Place {
         at: 0,
         above: SET_SIZE,

@@ -11,10 +11,10 @@ use lib.ListN.{length, getD, replicate}
 use lib.Dec.{eqb}
 use borrow.Author.Tests.{eq-eqb}
 use Rattle.words.specs.Ast.{Document}
-use Rattle.definition.specs.DependencySolver.{findDocument, missing, missingBy, needed, neededIn, reachedFrom, without}
+use Rattle.definition.specs.DependencySolver.{findDocument, insertNumbers, missing, missingBy, needed, neededIn, reachedFrom, without}
 use Rattle.compiler_laws.specs.FileSets.{setSize, bitOf, SetIs, Below, Ascends}
 use Rattle.compiler_laws.specs.SolverSteps.{InSets, Grows, AllWait}
-use Rattle.compiler_laws.proofs.FileLists.{reached-ascends, reached-below}
+use Rattle.compiler_laws.proofs.FileLists.{inserts-ascend, inserts-below, reached-ascends, reached-below}
 use Rattle.compiler_laws.proofs.WaitingBooks.{read-grows}
 
 -- zeros are the empty set
@@ -30,21 +30,26 @@ set-empty k = record {
 }
 
 -- the books needed
-rounds-ascend : (k : ℕ) (ds : List Document) (l : List ℕ) → Ascends 0 l → Ascends 0 (neededIn k [] ds l)
-unfolding neededIn
-rounds-ascend zero ds l a = a
-rounds-ascend (suc k) ds l a = rounds-ascend k ds (reachedFrom [] ds l l) (reached-ascends ds l l a)
+module _ (files : List ℕ) where
+  rounds-ascend : (k : ℕ) (ds : List Document) (l : List ℕ) → Ascends 0 l → Ascends 0 (neededIn k files ds l)
+  unfolding neededIn
+  rounds-ascend zero ds l a = a
+  rounds-ascend (suc k) ds l a = rounds-ascend k ds (reachedFrom files ds l l) (reached-ascends files ds l l a)
 
-rounds-below : (k : ℕ) (ds : List Document) (l : List ℕ) → InSets setSize ds → Below setSize l → Below setSize (neededIn k [] ds l)
-unfolding neededIn
-rounds-below zero ds l s b = b
-rounds-below (suc k) ds l s b = rounds-below k ds (reachedFrom [] ds l l) s (reached-below ds l l s b)
+  rounds-below : (k : ℕ) (ds : List Document) (l : List ℕ) → InSets setSize ds → Below setSize l → Below setSize (neededIn k files ds l)
+  unfolding neededIn
+  rounds-below zero ds l s b = b
+  rounds-below (suc k) ds l s b = rounds-below k ds (reachedFrom files ds l l) s (reached-below files ds l l s b)
 
-pub needed-ascends : (root : Document) (others : List Document) → Ascends 0 (needed [] root others)
-needed-ascends root others = rounds-ascend (length (root ∷ others)) (root ∷ others) (root .filename ∷ []) (omega arith, tt)
+  pub needed-ascends : (root : Document) (others : List Document) → Ascends 0 (needed files root others)
+  needed-ascends root others =
+      rounds-ascend (length (root ∷ others)) (root ∷ others) (insertNumbers files (root .filename ∷ []) [])
+      (inserts-ascend files (root .filename ∷ []) [] tt)
 
-pub needed-below : (root : Document) (others : List Document) → InSets setSize (root ∷ others) → Below setSize (needed [] root others)
-needed-below root others s = rounds-below (length (root ∷ others)) (root ∷ others) (root .filename ∷ []) s (s .0, tt)
+  pub needed-below : (root : Document) (others : List Document) → InSets setSize (root ∷ others) → Below setSize (needed files root others)
+  needed-below root others s =
+      rounds-below (length (root ∷ others)) (root ∷ others) (insertNumbers files (root .filename ∷ []) []) s
+      (inserts-below files (root .filename ∷ []) [] tt (s .0, tt))
 
 -- those left without one
 ascends-from : (j k : ℕ) (l : List ℕ) → j ≤ k → Ascends k l → Ascends j l

@@ -29,13 +29,14 @@ use Rattle.building.specs.Held.{Filled, Marks, unmarked, marked}
 use Rattle.compiler_laws.specs.declared.book.Book as book
 use Rattle.compiler_laws.specs.OpenedBooks.{Resting}
 use Rattle.compiler_laws.specs.BooksInOrder.{Zero, Cleared, Lent, Came, came-delivered, came-faulty}
-use Rattle.compiler_laws.specs.BooksInOrder.{came-ring, Outcome, Fronts, Works, MarkedFrom, markOf, Emptied}
+use Rattle.compiler_laws.specs.BooksInOrder.{came-ring, Outcome, FrontRows, Works, MarkedFrom, markOf, Emptied}
 use Rattle.definition_laws.proofs.Strict.{none-there}
 use Rattle.definition.specs.Promise.{areas, lengthsOf, saying, answering, logsIn, programOf, Compiles}
 use Rattle.compiler_laws.specs.CallEnd.{totals, markRefusal, Finishes, Runs}
 use Rattle.compiler_laws.proofs.AnswerWords.{filled-is, delivered-words, delivered-reply}
 use Rattle.definition_laws.proofs.Promise.{compiles}
 use Rattle.compiler_laws.proofs.CallBeginning.{zero-filled}
+use Rattle.compiler_laws.proofs.RowsBeforeWork.{fresh-refused, fresh-answers}
 
 -- an area cleared is zeros
 pub cleared-zero : (w : List ℕ) {w′ : List ℕ} → w′ ≡ clearedFrom 0 w → Zero w′
@@ -151,19 +152,19 @@ module _ (strict : Bool) (tree : List ℕ) (before : Areas) where
 
   -- rows 2 to 6
   pub compile-refused : {set c k f m p t l u n b e o : List ℕ} {row place : ℕ} {r : struct.Reply} → length (lengthsOf before) ≡ 13
-      → lengthsOf before ≡ lengthsOf (areas c k f m p t l u n b e o) → Cleared c k f m p t l u n b e o → Fronts tree row place set → (row ≡ 0 → ⊥)
+      → lengthsOf before ≡ lengthsOf (areas c k f m p t l u n b e o) → Cleared c k f m p t l u n b e o → FrontRows tree row place set [] → (row ≡ 0 → ⊥)
       → r ≡ refusal row place → Compiles strict tree before (areas c k f m p t l u n b e o) r
   compile-refused {c = c} {k} {f} {m} {p} {t} {l} {u} {n} {b} {e} {o} {row} {place} {r} thirteen long z F ne says =
       let E = z .emptied in
       subst (λ (x : struct.Reply). Compiles strict tree before (areas c k f m p t l u n b e o) x) (sym says)
-      (refuses row place [] thirteen long (F .refused ne strict (lengthsOf before)) (E .code) (E .constants) (E .functions) (E .models) (E .properties)
+      (refuses row place [] thirteen long (fresh-refused F ne strict (lengthsOf before)) (E .code) (E .constants) (E .functions) (E .models) (E .properties)
       (E .methods)
       (E .locals) (E .publics) (E .names) (E .breaks) (zero-filled (z .errors)) (E .books))
 
   -- the work, and how it ends
   module _ {set c k f m p t l u n b e o : List ℕ} {s′ : book.Book} {c′ k′ f′ m′ p′ t′ l′ u′ n′ b′ e′ o′ : List ℕ} {row place number : ℕ}
       (thirteen : length (lengthsOf before) ≡ 13) (long : lengthsOf before ≡ lengthsOf (areas c k f m p t l u n b e o)) (z : Cleared c k f m p t l u n b e o)
-      {at : ℕ} (F : Fronts tree number at set) (went : number ≡ 0)
+      {at : ℕ} (F : FrontRows tree number at set []) (went : number ≡ 0)
       (W : Works strict tree set c k f m p t l u n b e o s′ c′ k′ f′ m′ p′ t′ l′ u′ n′ b′ e′ o′ row place) where
     -- what the definition's work came to
     record Worked′ : Type 0 where
@@ -183,7 +184,7 @@ module _ (strict : Bool) (tree : List ℕ) (before : Areas) where
         let Y = W .works (X .0) (X .1 .0) A z κ lent in
         record {
           worked = compileNeeded (needed [] (X .0) (X .1 .0)) (X .0 ∷ X .1 .0) (newContext strict);
-          answers = A .answers strict (lengthsOf before);
+          answers = fresh-answers A strict (lengthsOf before);
           rest = Y .0;
           zeros = Y .1 .0;
           outcome = Y .1 .1;
@@ -348,13 +349,13 @@ refused-name {full} h says = says ∙ sym (ap (λ (x : Bool). cond x (refusal 9 
 
 -- the ways of `run`
 module _ {strict : Bool} {tree c k f m p t l u n b e o : List ℕ} where
-  pub run-row : {set : List ℕ} {row place : ℕ} {r : struct.Reply} → Fronts tree row place set → (row ≡ 0 → ⊥) → r ≡ refusal row place
+  pub run-row : {set : List ℕ} {row place : ℕ} {r : struct.Reply} → FrontRows tree row place set [] → (row ≡ 0 → ⊥) → r ≡ refusal row place
       → Runs strict tree c k f m p t l u n b e o c k f m p t l u n b e o r
   run-row F ne says = record { runs = λ z. compile-refused strict tree (areas c k f m p t l u n b e o) refl refl z F ne says }
 
   module _ {set : List ℕ} {s′ : book.Book} {c′ k′ f′ m′ p′ t′ l′ u′ n′ b′ e′ o′ c″ k″ f″ m″ p″ t″ l″ u″ n″ b″ e″ o″ : List ℕ} {row place number at : ℕ}
       {r : struct.Reply}
-      (F : Fronts tree number at set) (went : number ≡ 0) (W : Works strict tree set c k f m p t l u n b e o s′ c′ k′ f′ m′ p′ t′ l′ u′ n′ b′ e′ o′ row place)
+      (F : FrontRows tree number at set []) (went : number ≡ 0) (W : Works strict tree set c k f m p t l u n b e o s′ c′ k′ f′ m′ p′ t′ l′ u′ n′ b′ e′ o′ row place)
       (E : Finishes s′ row place c′ k′ f′ m′ p′ t′ l′ u′ n′ b′ e′ o′ c″ k″ f″ m″ p″ t″ l″ u″ n″ b″ e″ o″ r)
       (S : SameLengths c k f m p t l u n b e o c″ k″ f″ m″ p″ t″ l″ u″ n″ b″ e″ o″) where
     ended-full : Cleared c k f m p t l u n b e o → (s′ .full ≡ 0 → ⊥)

@@ -18,19 +18,21 @@ use Rattle.tree.specs.Reading.{listOf}
 use Rattle.tree.proofs.View.{headD, seeD, sizeD-pos, ViewD}
 use Rattle.tree.proofs.View.ViewD.{v-IncludeDefinition}
 use Rattle.definition.specs.Book.{hasText}
-use Rattle.definition.specs.DependencySolver.{dependencies, findDocument, reachedFrom, neededIn, missing}
+use Rattle.definition.specs.DependencySolver.{dependencies, findDocument, insertNumbers, reachedFrom, neededIn, missing}
 use Rattle.definition.specs.Answer.{twice}
 use Rattle.building.specs.declared.scopes.Found.{Found}
 use Rattle.building.specs.declared.scopes.Found.the-variants.{At, Nothing}
 use Rattle.building.specs.Found.{foundOf}
 use Rattle.compiler_laws.specs.InsideFunction.{skipC}
-use Rattle.compiler_laws.specs.FileSets.{setSize, narrowSize, bitOf, addBit, addBits, allBits, Added, SetIs, NextIn, Below, Ascends}
+use Rattle.compiler_laws.specs.FileSets.{setSize, narrowSize, bitOf, addBit, addBits, allKnown, Added, AddedAbsent, SetIs, NextIn, Below, Ascends}
 use Rattle.compiler_laws.specs.SolverSteps.{Bundle, Room, Distinct, files, FindsTwice, Includes, Reaches, reachBits, Needs, Misses}
 use Rattle.compiler_laws.specs.SolverSteps.{InSets, Covers, NarrowIncludes, Narrows}
 use Rattle.compiler_laws.proofs.Tokens.{skip-law}
-use Rattle.compiler_laws.proofs.FileLists.{join, never, has-head, has-tail, addBit-length, reach-length, set-add, set-reached, reached-ascends, reached-below}
+use Rattle.compiler_laws.proofs.FileLists.{join, never, has-head, has-tail, addBit-length, reach-length, set-add, set-adds, set-reached}
+use Rattle.compiler_laws.proofs.FileLists.{inserts-ascend, inserts-below, reached-ascends, reached-below}
 use Rattle.compiler_laws.proofs.FileLists.{addBits-length, added-already, covers-none, covers-added, covers-reached}
-use Rattle.compiler_laws.proofs.FileLists.{same-members, needed-still, SetFrom, set-from, Split, next-some, next-none, missing-by}
+use Rattle.compiler_laws.proofs.FileLists.{same-members, needed-still, missing-by}
+use Rattle.compiler_laws.proofs.NextNumbers.{SetFrom, set-from, Split, next-some, next-none}
 
 -- the document at a place and those after it
 pub bundle-first : {d : Document} {ds : List Document} {tree : List ℕ} {i end : ℕ} → Bundle (d ∷ ds) tree i end → DocumentAt d tree i
@@ -212,33 +214,35 @@ neither : (a b : Bool) → cond a true b ≡ false → (a ≡ false) × (b ≡ f
 neither true b h = never h
 neither false b h = (refl, h)
 
-module _ (tree : List ℕ) (j end : ℕ) (any : Bool) (set : List ℕ) where
-  pub includes-end : end ≤ j → Includes tree j end any set set any
-  includes-end past = record { adds = defs-end tree j end (λ ns. set ≡ addBits set ns) past refl; still = λ h. (h, refl) }
+module _ (tree : List ℕ) (j end : ℕ) (standing : List ℕ) (any : Bool) (set : List ℕ) where
+  pub includes-end : end ≤ j → Includes tree j end standing any set set any
+  includes-end past = record { adds = defs-end tree j end (λ ns. set ≡ addBits standing set ns) past refl; still = λ h. (h, refl) }
 
   pub includes-other : {kind next : ℕ} {after : List ℕ} {r : Bool} → j < end → kind ≡ kindAt tree j → (kind ≡ 11 → ⊥) → next ≡ skipC tree j end
-      → Includes tree next end any set after r → Includes tree j end any set after r
+      → Includes tree next end standing any set after r → Includes tree j end standing any set after r
   includes-other {after = after} inside k ne q I = record {
-    adds = defs-other tree j end (λ ns. after ≡ addBits set ns) inside k ne q (I .adds);
+    adds = defs-other tree j end (λ ns. after ≡ addBits standing set ns) inside k ne q (I .adds);
     still = I .still;
   }
 
   pub includes-more : {kind file next : ℕ} {mid after : List ℕ} {fresh grew r : Bool} → j < end → kind ≡ kindAt tree j → kind ≡ 11
-      → file ≡ valueAt tree j → Added set file mid fresh → next ≡ skipC tree j end → grew ≡ cond any true fresh
-      → Includes tree next end grew mid after r → Includes tree j end any set after r
+      → file ≡ valueAt tree j → AddedAbsent standing set file mid fresh → next ≡ skipC tree j end → grew ≡ cond any true fresh
+      → Includes tree next end standing grew mid after r → Includes tree j end standing any set after r
   unfolding addBit
   includes-more {kind} {file} {next} {mid} {after} {fresh} {grew} {r} inside k eleven v a q g I = record {
-    adds = defs-more tree j end (λ ns. after ≡ addBits set ns) inside k eleven v q (λ ds u f. I .adds ds u f ∙ rw (a .words));
+    adds = defs-more tree j end (λ ns. after ≡ addBits standing set ns) inside k eleven v q (λ ds u f. I .adds ds u f ∙ rw (a .words));
     still = λ h. quiet (I .still h);
   }
     where
-      unchanged : bitOf set file ≡ true → mid ≡ set
-      unchanged b = a .words ∙ rw b
+      unchanged : (s b : Bool) → bitOf standing file ≡ s → bitOf set file ≡ b → fresh ≡ cond s false (not b) → fresh ≡ false → mid ≡ set
+      unchanged true b p w f h = a .words ∙ rw p
+      unchanged false true p w f h = a .words ∙ rw (p, w)
+      unchanged false false p w f h = never (sym f ∙ h)
 
       quiet : (grew ≡ false) × (after ≡ mid) → (any ≡ false) × (after ≡ set)
       quiet p =
           let n = neither any fresh (sym g ∙ p .0) in
-          (n .0, p .1 ∙ unchanged (not-false (bitOf set file) (sym (a .is-new) ∙ n .1)))
+          (n .0, p .1 ∙ unchanged (bitOf standing file) (bitOf set file) refl refl (a .is-new) (n .1))
 
 -- `reach`
 not-unread : (a b : Bool) → cond a false b ≡ false → (a ≡ true → ⊥) → b ≡ false
@@ -249,56 +253,56 @@ is-unread : (a b : Bool) → cond a false b ≡ true → b ≡ true
 is-unread true b h = never (sym h)
 is-unread false b h = h
 
-module _ (tree : List ℕ) (i end : ℕ) (read set : List ℕ) (any : Bool) (next : List ℕ) where
-  pub reach-end : end ≤ i → Reaches tree i end read set any next next any
+module _ (tree : List ℕ) (i end : ℕ) (standing read set : List ℕ) (any : Bool) (next : List ℕ) where
+  pub reach-end : end ≤ i → Reaches tree i end standing read set any next next any
   reach-end past = record { adds = go; still = λ h. (h, refl) }
     where
-      go : (ds : List Document) → Bundle ds tree i end → Room next ds → Covers read next ds → next ≡ reachBits set ds next
+      go : (ds : List Document) → Bundle ds tree i end → Room next ds → Covers standing read next ds → next ≡ reachBits standing set ds next
       go [] b w c = refl
       go (d ∷ ds) b w c = absurd (omega (arith, bundle-past b))
 
   module _ {last file : ℕ} (inside : i < end) (l : last ≡ skipC tree i end) (v : file ≡ valueAt tree i) where
-    pub reach-past : {after : List ℕ} {r : Bool} → false ≡ cond (bitOf read file) false (bitOf set file) → Reaches tree last end read set any next after r
-        → Reaches tree i end read set any next after r
+    pub reach-past : {after : List ℕ} {r : Bool} → false ≡ cond (bitOf read file) false (bitOf set file) → Reaches tree last end standing read set any next after r
+        → Reaches tree i end standing read set any next after r
     reach-past {after} {r} out R = record { adds = go; still = R .still }
       where
         -- it was read, and what it includes is in; or it is not in the set
-        same : (t : Bool) (deps : List ℕ) → bitOf read file ≡ t → (bitOf read file ≡ true → allBits next deps ≡ true)
-            → cond (bitOf set file) (addBits next deps) next ≡ next
+        same : (t : Bool) (deps : List ℕ) → bitOf read file ≡ t → (bitOf read file ≡ true → allKnown standing next deps ≡ true)
+            → cond (bitOf set file) (addBits standing next deps) next ≡ next
         same true deps q c = either-way (bitOf set file)
           where
-            either-way : (t : Bool) → cond t (addBits next deps) next ≡ next
-            either-way true = added-already next deps (c q)
+            either-way : (t : Bool) → cond t (addBits standing next deps) next ≡ next
+            either-way true = added-already standing next deps (c q)
             either-way false = refl
         same false deps q c =
             let no′ : bitOf set file ≡ false = not-unread (bitOf read file) (bitOf set file) (sym out) (λ e. never (sym e ∙ q)) in
             rw no′ refl
 
-        go : (ds : List Document) → Bundle ds tree i end → Room next ds → Covers read next ds → after ≡ reachBits set ds next
+        go : (ds : List Document) → Bundle ds tree i end → Room next ds → Covers standing read next ds → after ≡ reachBits standing set ds next
         go [] b w c = absurd (omega (arith, bundle-none b))
         go (d ∷ ds) b w c =
             let f : d .filename ≡ file = bundle-first b .file ∙ sym v in
             let deps = dependencies (d .definitions) in
-            let e : cond (bitOf set (d .filename)) (addBits next deps) next ≡ next
+            let e : cond (bitOf set (d .filename)) (addBits standing next deps) next ≡ next
             = rw f (same (bitOf read file) deps refl (λ h. c .0 (rw f h))) in
-            R .adds ds (bundle-next b l .1) (w .2) (c .1) ∙ ap (λ (x : List ℕ). reachBits set ds x) (sym e)
+            R .adds ds (bundle-next b l .1) (w .2) (c .1) ∙ ap (λ (x : List ℕ). reachBits standing set ds x) (sym e)
 
-    pub reach-more : {mid after : List ℕ} {grew r : Bool} → true ≡ cond (bitOf read file) false (bitOf set file) → Includes tree (i + 1) last any next mid grew
-        → Reaches tree last end read set grew mid after r → Reaches tree i end read set any next after r
+    pub reach-more : {mid after : List ℕ} {grew r : Bool} → true ≡ cond (bitOf read file) false (bitOf set file) → Includes tree (i + 1) last standing any next mid grew
+        → Reaches tree last end standing read set grew mid after r → Reaches tree i end standing read set any next after r
     reach-more {mid} {after} {grew} {r} has I R = record { adds = go; still = λ h. quiet (R .still h) }
       where
         quiet : (grew ≡ false) × (after ≡ mid) → (any ≡ false) × (after ≡ next)
         quiet p = let s = I .still (p .0) in (s .0, p .1 ∙ s .1)
 
-        go : (ds : List Document) → Bundle ds tree i end → Room next ds → Covers read next ds → after ≡ reachBits set ds next
+        go : (ds : List Document) → Bundle ds tree i end → Room next ds → Covers standing read next ds → after ≡ reachBits standing set ds next
         go [] b w c = absurd (omega (arith, bundle-none b))
         go (d ∷ ds) b w c =
             let nx = bundle-next b l in
             let deps = dependencies (d .definitions) in
-            let m : mid ≡ addBits next deps = I .adds (d .definitions) (bundle-first b .definitions) (omega (arith, nx .0)) in
+            let m : mid ≡ addBits standing next deps = I .adds (d .definitions) (bundle-first b .definitions) (omega (arith, nx .0)) in
             let in′ : bitOf set (d .filename) ≡ true
             = ap (λ (x : ℕ). bitOf set x) (bundle-first b .file ∙ sym v) ∙ is-unread (bitOf read file) (bitOf set file) (sym has) in
-            R .adds ds (nx .1) (rw (m, addBits-length next deps) (w .2)) (rw m (covers-added read next deps ds (w .1) (c .1)))
+            R .adds ds (nx .1) (rw (m, addBits-length standing next deps) (w .2)) (rw m (covers-added standing read next deps ds (w .1) (c .1)))
             ∙ rw (in′, m) refl
 
 -- `narrow_includes`
@@ -345,60 +349,67 @@ module _ (tree : List ℕ) (i end : ℕ) where
   narrow-not = record { below = λ h. never (sym h) }
 
 -- `needed`
-pub record NeededFrom (tree : List ℕ) (i end : ℕ) (read set next after : List ℕ) : Type 0 where
-  pub needs : (ds rest : List Document) (l : List ℕ) → Bundle ds tree 0 end → Distinct ds → Bundle rest tree i end → Room set ds → Ascends 0 l → Below setSize l
-      → SetIs set l → next ≡ set → Covers read set ds → SetIs after (neededIn (length rest) [] ds l)
+pub record NeededFrom (tree : List ℕ) (i end : ℕ) (standing read set next after : List ℕ) : Type 0 where
+  pub needs : (files : List ℕ) → SetIs standing files → (ds rest : List Document) (l : List ℕ) → Bundle ds tree 0 end → Distinct ds → Bundle rest tree i end
+      → Room set ds → Ascends 0 l → Below setSize l → SetIs set l → next ≡ set → Covers standing read set ds → SetIs after (neededIn (length rest) files ds l)
 
-pub needed-end : (tree : List ℕ) (i end : ℕ) (read set next : List ℕ) → end ≤ i → NeededFrom tree i end read set next set
+pub needed-end : (tree : List ℕ) (i end : ℕ) (standing read set next : List ℕ) → end ≤ i → NeededFrom tree i end standing read set next set
 unfolding neededIn
-needed-end tree i end read set next past = record { needs = go }
+needed-end tree i end standing read set next past = record { needs = λ files s. go files }
   where
-    go : (ds rest : List Document) (l : List ℕ) → Bundle ds tree 0 end → Distinct ds → Bundle rest tree i end → Room set ds → Ascends 0 l → Below setSize l
-        → SetIs set l → next ≡ set → Covers read set ds → SetIs set (neededIn (length rest) [] ds l)
-    go ds [] l b u r room a w s q c = s
-    go ds (d ∷ rest) l b u r room a w s q c = absurd (omega (arith, bundle-past r))
+    go : (files : List ℕ) (ds rest : List Document) (l : List ℕ) → Bundle ds tree 0 end → Distinct ds → Bundle rest tree i end → Room set ds → Ascends 0 l
+        → Below setSize l → SetIs set l → next ≡ set → Covers standing read set ds → SetIs set (neededIn (length rest) files ds l)
+    go files ds [] l b u r room a w s q c = s
+    go files ds (d ∷ rest) l b u r room a w s q c = absurd (omega (arith, bundle-past r))
 
-module _ (tree : List ℕ) (i end : ℕ) (read set next : List ℕ) {mid : List ℕ} {grew : Bool} (R : Reaches tree 0 end read set false next mid grew) where
-  all-reached : (ds : List Document) → Bundle ds tree 0 end → Room set ds → next ≡ set → Covers read set ds → mid ≡ reachBits set ds next
+module _ (tree : List ℕ) (i end : ℕ) (standing read set next : List ℕ) {mid : List ℕ} {grew : Bool}
+    (R : Reaches tree 0 end standing read set false next mid grew) where
+  all-reached : (ds : List Document) → Bundle ds tree 0 end → Room set ds → next ≡ set → Covers standing read set ds → mid ≡ reachBits standing set ds next
   all-reached ds b room q c = R .adds ds b (rw q room) (rw q c)
 
-  reached : (ds : List Document) (l : List ℕ) → Bundle ds tree 0 end → Distinct ds → Room set ds → SetIs set l → next ≡ set → Covers read set ds
-      → SetIs mid (reachedFrom [] ds l l)
-  reached ds l b u room s q c = rw (all-reached ds b room q c) (set-reached set l next l ds s (rw q s) u (b .numbers) (rw q room))
+  reached : {files : List ℕ} → SetIs standing files → (ds : List Document) (l : List ℕ) → Bundle ds tree 0 end → Distinct ds → Room set ds → SetIs set l
+      → next ≡ set → Covers standing read set ds → SetIs mid (reachedFrom files ds l l)
+  reached stands ds l b u room s q c = rw (all-reached ds b room q c) (set-reached set l next l ds stands s (rw q s) u (b .numbers) (rw q room))
 
-  pub needed-stop : not grew ≡ true → NeededFrom tree i end read set next set
+  pub needed-stop : not grew ≡ true → NeededFrom tree i end standing read set next set
   needed-stop g = record {
-    needs = λ ds rest l b u r room a w s q c.
+    needs = λ files stands ds rest l b u r room a w s q c.
         let still : mid ≡ set = R .still (not-true grew g) .1 ∙ q in
-        let m : SetIs set (reachedFrom [] ds l l) = subst (λ (x : List ℕ). SetIs x (reachedFrom [] ds l l)) still (reached ds l b u room s q c) in
-        let same : reachedFrom [] ds l l ≡ l
-        = same-members 0 (reachedFrom [] ds l l) l (reached-ascends ds l l a) a (reached-below ds l l (b .numbers) w) w
+        let m : SetIs set (reachedFrom files ds l l)
+        = subst (λ (x : List ℕ). SetIs x (reachedFrom files ds l l)) still (reached stands ds l b u room s q c) in
+        let same : reachedFrom files ds l l ≡ l
+        = same-members 0 (reachedFrom files ds l l) l (reached-ascends files ds l l a) a (reached-below files ds l l (b .numbers) w) w
         (λ k h. sym (m .has k h) ∙ s .has k h) in
-        rw (needed-still (length rest) ds l same) s;
+        rw (needed-still files (length rest) ds l same) s;
   }
 
   pub needed-more : {last : ℕ} {read′ copied after : List ℕ} → i < end → last ≡ skipC tree i end → read′ ≡ set → copied ≡ mid
-      → NeededFrom tree last end read′ copied mid after → NeededFrom tree i end read set next after
+      → NeededFrom tree last end standing read′ copied mid after → NeededFrom tree i end standing read set next after
   unfolding neededIn
   needed-more {last} {read′} {copied} {after} inside l e c N = record { needs = go }
     where
-      go : (ds rest : List Document) (n : List ℕ) → Bundle ds tree 0 end → Distinct ds → Bundle rest tree i end → Room set ds → Ascends 0 n
-          → Below setSize n → SetIs set n → next ≡ set → Covers read set ds → SetIs after (neededIn (length rest) [] ds n)
-      go ds [] n b u r room a w s q v = absurd (omega (arith, bundle-none r))
-      go ds (d ∷ rest) n b u r room a w s q v =
+      go : (files : List ℕ) → SetIs standing files → (ds rest : List Document) (n : List ℕ) → Bundle ds tree 0 end → Distinct ds → Bundle rest tree i end
+          → Room set ds → Ascends 0 n → Below setSize n → SetIs set n → next ≡ set → Covers standing read set ds
+          → SetIs after (neededIn (length rest) files ds n)
+      go files stands ds [] n b u r room a w s q v = absurd (omega (arith, bundle-none r))
+      go files stands ds (d ∷ rest) n b u r room a w s q v =
           let m = all-reached ds b room q v in
-          N .needs ds rest (reachedFrom [] ds n n) b u (bundle-next r l .1) (rw (c, m, reach-length set ds next, q) room)
-          (reached-ascends ds n n a) (reached-below ds n n (b .numbers) w)
-          (rw c (reached ds n b u room s q v)) (sym c) (rw (e, c, m) (covers-reached set ds next (rw q room)))
+          N .needs files stands ds rest (reachedFrom files ds n n) b u (bundle-next r l .1) (rw (c, m, reach-length standing set ds next, q) room)
+          (reached-ascends files ds n n a) (reached-below files ds n n (b .numbers) w)
+          (rw c (reached stands ds n b u room s q v)) (sym c) (rw (e, c, m) (covers-reached standing set ds next (rw q room)))
 
-pub needed-start : (tree : List ℕ) (end : ℕ) (read set next : List ℕ) {root : ℕ} {set′ next′ after : List ℕ} {f g : Bool} → root ≡ valueAt tree 0 → next ≡ set
-    → Added set root set′ f → Added next root next′ g → NeededFrom tree 0 end read set′ next′ after → Needs tree end read set after
-needed-start tree end read set next {root} {set′} {next′} {after} v q a b N = record {
-  needs = λ d ds w u room s e.
+pub needed-start : (tree : List ℕ) (end : ℕ) (standing read set next : List ℕ) {root : ℕ} {set′ next′ after : List ℕ} {f g : Bool} → root ≡ valueAt tree 0
+    → next ≡ set → AddedAbsent standing set root set′ f → AddedAbsent standing next root next′ g → NeededFrom tree 0 end standing read set′ next′ after
+    → Needs tree end standing read set after
+needed-start tree end standing read set next {root} {set′} {next′} {after} v q a b N = record {
+  needs = λ files stands d ds w u room s e.
       let n : d .filename ≡ root = bundle-first w .file ∙ sym v in
-      N .needs (d ∷ ds) (d ∷ ds) (d .filename ∷ []) w u w (rw (a .words, addBit-length set root) room) (omega arith, tt) (w .numbers .0, tt)
-      (rw (a .words, ← n) (set-add set [] (d .filename) s (room .0))) (b .words ∙ rw (q, ← a .words))
-      (covers-none read set′ (d ∷ ds) e (w .numbers));
+      let one : set′ ≡ addBits standing set (d .filename ∷ []) = a .words ∙ rw n refl in
+      N .needs files stands (d ∷ ds) (d ∷ ds) (insertNumbers files (d .filename ∷ []) []) w u w
+      (rw (one, addBits-length standing set (d .filename ∷ [])) room)
+      (inserts-ascend files (d .filename ∷ []) [] tt) (inserts-below files (d .filename ∷ []) [] tt (w .numbers .0, tt))
+      (rw one (set-adds set [] (d .filename ∷ []) stands s (room .0, tt))) (b .words ∙ rw (q, ← a .words))
+      (covers-none standing read set′ (d ∷ ds) e (w .numbers));
 }
 
 -- `missing`

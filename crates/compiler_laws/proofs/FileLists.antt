@@ -10,12 +10,12 @@ use mathlib.Core.Option.{Option, none, some}
 use mathlib.Core.List.{List, [], _∷_}
 use lib.ListN.{length, length-set}
 use lib.Dec.{eqb}
-use borrow.Author.Tests.{eq-eqb, ne-eqb, lt-ltb, le-ltb}
+use borrow.Author.Tests.{eq-eqb, ne-eqb, eqb-true, lt-ltb, le-ltb}
 use Rattle.words.specs.Ast.{Document}
 use Rattle.definition.specs.Book.{hasText}
 use Rattle.definition.specs.DependencySolver.{dependencies, dependenciesOf, findDocument, insertNumber, insertNumbers, reachedFrom, neededIn}
 use Rattle.definition.specs.DependencySolver.{missingBy, allIn}
-use Rattle.compiler_laws.specs.FileSets.{setSize, bitOf, addBit, addBits, allBits, SetIs, NextIn, Below, Ascends}
+use Rattle.compiler_laws.specs.FileSets.{setSize, bitOf, addBit, addAbsent, addBits, allBits, allKnown, SetIs, Below, Ascends}
 use Rattle.compiler_laws.specs.SolverSteps.{InSets, Room, Distinct, files, reachBits, Covers, Grows}
 use Rattle.compiler_laws.proofs.SetBits.{add-bit}
 
@@ -72,10 +72,44 @@ join true true c = refl
 join true false c = refl
 join false b c = refl
 
-pub has-inserts : (m : ℕ) (ns l : List ℕ) → hasText m (insertNumbers [] ns l) ≡ cond (hasText m ns) true (hasText m l)
-has-inserts m [] l = refl
-has-inserts m (n ∷ ns) l =
-    has-inserts m ns (insertNumber n l) ∙ ap (λ (t : Bool). cond (hasText m ns) true t) (has-insert m n l) ∙ join (eqb n m) (hasText m ns) (hasText m l)
+-- s: whether a number stands. What is there of those that do not stand, and of others
+or-new : (s a b c : Bool) → cond (cond s false b) true (cond (cond s false a) true c) ≡ cond (cond s false (cond a true b)) true c
+or-new true a b c = refl
+or-new false a b c = join a b c
+
+-- one more: e, whether it is the number
+one-stands : (s e b c : Bool) → (e ≡ true → s ≡ true) → cond (cond s false b) true c ≡ cond (cond s false (cond e true b)) true c
+one-stands true e b c h = refl
+one-stands false true b c h = never (sym (h refl))
+one-stands false false b c h = refl
+
+one-new : (s e b c : Bool) → (e ≡ true → s ≡ false) → cond (cond s false b) true (cond e true c) ≡ cond (cond s false (cond e true b)) true c
+one-new true true b c h = never (h refl)
+one-new true false b c h = refl
+one-new false true true c h = refl
+one-new false true false c h = refl
+one-new false false b c h = refl
+
+is-same : (n m : ℕ) (f : ℕ → Bool) {t : Bool} → f n ≡ t → eqb n m ≡ true → f m ≡ t
+is-same n m f q e = ap f (sym (eqb-true n m e)) ∙ q
+
+pub has-inserts : (stand : List ℕ) (m : ℕ) (ns l : List ℕ)
+    → hasText m (insertNumbers stand ns l) ≡ cond (cond (hasText m stand) false (hasText m ns)) true (hasText m l)
+has-inserts stand m [] l = go (hasText m stand)
+  where
+    go : (t : Bool) → hasText m l ≡ cond (cond t false false) true (hasText m l)
+    go true = refl
+    go false = refl
+has-inserts stand m (n ∷ ns) l = go (hasText n stand) refl (has-inserts stand m ns)
+  where
+    go : (t : Bool) → hasText n stand ≡ t
+        → ((k : List ℕ) → hasText m (insertNumbers stand ns k) ≡ cond (cond (hasText m stand) false (hasText m ns)) true (hasText m k))
+        → hasText m (insertNumbers stand (n ∷ ns) l) ≡ cond (cond (hasText m stand) false (hasText m (n ∷ ns))) true (hasText m l)
+    go true q ih =
+        rw q (ih l ∙ one-stands (hasText m stand) (eqb n m) (hasText m ns) (hasText m l) (is-same n m (λ k. hasText k stand) q))
+    go false q ih =
+        rw q (ih (insertNumber n l) ∙ ap (λ (t : Bool). cond (cond (hasText m stand) false (hasText m ns)) true t) (has-insert m n l)
+        ∙ one-new (hasText m stand) (eqb n m) (hasText m ns) (hasText m l) (is-same n m (λ k. hasText k stand) q))
 
 -- inserting keeps the order
 pub insert-ascends : (k n : ℕ) (l : List ℕ) → Ascends k l → k ≤ n → Ascends k (insertNumber n l)
@@ -87,13 +121,17 @@ insert-ascends k n (x ∷ xs) a h = go (order n x) (insert-ascends (x + 1) n xs 
     go (same q) ih = rw (le-ltb n x (omega arith), eq-eqb n x q) a
     go (more l) ih = rw (le-ltb n x (omega arith), ne-eqb n x (λ q. omega arith)) (a .0, ih (omega arith))
 
-pub inserts-ascend : (ns l : List ℕ) → Ascends 0 l → Ascends 0 (insertNumbers [] ns l)
-inserts-ascend [] l a = a
-inserts-ascend (n ∷ ns) l a = inserts-ascend ns (insertNumber n l) (insert-ascends 0 n l a (omega arith))
+pub inserts-ascend : (stand ns l : List ℕ) → Ascends 0 l → Ascends 0 (insertNumbers stand ns l)
+inserts-ascend stand [] l a = a
+inserts-ascend stand (n ∷ ns) l a = inserts-ascend stand ns _ (go (hasText n stand))
+  where
+    go : (t : Bool) → Ascends 0 (cond t l (insertNumber n l))
+    go true = a
+    go false = insert-ascends 0 n l a (omega arith)
 
-pub reached-ascends : (ds : List Document) (ns l : List ℕ) → Ascends 0 l → Ascends 0 (reachedFrom [] ds ns l)
-reached-ascends ds [] l a = a
-reached-ascends ds (n ∷ ns) l a = reached-ascends ds ns _ (inserts-ascend (dependenciesOf (findDocument n ds)) l a)
+pub reached-ascends : (stand : List ℕ) (ds : List Document) (ns l : List ℕ) → Ascends 0 l → Ascends 0 (reachedFrom stand ds ns l)
+reached-ascends stand ds [] l a = a
+reached-ascends stand ds (n ∷ ns) l a = reached-ascends stand ds ns _ (inserts-ascend stand (dependenciesOf (findDocument n ds)) l a)
 
 -- and the range
 pub insert-below : (n : ℕ) (l : List ℕ) → Below setSize l → n < setSize → Below setSize (insertNumber n l)
@@ -105,9 +143,13 @@ insert-below n (x ∷ xs) b h = go (order n x) (insert-below n xs (b .1) h)
     go (same q) ih = rw (le-ltb n x (omega arith), eq-eqb n x q) b
     go (more l) ih = rw (le-ltb n x (omega arith), ne-eqb n x (λ q. omega arith)) (b .0, ih)
 
-pub inserts-below : (ns l : List ℕ) → Below setSize l → Below setSize ns → Below setSize (insertNumbers [] ns l)
-inserts-below [] l b h = b
-inserts-below (n ∷ ns) l b h = inserts-below ns (insertNumber n l) (insert-below n l b (h .0)) (h .1)
+pub inserts-below : (stand ns l : List ℕ) → Below setSize l → Below setSize ns → Below setSize (insertNumbers stand ns l)
+inserts-below stand [] l b h = b
+inserts-below stand (n ∷ ns) l b h = inserts-below stand ns _ (go (hasText n stand)) (h .1)
+  where
+    go : (t : Bool) → Below setSize (cond t l (insertNumber n l))
+    go true = b
+    go false = insert-below n l b (h .0)
 
 pub found-below : (n : ℕ) (ds : List Document) → InSets setSize ds → Below setSize (dependenciesOf (findDocument n ds))
 found-below n [] s = tt
@@ -117,9 +159,11 @@ found-below n (d ∷ ds) s = go (eqb (d .filename) n) refl (found-below n ds (s 
     go true q ih = rw q (s .1)
     go false q ih = rw q ih
 
-pub reached-below : (ds : List Document) (ns l : List ℕ) → InSets setSize ds → Below setSize l → Below setSize (reachedFrom [] ds ns l)
-reached-below ds [] l s b = b
-reached-below ds (n ∷ ns) l s b = reached-below ds ns _ s (inserts-below (dependenciesOf (findDocument n ds)) l b (found-below n ds s))
+pub reached-below : (stand : List ℕ) (ds : List Document) (ns l : List ℕ) → InSets setSize ds → Below setSize l
+    → Below setSize (reachedFrom stand ds ns l)
+reached-below stand ds [] l s b = b
+reached-below stand ds (n ∷ ns) l s b =
+    reached-below stand ds ns _ s (inserts-below stand (dependenciesOf (findDocument n ds)) l b (found-below n ds s))
 
 -- ascending lists with the same members are the same
 pub same-members : (k : ℕ) (a b : List ℕ) → Ascends k a → Ascends k b → Below setSize a → Below setSize b
@@ -153,14 +197,19 @@ asked : List Document → List ℕ → ℕ → Bool
 asked [] l n = false
 asked (d ∷ ds) l n = cond (hasText (d .filename) l) (cond (hasText n (dependencies (d .definitions))) true (asked ds l n)) (asked ds l n)
 
-has-reached : (ds : List Document) (ns l : List ℕ) (n : ℕ) → hasText n (reachedFrom [] ds ns l) ≡ cond (asks ds ns n) true (hasText n l)
+has-reached : (stand : List ℕ) (ds : List Document) (ns l : List ℕ) (n : ℕ)
+    → hasText n (reachedFrom stand ds ns l) ≡ cond (cond (hasText n stand) false (asks ds ns n)) true (hasText n l)
 unfolding asks
-has-reached ds [] l n = refl
-has-reached ds (m ∷ ms) l n =
+has-reached stand ds [] l n = go (hasText n stand)
+  where
+    go : (t : Bool) → hasText n l ≡ cond (cond t false false) true (hasText n l)
+    go true = refl
+    go false = refl
+has-reached stand ds (m ∷ ms) l n =
     let deps = dependenciesOf (findDocument m ds) in
-    has-reached ds ms (insertNumbers [] deps l) n
-    ∙ ap (λ (t : Bool). cond (asks ds ms n) true t) (has-inserts n deps l)
-    ∙ join (hasText n deps) (asks ds ms n) (hasText n l)
+    has-reached stand ds ms (insertNumbers stand deps l) n
+    ∙ ap (λ (t : Bool). cond (cond (hasText n stand) false (asks ds ms n)) true t) (has-inserts stand n deps l)
+    ∙ or-new (hasText n stand) (hasText n deps) (asks ds ms n) (hasText n l)
 
 asks-none : (l : List ℕ) (n : ℕ) → asks [] l n ≡ false
 unfolding asks
@@ -222,54 +271,87 @@ addBit-length bits n = go (bitOf bits n) refl
     go true q = rw q
     go false q = rw q (length-set bits (n / 64) _)
 
-pub addBits-length : (bits ns : List ℕ) → length (addBits bits ns) ≡ length bits
-addBits-length bits [] = refl
-addBits-length bits (n ∷ ns) = addBits-length (addBit bits n) ns ∙ addBit-length bits n
-
-add-bits : (bits ns : List ℕ) (m : ℕ) → Below (length bits * 64) ns → bitOf (addBits bits ns) m ≡ cond (hasText m ns) true (bitOf bits m)
-add-bits bits [] m b = refl
-add-bits bits (n ∷ ns) m b =
-    add-bits (addBit bits n) ns m (rw (addBit-length bits n) (b .1))
-    ∙ ap (λ (t : Bool). cond (hasText m ns) true t) (add-bit bits n m (word-in bits n (b .0)))
-    ∙ join (eqb n m) (hasText m ns) (bitOf bits m)
-
-pub reach-length : (set : List ℕ) (ds : List Document) (next : List ℕ) → length (reachBits set ds next) ≡ length next
-reach-length set [] next = refl
-reach-length set (d ∷ ds) next = reach-length set ds _ ∙ go (bitOf set (d .filename))
+absent-length : (standing bits : List ℕ) (n : ℕ) → length (addAbsent standing bits n) ≡ length bits
+absent-length standing bits n = go (bitOf standing n)
   where
-    go : (t : Bool) → length (cond t (addBits next (dependencies (d .definitions))) next) ≡ length next
-    go true = addBits-length next (dependencies (d .definitions))
+    go : (t : Bool) → length (cond t bits (addBit bits n)) ≡ length bits
+    go true = refl
+    go false = addBit-length bits n
+
+pub addBits-length : (standing bits ns : List ℕ) → length (addBits standing bits ns) ≡ length bits
+addBits-length standing bits [] = refl
+addBits-length standing bits (n ∷ ns) = addBits-length standing (addAbsent standing bits n) ns ∙ absent-length standing bits n
+
+add-bits : (standing bits ns : List ℕ) (m : ℕ) → Below (length bits * 64) ns
+    → bitOf (addBits standing bits ns) m ≡ cond (cond (bitOf standing m) false (hasText m ns)) true (bitOf bits m)
+add-bits standing bits [] m b = go (bitOf standing m)
+  where
+    go : (t : Bool) → bitOf bits m ≡ cond (cond t false false) true (bitOf bits m)
+    go true = refl
+    go false = refl
+add-bits standing bits (n ∷ ns) m b = go (bitOf standing n) refl (λ k w. add-bits standing k ns m w)
+  where
+    go : (t : Bool) → bitOf standing n ≡ t
+        → ((k : List ℕ) → Below (length k * 64) ns → bitOf (addBits standing k ns) m ≡ cond (cond (bitOf standing m) false (hasText m ns)) true (bitOf k m))
+        → bitOf (addBits standing bits (n ∷ ns)) m ≡ cond (cond (bitOf standing m) false (hasText m (n ∷ ns))) true (bitOf bits m)
+    go true q ih =
+        rw q (ih bits (b .1) ∙ one-stands (bitOf standing m) (eqb n m) (hasText m ns) (bitOf bits m) (is-same n m (λ k. bitOf standing k) q))
+    go false q ih =
+        rw q (ih (addBit bits n) (rw (addBit-length bits n) (b .1))
+        ∙ ap (λ (t : Bool). cond (cond (bitOf standing m) false (hasText m ns)) true t) (add-bit bits n m (word-in bits n (b .0)))
+        ∙ one-new (bitOf standing m) (eqb n m) (hasText m ns) (bitOf bits m) (is-same n m (λ k. bitOf standing k) q))
+
+pub reach-length : (standing set : List ℕ) (ds : List Document) (next : List ℕ) → length (reachBits standing set ds next) ≡ length next
+reach-length standing set [] next = refl
+reach-length standing set (d ∷ ds) next = reach-length standing set ds _ ∙ go (bitOf set (d .filename))
+  where
+    go : (t : Bool) → length (cond t (addBits standing next (dependencies (d .definitions))) next) ≡ length next
+    go true = addBits-length standing next (dependencies (d .definitions))
     go false = refl
 
-reach-bits : (set l : List ℕ) (ds : List Document) (next : List ℕ) (m : ℕ) → SetIs set l → InSets setSize ds → Room next ds
-    → bitOf (reachBits set ds next) m ≡ cond (asked ds l m) true (bitOf next m)
+reach-bits : (standing set l : List ℕ) (ds : List Document) (next : List ℕ) (m : ℕ) → SetIs set l → InSets setSize ds → Room next ds
+    → bitOf (reachBits standing set ds next) m ≡ cond (cond (bitOf standing m) false (asked ds l m)) true (bitOf next m)
 unfolding asked
-reach-bits set l [] next m i r w = refl
-reach-bits set l (d ∷ ds) next m i r w =
-    go (bitOf set (d .filename)) refl (reach-bits set l ds (addBits next deps) m i (r .2) (rw (addBits-length next deps) (w .2)))
-    (reach-bits set l ds next m i (r .2) (w .2))
+reach-bits standing set l [] next m i r w = go (bitOf standing m)
+  where
+    go : (t : Bool) → bitOf next m ≡ cond (cond t false false) true (bitOf next m)
+    go true = refl
+    go false = refl
+reach-bits standing set l (d ∷ ds) next m i r w =
+    go (bitOf set (d .filename)) refl (reach-bits standing set l ds (addBits standing next deps) m i (r .2) (rw (addBits-length standing next deps) (w .2)))
+    (reach-bits standing set l ds next m i (r .2) (w .2))
   where
     deps : List ℕ
     deps = dependencies (d .definitions)
 
+    s : Bool
+    s = bitOf standing m
+
     go : (t : Bool) → bitOf set (d .filename) ≡ t
-        → bitOf (reachBits set ds (addBits next deps)) m ≡ cond (asked ds l m) true (bitOf (addBits next deps) m)
-        → bitOf (reachBits set ds next) m ≡ cond (asked ds l m) true (bitOf next m)
-        → bitOf (reachBits set ds (cond (bitOf set (d .filename)) (addBits next deps) next)) m
-        ≡ cond (cond (hasText (d .filename) l) (cond (hasText m deps) true (asked ds l m)) (asked ds l m)) true (bitOf next m)
+        → bitOf (reachBits standing set ds (addBits standing next deps)) m ≡ cond (cond s false (asked ds l m)) true (bitOf (addBits standing next deps) m)
+        → bitOf (reachBits standing set ds next) m ≡ cond (cond s false (asked ds l m)) true (bitOf next m)
+        → bitOf (reachBits standing set ds (cond (bitOf set (d .filename)) (addBits standing next deps) next)) m
+        ≡ cond (cond s false (cond (hasText (d .filename) l) (cond (hasText m deps) true (asked ds l m)) (asked ds l m))) true (bitOf next m)
     go true q a b =
         rw (q, sym (i .has (d .filename) (r .0)) ∙ q)
-        (a ∙ ap (λ (t : Bool). cond (asked ds l m) true t) (add-bits next deps m (w .1)) ∙ join (hasText m deps) (asked ds l m) (bitOf next m))
+        (a ∙ ap (λ (t : Bool). cond (cond s false (asked ds l m)) true t) (add-bits standing next deps m (w .1))
+        ∙ or-new s (hasText m deps) (asked ds l m) (bitOf next m))
     go false q a b = rw (q, sym (i .has (d .filename) (r .0)) ∙ q) b
 
 -- `add`, `add_includes` and `reach` on sets
 pub set-add : (bits l : List ℕ) (n : ℕ) → SetIs bits l → n < length bits * 64 → SetIs (addBit bits n) (n ∷ l)
 set-add bits l n i h = record { has = λ m g. add-bit bits n m (word-in bits n h) ∙ rw (i .has m g) }
 
-pub set-reached : (set l next l′ : List ℕ) (ds : List Document) → SetIs set l → SetIs next l′ → Distinct ds → InSets setSize ds
-    → Room next ds → SetIs (reachBits set ds next) (reachedFrom [] ds l l′)
-set-reached set l next l′ ds i j u r w = record {
-  has = λ m g. reach-bits set l ds next m i r w ∙ rw (j .has m g, ← asks-asked ds l m u) (sym (has-reached ds l l′ m));
+pub set-adds : {standing stand : List ℕ} (bits l ns : List ℕ) → SetIs standing stand → SetIs bits l → Below (length bits * 64) ns
+    → SetIs (addBits standing bits ns) (insertNumbers stand ns l)
+set-adds {standing} {stand} bits l ns s i b = record {
+  has = λ m g. add-bits standing bits ns m b ∙ rw (s .has m g, i .has m g) (sym (has-inserts stand m ns l));
+}
+
+pub set-reached : {standing stand : List ℕ} (set l next l′ : List ℕ) (ds : List Document) → SetIs standing stand → SetIs set l → SetIs next l′ → Distinct ds
+    → InSets setSize ds → Room next ds → SetIs (reachBits standing set ds next) (reachedFrom stand ds l l′)
+set-reached {standing} {stand} set l next l′ ds s i j u r w = record {
+  has = λ m g. reach-bits standing set l ds next m i r w ∙ rw (s .has m g, j .has m g, ← asks-asked ds l m u) (sym (has-reached stand ds l l′ m));
 }
 
 -- numbers that are added leave the others in
@@ -283,82 +365,98 @@ grows-same bits = record { stays = λ n h. h }
 pub add-grows : (bits : List ℕ) (n : ℕ) → n < length bits * 64 → Grows bits (addBit bits n)
 add-grows bits n l = record { stays = λ m h. add-bit bits n m (word-in bits n l) ∙ or-true (eqb n m) h }
 
-adds-grow : (bits ns : List ℕ) → Below (length bits * 64) ns → Grows bits (addBits bits ns)
-adds-grow bits ns b = record { stays = λ m h. add-bits bits ns m b ∙ or-true (hasText m ns) h }
+adds-grow : (standing bits ns : List ℕ) → Below (length bits * 64) ns → Grows bits (addBits standing bits ns)
+adds-grow standing bits ns b = record {
+  stays = λ m h. add-bits standing bits ns m b ∙ or-true (cond (bitOf standing m) false (hasText m ns)) h;
+}
 
-reach-grows : (set : List ℕ) (ds : List Document) (next : List ℕ) → Room next ds → Grows next (reachBits set ds next)
-reach-grows set [] next w = grows-same next
-reach-grows set (d ∷ ds) next w =
-    go (bitOf set (d .filename)) (reach-grows set ds (addBits next deps) (rw (addBits-length next deps) (w .2))) (reach-grows set ds next (w .2))
+reach-grows : (standing set : List ℕ) (ds : List Document) (next : List ℕ) → Room next ds → Grows next (reachBits standing set ds next)
+reach-grows standing set [] next w = grows-same next
+reach-grows standing set (d ∷ ds) next w =
+    go (bitOf set (d .filename)) (reach-grows standing set ds (addBits standing next deps) (rw (addBits-length standing next deps) (w .2)))
+    (reach-grows standing set ds next (w .2))
   where
     deps : List ℕ
     deps = dependencies (d .definitions)
 
-    go : (t : Bool) → Grows (addBits next deps) (reachBits set ds (addBits next deps)) → Grows next (reachBits set ds next)
-        → Grows next (reachBits set ds (cond t (addBits next deps) next))
-    go true a b = record { stays = λ m h. a .stays m (adds-grow next deps (w .1) .stays m h) }
+    go : (t : Bool) → Grows (addBits standing next deps) (reachBits standing set ds (addBits standing next deps)) → Grows next (reachBits standing set ds next)
+        → Grows next (reachBits standing set ds (cond t (addBits standing next deps) next))
+    go true a b = record { stays = λ m h. a .stays m (adds-grow standing next deps (w .1) .stays m h) }
     go false a b = b
 
--- numbers that are all in a set
-all-of : (bits ns : List ℕ) → ((m : ℕ) → hasText m ns ≡ true → bitOf bits m ≡ true) → allBits bits ns ≡ true
-all-of bits [] h = refl
-all-of bits (n ∷ ns) h = rw (h n (has-head n ns)) (all-of bits ns (λ m e. h m (or-true (eqb n m) e)))
+-- numbers that stand or are in a set
+all-of : (standing bits ns : List ℕ) → ((m : ℕ) → hasText m ns ≡ true → cond (bitOf standing m) true (bitOf bits m) ≡ true) → allKnown standing bits ns ≡ true
+all-of standing bits [] h = refl
+all-of standing bits (n ∷ ns) h = rw (h n (has-head n ns)) (all-of standing bits ns (λ m e. h m (or-true (eqb n m) e)))
 
-all-stay : {bits larger : List ℕ} (ns : List ℕ) → Grows bits larger → allBits bits ns ≡ true → allBits larger ns ≡ true
-all-stay [] g h = refl
-all-stay {bits} {larger} (n ∷ ns) g h = go (bitOf bits n) refl h (λ e. all-stay ns g e)
+all-stay : (standing : List ℕ) {bits larger : List ℕ} (ns : List ℕ) → Grows bits larger → allKnown standing bits ns ≡ true → allKnown standing larger ns ≡ true
+all-stay standing [] g h = refl
+all-stay standing {bits} {larger} (n ∷ ns) g h = go (bitOf standing n) (bitOf bits n) refl h (λ e. all-stay standing ns g e)
   where
-    go : (t : Bool) → bitOf bits n ≡ t → cond t (allBits bits ns) false ≡ true → (allBits bits ns ≡ true → allBits larger ns ≡ true)
-        → cond (bitOf larger n) (allBits larger ns) false ≡ true
-    go true q e r = rw (g .stays n q) (r e)
-    go false q e r = never (sym e)
+    go : (s t : Bool) → bitOf bits n ≡ t → cond (cond s true t) (allKnown standing bits ns) false ≡ true
+        → (allKnown standing bits ns ≡ true → allKnown standing larger ns ≡ true)
+        → cond (cond s true (bitOf larger n)) (allKnown standing larger ns) false ≡ true
+    go true t q e r = r e
+    go false true q e r = rw (g .stays n q) (r e)
+    go false false q e r = never (sym e)
 
-pub added-already : (bits ns : List ℕ) → allBits bits ns ≡ true → addBits bits ns ≡ bits
+pub added-already : (standing bits ns : List ℕ) → allKnown standing bits ns ≡ true → addBits standing bits ns ≡ bits
 unfolding addBit
-added-already bits [] h = refl
-added-already bits (n ∷ ns) h = go (bitOf bits n) refl h (λ e. added-already bits ns e)
+added-already standing bits [] h = refl
+added-already standing bits (n ∷ ns) h = go (bitOf standing n) (bitOf bits n) refl refl h (λ e. added-already standing bits ns e)
   where
-    go : (t : Bool) → bitOf bits n ≡ t → cond t (allBits bits ns) false ≡ true → (allBits bits ns ≡ true → addBits bits ns ≡ bits)
-        → addBits (addBit bits n) ns ≡ bits
-    go true q e r = rw q (r e)
-    go false q e r = never (sym e)
+    go : (s t : Bool) → bitOf standing n ≡ s → bitOf bits n ≡ t → cond (cond s true t) (allKnown standing bits ns) false ≡ true
+        → (allKnown standing bits ns ≡ true → addBits standing bits ns ≡ bits) → addBits standing (addAbsent standing bits n) ns ≡ bits
+    go true t p q e r = rw p (r e)
+    go false true p q e r = rw (p, q) (r e)
+    go false false p q e r = never (sym e)
 
 -- documents that were read: none at first; what they include stays in; and those of a set, once what they include is reached
-pub covers-none : (read next : List ℕ) (ds : List Document) → SetIs read [] → InSets setSize ds → Covers read next ds
-covers-none read next [] i s = tt
-covers-none read next (d ∷ ds) i s = (λ h. never (sym h ∙ i .has (d .filename) (s .0)), covers-none read next ds i (s .2))
+pub covers-none : (standing read next : List ℕ) (ds : List Document) → SetIs read [] → InSets setSize ds → Covers standing read next ds
+covers-none standing read next [] i s = tt
+covers-none standing read next (d ∷ ds) i s = (λ h. never (sym h ∙ i .has (d .filename) (s .0)), covers-none standing read next ds i (s .2))
 
-covers-stay : (read next larger : List ℕ) (ds : List Document) → Grows next larger → Covers read next ds → Covers read larger ds
-covers-stay read next larger [] g c = tt
-covers-stay read next larger (d ∷ ds) g c = (λ h. all-stay (dependencies (d .definitions)) g (c .0 h), covers-stay read next larger ds g (c .1))
+covers-stay : (standing read next larger : List ℕ) (ds : List Document) → Grows next larger → Covers standing read next ds → Covers standing read larger ds
+covers-stay standing read next larger [] g c = tt
+covers-stay standing read next larger (d ∷ ds) g c =
+    (λ h. all-stay standing (dependencies (d .definitions)) g (c .0 h), covers-stay standing read next larger ds g (c .1))
 
-pub covers-added : (read next ns : List ℕ) (ds : List Document) → Below (length next * 64) ns → Covers read next ds → Covers read (addBits next ns) ds
-covers-added read next ns ds b c = covers-stay read next (addBits next ns) ds (adds-grow next ns b) c
+pub covers-added : (standing read next ns : List ℕ) (ds : List Document) → Below (length next * 64) ns → Covers standing read next ds
+    → Covers standing read (addBits standing next ns) ds
+covers-added standing read next ns ds b c = covers-stay standing read next (addBits standing next ns) ds (adds-grow standing next ns b) c
 
-pub covers-reached : (set : List ℕ) (ds : List Document) (next : List ℕ) → Room next ds → Covers set (reachBits set ds next) ds
-covers-reached set [] next w = tt
-covers-reached set (d ∷ ds) next w = go (bitOf set (d .filename)) refl (λ next′ w′. covers-reached set ds next′ w′)
+pub covers-reached : (standing set : List ℕ) (ds : List Document) (next : List ℕ) → Room next ds → Covers standing set (reachBits standing set ds next) ds
+covers-reached standing set [] next w = tt
+covers-reached standing set (d ∷ ds) next w = go (bitOf set (d .filename)) refl (λ next′ w′. covers-reached standing set ds next′ w′)
   where
     deps : List ℕ
     deps = dependencies (d .definitions)
 
-    added : Room (addBits next deps) ds
-    added = rw (addBits-length next deps) (w .2)
+    added : Room (addBits standing next deps) ds
+    added = rw (addBits-length standing next deps) (w .2)
 
-    go : (t : Bool) → bitOf set (d .filename) ≡ t → ((next′ : List ℕ) → Room next′ ds → Covers set (reachBits set ds next′) ds)
-        → Covers set (reachBits set (d ∷ ds) next) (d ∷ ds)
+    known : (s h b : Bool) → h ≡ true → cond s true (cond (cond s false h) true b) ≡ true
+    known true h b e = refl
+    known false h b e = ap (λ (t : Bool). cond t true b) e
+
+    there : (m : ℕ) → hasText m deps ≡ true → cond (bitOf standing m) true (bitOf (addBits standing next deps) m) ≡ true
+    there m e =
+        ap (λ (t : Bool). cond (bitOf standing m) true t) (add-bits standing next deps m (w .1)) ∙ known (bitOf standing m) (hasText m deps) (bitOf next m) e
+
+    go : (t : Bool) → bitOf set (d .filename) ≡ t
+        → ((next′ : List ℕ) → Room next′ ds → Covers standing set (reachBits standing set ds next′) ds)
+        → Covers standing set (reachBits standing set (d ∷ ds) next) (d ∷ ds)
     go true q r = rw q (
-      λ h. all-stay deps (reach-grows set ds (addBits next deps) added)
-          (all-of (addBits next deps) deps (λ m e. add-bits next deps m (w .1) ∙ ap (λ (t : Bool). cond t true (bitOf next m)) e)),
-      r (addBits next deps) added,
+      λ h. all-stay standing deps (reach-grows standing set ds (addBits standing next deps) added) (all-of standing (addBits standing next deps) deps there),
+      r (addBits standing next deps) added,
     )
     go false q r = rw q (λ h. never (sym h), r next (w .2))
 
 -- nothing new is reached: no further round finds more
-pub needed-still : (k : ℕ) (ds : List Document) (l : List ℕ) → reachedFrom [] ds l l ≡ l → neededIn k [] ds l ≡ l
+pub needed-still : (stand : List ℕ) (k : ℕ) (ds : List Document) (l : List ℕ) → reachedFrom stand ds l l ≡ l → neededIn k stand ds l ≡ l
 unfolding neededIn
-needed-still zero ds l h = refl
-needed-still (suc k) ds l h = ap (λ (x : List ℕ). neededIn k [] ds x) h ∙ needed-still k ds l h
+needed-still stand zero ds l h = refl
+needed-still stand (suc k) ds l h = ap (λ (x : List ℕ). neededIn k stand ds x) h ∙ needed-still stand k ds l h
 
 -- numbers that are all in a set, by its words
 pub all-bits : (bits l ns : List ℕ) → SetIs bits l → Below setSize ns → allBits bits ns ≡ allIn ns l
@@ -374,43 +472,3 @@ missing-by n (d ∷ ds) o = go (eqb (d .filename) n) refl (missing-by n ds o)
         → missingBy (findDocument n (d ∷ ds)) n o ≡ cond (hasText n (files (d ∷ ds))) o (some n)
     go true q ih = rw q
     go false q ih = rw q ih
-
--- the numbers of a set from one on
-pub record SetFrom (bits : List ℕ) (k : ℕ) (l : List ℕ) : Type 0 where
-  pub ascends : Ascends k l
-  pub below : Below setSize l
-  pub has : (m : ℕ) → k ≤ m → m < setSize → bitOf bits m ≡ hasText m l
-
-pub set-from : {bits l : List ℕ} → Ascends 0 l → Below setSize l → SetIs bits l → SetFrom bits 0 l
-set-from a b i = record { ascends = a; below = b; has = λ m h g. i .has m g }
-
-pub next-none : {bits : List ℕ} {k r : ℕ} (l : List ℕ) → SetFrom bits k l → NextIn bits k r → setSize ≤ r → l ≡ []
-next-none [] s n h = refl
-next-none (x ∷ xs) s n h =
-    let b = s .below .0 in
-    never (sym (has-head x xs) ∙ sym (s .has x (s .ascends .0) b) ∙ n .between x (s .ascends .0) (omega arith))
-
-pub record Split (bits : List ℕ) (r : ℕ) (l : List ℕ) : Type 0 where
-  pub rest : List ℕ
-  pub is : l ≡ r ∷ rest
-  pub after : SetFrom bits (r + 1) rest
-
-pub next-some : {bits : List ℕ} {k r : ℕ} (l : List ℕ) → SetFrom bits k l → NextIn bits k r → r < setSize → Split bits r l
-next-some {bits} {k} {r} [] s n h = never (sym (n .here h) ∙ s .has r (n .on) h)
-next-some {bits} {k} {r} (x ∷ xs) s n h = go (order x r)
-  where
-    there : hasText r (x ∷ xs) ≡ true
-    there = sym (s .has r (n .on) h) ∙ n .here h
-
-    go : Order x r → Split bits r (x ∷ xs)
-    go (less l) = never (sym (has-head x xs) ∙ sym (s .has x (s .ascends .0) (s .below .0)) ∙ n .between x (s .ascends .0) l)
-    go (same q) = record {
-      rest = xs;
-      is = rw q;
-      after = record {
-        ascends = rw q at (s .ascends .1);
-        below = s .below .1;
-        has = λ m a b. s .has m (omega (arith, n .on)) b ∙ has-tail m x xs (λ z. omega arith);
-      };
-    }
-    go (more l) = never (sym there ∙ has-not x (x ∷ xs) (omega arith, s .ascends .1) r l)

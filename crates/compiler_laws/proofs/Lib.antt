@@ -29,6 +29,7 @@ pub mod MapEntries
 pub mod MethodOrder
 pub mod MethodsTogether
 pub mod ModelsFound
+pub mod NextNumbers
 pub mod NotesOfDocuments
 pub mod PublicNames
 pub mod PublishedNames

@@ -12,16 +12,16 @@ use Rattle.tree.specs.Check.{shapeOf}
 use Rattle.tree.specs.Reading.{documentsOf}
 use Rattle.tree.specs.declared.Shape.{Shape}
 use Rattle.tree.specs.declared.Shape.the-variants.{Fine, Refused}
-use Rattle.definition.specs.Book.{newContext}
-use Rattle.definition.specs.DependencySolver.{needed, missing}
-use Rattle.definition.specs.Answer.{answerNeeded, answerBundle, answerFrom, answer}
+use Rattle.definition.specs.Book.{Context, newContext}
+use Rattle.definition.specs.DependencySolver.{loadedOf, needed, missing, compileNeeded}
+use Rattle.definition.specs.Answer.{Refusal, answerNeeded, answerBundle, answerWorked, answerFrom, answer}
 use Rattle.definition.specs.Answer.{twice, documentPlaces, limitsOf}
 use Rattle.building.specs.declared.scopes.Found.{Found}
 use Rattle.building.specs.declared.scopes.Found.the-variants.{At, Nothing}
 use Rattle.building.specs.Found.{foundOf}
 use Rattle.compiler_laws.specs.FileSets.{SetIs}
 use Rattle.compiler_laws.specs.SolverSteps.{InSets, Bundle, Room, Distinct, Twice, FindsTwice, Needs, Misses}
-use Rattle.compiler_laws.specs.BooksInOrder.{Fresh, Fronts}
+use Rattle.compiler_laws.specs.BooksInOrder.{Fresh, Accepted, FrontRows, Fronts}
 use Rattle.definition_laws.proofs.Answer.{ShapeRow, fine, refused, shape-row}
 use Rattle.compiler_laws.proofs.BundleRange.{fine-bundle, fine-root}
 use Rattle.compiler_laws.proofs.BooksNeeded.{set-empty, needed-ascends, needed-below}
@@ -40,12 +40,25 @@ shape-number : {x : Shape} → ShapeRow x → (row place : ℕ) → x ≡ Refuse
 shape-number fine row place h z = absurd (let y : _≡_ {A = ℕ} 0 1 = cc in omega arith)
 shape-number (refused {r = r} p x) row place h z = let same : row ≡ r = cc in no-row x (sym same ∙ z)
 
-pub front-shape : (tree set : List ℕ) {row place : ℕ} {x : Shape} → x ≡ shapeOf tree → x ≡ Refused row place → Fronts tree row place set
-unfolding answer answerFrom
-front-shape tree set {row} {place} q h = record {
-  refused = λ ne strict lengths. rw (sym q ∙ h);
-  accepted = λ z. absurd (shape-number (shape-row tree) row place (sym q ∙ h) z);
+pub front-shape : (tree standing set : List ℕ) {row place : ℕ} {x : Shape} → x ≡ shapeOf tree → x ≡ Refused row place → Fronts tree standing row place set
+unfolding answerFrom
+front-shape tree standing set {row} {place} q h = record {
+  rows = λ files s. record {
+    refused = λ ne c l lengths. rw (sym q ∙ h);
+    accepted = λ z. absurd (shape-number (shape-row tree) row place (sym q ∙ h) z);
+  };
 }
+
+-- of a fresh call
+pub fresh-refused : {tree : List ℕ} {row place : ℕ} {set : List ℕ} → FrontRows tree row place set [] → (row ≡ 0 → ⊥) → (strict : Bool) (lengths : List ℕ)
+    → answer strict tree lengths ≡ Refusal row place []
+unfolding answer answerFrom
+fresh-refused F ne strict lengths = F .refused ne (newContext strict) refl lengths
+
+pub fresh-answers : {tree set : List ℕ} {root : Document} {others : List Document} → Accepted tree set [] root others → (strict : Bool) (lengths : List ℕ)
+    → answer strict tree lengths ≡ answerWorked (limitsOf lengths) (compileNeeded (needed [] root others) (root ∷ others) (newContext strict))
+unfolding answer answerFrom
+fresh-answers A strict lengths = A .answers (newContext strict) refl lengths
 
 -- zeros with a bit for each number
 pub fresh-zeros : (tree : List ℕ) (k : ℕ) → ((ds : List Document) → Bundle ds tree 0 (length tree / 4) → InSets (k * 64) ds) → Fresh tree (replicate k 0)
@@ -71,19 +84,21 @@ module _ (tree : List ℕ) {x : Shape} (shape-is : x ≡ shapeOf tree) (fine-is 
   finds : (ds : List Document) → Bundle ds tree 0 end → Twice tree end ds r present′
   finds ds b = F .finds ds b (rw same (room ds b)) (rw same empty)
 
-  pub front-twice : (set : List ℕ) {i : ℕ} → r ≡ At i → Fronts tree 5 i set
-  unfolding answer answerFrom
-  front-twice set {i} at = record {
-    refused = λ ne strict lengths. rw (
-      is-fine,
-      found-some (twice [] tree (documentPlaces tree)) i (sym at ∙ finds (documentsOf tree) bundle .answer end-is),
-    );
-    accepted = λ z. absurd (omega arith);
+  pub front-twice : (standing set : List ℕ) {i : ℕ} → r ≡ At i → Fronts tree standing 5 i set
+  unfolding answerFrom
+  front-twice standing set {i} at = record {
+    rows = λ files s. record {
+      refused = λ ne c l lengths. rw (
+        is-fine,
+        found-some (twice [] tree (documentPlaces tree)) i (sym at ∙ finds (documentsOf tree) bundle .answer end-is),
+      );
+      accepted = λ z. absurd (omega arith);
+    };
   }
 
   -- the set of the file numbers is lent to `needed`, and made again after it
-  module _ (none-twice : r ≡ Nothing) {read again files′ set : List ℕ} {r′ m : Found} (read-is : read ≡ clearedFrom 0 present′)
-      (N : Needs tree end read chosen₀ set) (kept : length set ≡ length chosen₀)
+  module _ (none-twice : r ≡ Nothing) {standing read again files′ set : List ℕ} {r′ m : Found} (read-is : read ≡ clearedFrom 0 present′)
+      (N : Needs tree end standing read chosen₀ set) (kept : length set ≡ length chosen₀)
       (again-is : again ≡ replicate (length chosen₀) 0) (F′ : FindsTwice tree end again r′ files′) (M : Misses set files′ m) where
     again-long : length again ≡ length chosen₀
     again-long = ap length again-is ∙ length-replicate {A = ℕ} (length chosen₀) 0
@@ -97,9 +112,9 @@ module _ (tree : List ℕ) {x : Shape} (shape-is : x ≡ shapeOf tree) (fine-is 
     once : twice [] tree (documentPlaces tree) ≡ none
     once = found-none (twice [] tree (documentPlaces tree)) (sym none-twice ∙ finds (documentsOf tree) bundle .answer end-is)
 
-    module _ (root : Document) (others : List Document) (documents : documentsOf tree ≡ root ∷ others) where
+    module _ (files : List ℕ) (stands : SetIs standing files) (root : Document) (others : List Document) (documents : documentsOf tree ≡ root ∷ others) where
       abbrev numbers : List ℕ
-      numbers = needed [] root others
+      numbers = needed files root others
 
       bundled : Bundle (root ∷ others) tree 0 end
       bundled = rw documents at bundle
@@ -108,29 +123,29 @@ module _ (tree : List ℕ) {x : Shape} (shape-is : x ≡ shapeOf tree) (fine-is 
       distinct = finds (root ∷ others) bundled .distinct none-twice
 
       chosen : SetIs set numbers
-      chosen = N .needs root others bundled distinct (room (root ∷ others) bundled) empty (rw read-is (set-empty (length present′ - 0)))
+      chosen = N .needs files stands root others bundled distinct (room (root ∷ others) bundled) empty (rw read-is (set-empty (length present′ - 0)))
 
       absent : m ≡ foundOf (missing (root ∷ others) numbers)
       absent =
-          M .misses (root ∷ others) numbers (needed-ascends root others) (needed-below root others (bundled .numbers)) chosen
+          M .misses (root ∷ others) numbers (needed-ascends files root others) (needed-below files root others (bundled .numbers)) chosen
           (finds-again (root ∷ others) bundled .present none-again)
 
-      so-far : (strict : Bool) (lengths : List ℕ) → answer strict tree lengths ≡ answerNeeded (missing (root ∷ others) numbers) numbers (root
-          ∷ others) (limitsOf lengths) (newContext strict)
-      unfolding answer answerFrom answerBundle
-      so-far strict lengths = rw (is-fine, once, documents)
+      so-far : (c : Context) → loadedOf c ≡ files → (lengths : List ℕ)
+          → answerFrom c tree lengths ≡ answerNeeded (missing (root ∷ others) numbers) numbers (root ∷ others) (limitsOf lengths) c
+      unfolding answerFrom answerBundle
+      so-far c loaded lengths = rw (is-fine, once, documents, loaded)
 
-      no-root : {y : ℕ} → m ≡ At y → Fronts tree 6 y set
+      no-root : {y : ℕ} → m ≡ At y → FrontRows tree 6 y set files
       no-root {y} at = record {
-        refused = λ ne strict lengths. so-far strict lengths ∙ rw (found-some (missing (root ∷ others) numbers) y (sym at ∙ absent));
+        refused = λ ne c loaded lengths. so-far c loaded lengths ∙ rw (found-some (missing (root ∷ others) numbers) y (sym at ∙ absent));
         accepted = λ z. absurd (omega arith);
       }
 
-      all-there : m ≡ Nothing → Fronts tree 0 0 set
+      all-there : m ≡ Nothing → FrontRows tree 0 0 set files
       all-there nothing =
           let there : missing (root ∷ others) numbers ≡ none = found-none (missing (root ∷ others) numbers) (sym nothing ∙ absent) in
           record {
-            refused = λ ne strict lengths. absurd (ne refl);
+            refused = λ ne c loaded lengths. absurd (ne refl);
             accepted = λ z. (
               root,
               (
@@ -143,14 +158,14 @@ module _ (tree : List ℕ) {x : Shape} (shape-is : x ≡ shapeOf tree) (fine-is 
                   chosen = chosen;
                   room = rw kept (room (root ∷ others) bundled);
                   there = there;
-                  answers = λ strict lengths. so-far strict lengths ∙ rw there;
+                  answers = λ c loaded lengths. so-far c loaded lengths ∙ rw there;
                 },
               ),
             );
           }
 
-    pub front-missing : {y : ℕ} → m ≡ At y → Fronts tree 6 y set
-    front-missing at = let d = fine-root tree is-fine in no-root (d .0) (d .1) (d .2) at
+    pub front-missing : {y : ℕ} → m ≡ At y → Fronts tree standing 6 y set
+    front-missing at = let d = fine-root tree is-fine in record { rows = λ files s. no-root files s (d .0) (d .1) (d .2) at }
 
-    pub front-ready : m ≡ Nothing → Fronts tree 0 0 set
-    front-ready nothing = let d = fine-root tree is-fine in all-there (d .0) (d .1) (d .2) nothing
+    pub front-ready : m ≡ Nothing → Fronts tree standing 0 0 set
+    front-ready nothing = let d = fine-root tree is-fine in record { rows = λ files s. all-there files s (d .0) (d .1) (d .2) nothing }

@@ -12,7 +12,7 @@ use lib.Dec.{eqb}
 use lib.Pow.{pow-pos, pow-lt, pow-add, shl-shr, shl-exact}
 use lib.Bits.{bitOr, or-shr, or-mod, or-zero-r}
 use borrow.Author.Tests.{eq-eqb, ne-eqb}
-use Rattle.compiler_laws.specs.FileSets.{bitOf, addBit, Added, NextIn, NoneBetween, Zeros, setSize}
+use Rattle.compiler_laws.specs.FileSets.{bitOf, addBit, Added, AddedAbsent, NextIn, NoneBetween, Zeros, setSize}
 
 -- powers of two have one bit
 pow-other : (j k : ℕ) → (j ≡ k → ⊥) → 2 ^ k / 2 ^ j % 2 ≡ 0
@@ -71,6 +71,14 @@ add-new bits n h =
       words = rw (← h) (ap (λ (y : ℕ). set bits (n / 64) (bitOr (getD bits (n / 64) 0) y)) (e ∙ one-mul (2 ^ (n % 64))));
       is-new = rw (← h);
     }
+
+-- `add_absent`
+pub absent-stands : (standing bits : List ℕ) (n : ℕ) → true ≡ bitOf standing n → AddedAbsent standing bits n bits false
+absent-stands standing bits n h = record { words = rw (← h); is-new = rw (← h) }
+
+pub absent-added : {standing bits : List ℕ} {n : ℕ} {after : List ℕ} {fresh : Bool} → false ≡ bitOf standing n → Added bits n after fresh
+    → AddedAbsent standing bits n after fresh
+absent-added h a = record { words = a .words ∙ rw (← h) refl; is-new = a .is-new ∙ rw (← h) refl }
 
 same-place : (n m : ℕ) → n / 64 ≡ m / 64 → n % 64 ≡ m % 64 → n ≡ m
 same-place n m q r = omega (arith, div-add-mod' n 64, div-add-mod' m 64)

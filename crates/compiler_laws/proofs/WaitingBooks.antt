@@ -26,7 +26,8 @@ use Rattle.compiler_laws.specs.FileSets.{setSize, bitOf, allBits, SetIs,
 use Rattle.compiler_laws.specs.SolverSteps.{Bundle, placeOf, FindsDocument, bookUnit, placeUnit, waiting, TakesBooks, AllIncluded, Grows, ReadTo, FirstUncompiled}
 use Rattle.compiler_laws.specs.SolverSteps.{Waits, AllWait, Stands, Ready, NoneReady, FindsReady, Brings, Skips, Lowers, FindsNext}
 use Rattle.compiler_laws.proofs.Tokens.{skip-law}
-use Rattle.compiler_laws.proofs.FileLists.{all-bits, grows-same, found-below, SetFrom, set-from, next-some, next-none}
+use Rattle.compiler_laws.proofs.FileLists.{all-bits, grows-same, found-below}
+use Rattle.compiler_laws.proofs.NextNumbers.{SetFrom, set-from, next-some, next-none}
 use Rattle.compiler_laws.proofs.DocumentsRead.{bundle-first, bundle-next, bundle-past, bundle-none, bundle-rest, bundle-fits, defs-end, defs-other, defs-more}
 
 -- a document from a place on
@@ -246,15 +247,12 @@ module _ (tree : List ℕ) (end : ℕ) (set : List ℕ) (k : ℕ) (t : Taken) (b
                 let is12 : t′ .full ≡ booksArea = ap (λ (x : Taken). x .full) (p .0) in
                 M .marked (λ q. omega arith) .0 ∙ is12
 
-pub takes-whole : (tree : List ℕ) (end : ℕ) (set : List ℕ) (full : ℕ) (books : List ℕ) {r : Taken} {after : List ℕ}
-    → TakesFrom tree end set 0 (taken full 0) books r after → TakesBooks tree end set full books r after
-takes-whole tree end set full books T = record {
+pub takes-whole : (tree : List ℕ) (end : ℕ) (set : List ℕ) (full stand : ℕ) (books : List ℕ) {r : Taken} {after : List ℕ}
+    → TakesFrom tree end set 0 (taken full stand) books r after → TakesBooks tree end set full stand books r after
+takes-whole tree end set full stand books T = record {
   marked = T .marked;
-  fits = λ ds l b a w s z f.
-      let p = T .fits ds l b (set-from a w s) z (omega arith) in
-      let c : 0 + length l ≡ length l = omega arith in
-      rw c at p;
-  over = λ ds l b a w s z f. T .over ds l b (set-from a w s) z (omega arith) (omega arith);
+  fits = λ ds l b a w s z f. T .fits ds l b (set-from a w s) z f;
+  over = λ ds l b a w s z c f. T .over ds l b (set-from a w s) z c f;
 }
 
 -- whether a document is there, and where

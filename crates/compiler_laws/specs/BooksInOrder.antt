@@ -14,18 +14,16 @@ use Rattle.definition.specs.Uses.{Use, Limits, firstOver}
 use Rattle.definition.specs.Compiler.{Error}
 use Rattle.definition.specs.Program.{bit, entriesFrom, constantEntry, errorEntry, globalDependencies}
 use Rattle.definition.specs.DependencySolver.{needed, missing, compileNeeded, loadedOf, Ending, Delivered, Faulty, Ring, Worked}
-use Rattle.definition.specs.Answer.{Refusal, ringErrors, answerWorked, limitsOf, answer}
+use Rattle.definition.specs.Answer.{Refusal, ringErrors, answerWorked, limitsOf, answerFrom}
 use Rattle.tree.specs.Check.{shapeOf}
 use Rattle.tree.specs.Reading.{documentsOf}
 use Rattle.tree.specs.declared.Shape.the-variants.{Fine}
 use Rattle.definition.specs.Book.{hasText, newContext, Context, Book, bookCount}
-use Rattle.definition.specs.Within.{All}
-use Rattle.definition_laws.proofs.Limits.{LimitedDocument}
 use Rattle.building.specs.declared.taking.Taken.{Taken}
 use Rattle.building.specs.Held.{Filled, Marks, Sized}
 use Rattle.compiler_laws.specs.declared.book.Book as struct
-use Rattle.compiler_laws.specs.FileSets.{SetIs, Ascends}
-use Rattle.compiler_laws.specs.SolverSteps.{bookUnit, Bundle, Room, Distinct, Stands}
+use Rattle.compiler_laws.specs.FileSets.{SetIs}
+use Rattle.compiler_laws.specs.SolverSteps.{bookUnit, Bundle, Room, Distinct}
 use Rattle.compiler_laws.specs.OpenedBooks.{Resting}
 use Rattle.compiler_laws.specs.BookAreas.{shelf, Fitted}
 
@@ -56,22 +54,26 @@ pub record Fresh (tree set : List ℕ) : Type 0 where
   pub empty : Zero set
   pub room : (ds : List Document) → Bundle ds tree 0 (length tree / 4) → Room set ds
 
--- the work that is left after rows 2 to 6: the documents, their order's numbers, and the answer by them
-pub record Accepted (tree set : List ℕ) (root : Document) (others : List Document) : Type 0 where
+-- the work that is left after rows 2 to 6: the documents, their order's numbers, and the answer by them from each context in which the books of these files stand
+pub record Accepted (tree set files : List ℕ) (root : Document) (others : List Document) : Type 0 where
   pub fine : shapeOf tree ≡ Fine
   pub documents : documentsOf tree ≡ root ∷ others
   pub bundle : Bundle (root ∷ others) tree 0 (length tree / 4)
   pub distinct : Distinct (root ∷ others)
-  pub chosen : SetIs set (needed [] root others)
+  pub chosen : SetIs set (needed files root others)
   pub room : Room set (root ∷ others)
-  pub there : missing (root ∷ others) (needed [] root others) ≡ none
-  pub answers : (strict : Bool) (lengths : List ℕ)
-      → answer strict tree lengths ≡ answerWorked (limitsOf lengths) (compileNeeded (needed [] root others) (root ∷ others) (newContext strict))
+  pub there : missing (root ∷ others) (needed files root others) ≡ none
+  pub answers : (c : Context) → loadedOf c ≡ files → (lengths : List ℕ)
+      → answerFrom c tree lengths ≡ answerWorked (limitsOf lengths) (compileNeeded (needed files root others) (root ∷ others) c)
 
 -- `front`: a row of 2 to 6 and its place, in either mode, or row 0 and the work that is left
-pub record Fronts (tree : List ℕ) (row place : ℕ) (set : List ℕ) : Type 0 where
-  pub refused : (row ≡ 0 → ⊥) → (strict : Bool) (lengths : List ℕ) → answer strict tree lengths ≡ Refusal row place []
-  pub accepted : row ≡ 0 → (root : Document) × ((others : List Document) × Accepted tree set root others)
+pub record FrontRows (tree : List ℕ) (row place : ℕ) (set files : List ℕ) : Type 0 where
+  pub refused : (row ≡ 0 → ⊥) → (c : Context) → loadedOf c ≡ files → (lengths : List ℕ) → answerFrom c tree lengths ≡ Refusal row place []
+  pub accepted : row ≡ 0 → (root : Document) × ((others : List Document) × Accepted tree set files root others)
+
+-- whichever books are those of the set that stand
+pub record Fronts (tree standing : List ℕ) (row place : ℕ) (set : List ℕ) : Type 0 where
+  pub rows : (files : List ℕ) → SetIs standing files → FrontRows tree row place set files
 
 -- how the books end, where nothing is full: `rest` is what stands in area 12 behind the books; of a delivery `place` is the number of books
 pub data Came (κ : Limits) (s : struct.Book) (c k f m p t l u n b e books rest : List ℕ) (row place : ℕ) (uses : List Use) : Ending → Type 0 where
@@ -87,17 +89,6 @@ pub data Came (κ : Limits) (s : struct.Book) (c k f m p t l u n b e books rest 
 pub record Outcome (κ : Limits) (s : struct.Book) (c k f m p t l u n b e books rest : List ℕ) (row place : ℕ) (w : Worked) : Type 0 where
   pub full : Marks (firstOver κ (w .uses)) (s .full)
   pub came : s .full ≡ 0 → Came κ s c k f m p t l u n b e books rest row place (w .uses) (w .ending)
-
--- where the work stands: the books that are left, those compiled, and the areas between two books
-pub record Driving (ds : List Document) (tree : List ℕ) (end done count : ℕ) (left rest compiled set books : List ℕ) (κ : Limits) (s : struct.Book)
-    (c k f m p t l u n b e : List ℕ) (context : Context) (uses : List Use) : Type 0 where
-  pub distinct : Distinct ds
-  pub limited : All LimitedDocument ds
-  pub ascends : Ascends 0 left
-  pub stands : Stands ds tree end (loadedOf context) left rest books set compiled
-  pub so-many : done ≡ bookCount context
-  pub in-all : count ≡ done + length left
-  pub resting : Resting κ s c k f m p t l u n b e context uses
 
 -- `first_constants`: null, true and false
 pub record FirstConstants (k : List ℕ) (r : Taken) (k′ : List ℕ) : Type 0 where
@@ -131,7 +122,7 @@ pub record Cleared (c k f m p t l u n b e o : List ℕ) : Type 0 where
 -- `work`: all the books of a bundle, into areas of zeros
 pub record Works (strict : Bool) (tree set : List ℕ) (c k f m p t l u n b e o : List ℕ) (s′ : struct.Book) (c′ k′ f′ m′ p′ t′ l′ u′ n′ b′ e′ o′ : List ℕ)
     (row place : ℕ) : Type 0 where
-  pub works : (root : Document) (others : List Document) → Accepted tree set root others → Cleared c k f m p t l u n b e o → (κ : Limits)
+  pub works : (root : Document) (others : List Document) → Accepted tree set [] root others → Cleared c k f m p t l u n b e o → (κ : Limits)
       → ((s : struct.Book) → Lent κ s c k f m p t l u n b e o)
       → (rest : List ℕ) × (Zero rest × Outcome κ s′ c′ k′ f′ m′ p′ t′ l′ u′ n′ b′ e′ o′ rest row place
       (compileNeeded (needed [] root others) (root ∷ others) (newContext strict)))

@@ -60,12 +60,25 @@ abbrev pub Ascends : ℕ → List ℕ → Type 0
 Ascends k [] = Unit {0}
 Ascends k (x ∷ xs) = (k ≤ x) × Ascends (x + 1) xs
 
--- numbers into a set, one after the other
-abbrev pub addBits : List ℕ → List ℕ → List ℕ
-addBits bits [] = bits
-addBits bits (n ∷ ns) = addBits (addBit bits n) ns
+-- `add_absent`: a number into a set, where the set of the books that stand does not have it; and whether it is new
+abbrev pub addAbsent : List ℕ → List ℕ → ℕ → List ℕ
+addAbsent standing bits n = cond (bitOf standing n) bits (addBit bits n)
+
+pub record AddedAbsent (standing bits : List ℕ) (n : ℕ) (after : List ℕ) (fresh : Bool) : Type 0 where
+  pub words : after ≡ addAbsent standing bits n
+  pub is-new : fresh ≡ cond (bitOf standing n) false (not (bitOf bits n))
+
+-- numbers into a set, one after the other, but for those that stand
+abbrev pub addBits : List ℕ → List ℕ → List ℕ → List ℕ
+addBits standing bits [] = bits
+addBits standing bits (n ∷ ns) = addBits standing (addAbsent standing bits n) ns
 
 -- whether numbers are all in a set
 abbrev pub allBits : List ℕ → List ℕ → Bool
 allBits bits [] = true
 allBits bits (n ∷ ns) = cond (bitOf bits n) (allBits bits ns) false
+
+-- or stand
+abbrev pub allKnown : List ℕ → List ℕ → List ℕ → Bool
+allKnown standing bits [] = true
+allKnown standing bits (n ∷ ns) = cond (cond (bitOf standing n) true (bitOf bits n)) (allKnown standing bits ns) false

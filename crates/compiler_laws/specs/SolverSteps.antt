@@ -1,12 +1,12 @@
 -- What the routines of `solver.rt` promise, by the definition's `DependencySolver`. A promise holds of every list of documents that the words spell;
--- no book stands before (a fresh call)
+-- `standing` is the set of the books that stand before, which are passed over (2026-01); a fresh call's is empty
 -- Private contracts alone cite this file: whoever reads the promises need not believe it
 use Prim.Native.Nat.{ℕ, _+_, _*_, _/_, _%_, _≤_, _<_}
 use mathlib.Core.Path.{_≡_}
 use mathlib.Core.Bool.{Bool, true, false, cond}
 use mathlib.Core.Option.{none, some}
 use mathlib.Core.List.{List, [], _∷_, _++_}
-use lib.ListN.{length, drop}
+use lib.ListN.{length, take, drop}
 use lib.Dec.{eqb}
 use Rattle.words.specs.Ast.{Definition, Document}
 use Rattle.words.specs.Areas.{entriesIn, entryField, booksArea}
@@ -20,7 +20,7 @@ use Rattle.building.specs.declared.taking.Taken.{Taken}
 use Rattle.building.specs.Taking.{taken}
 use Rattle.building.specs.Found.{foundOf}
 use Rattle.compiler_laws.specs.InsideFunction.{skipC}
-use Rattle.compiler_laws.specs.FileSets.{setSize, narrowSize, bitOf, addBits, allBits, SetIs, Below, Ascends}
+use Rattle.compiler_laws.specs.FileSets.{setSize, narrowSize, bitOf, addBits, allBits, allKnown, SetIs, Below, Ascends}
 
 -- every file number, and every number that is included, is below a size
 abbrev pub InSets : ℕ → List Document → Type 0
@@ -56,30 +56,33 @@ pub record Twice (tree : List ℕ) (end : ℕ) (ds : List Document) (r : Found) 
 pub record FindsTwice (tree : List ℕ) (end : ℕ) (before : List ℕ) (r : Found) (after : List ℕ) : Type 0 where
   pub finds : (ds : List Document) → Bundle ds tree 0 end → Room before ds → SetIs before [] → Twice tree end ds r after
 
--- `add_includes`: the includes among the definitions from a place up to the end, into a set. Where the answer is no, none was new
-pub record Includes (tree : List ℕ) (at end : ℕ) (any : Bool) (set after : List ℕ) (r : Bool) : Type 0 where
-  pub adds : (defs : List Definition) → RunAt DefinitionAt sizeD defs tree at → at + runSize sizeD defs ≡ end → after ≡ addBits set (dependencies defs)
+-- `add_includes`: the includes among the definitions from a place up to the end, but for those that stand, into a set. Where the answer is no, none was new
+pub record Includes (tree : List ℕ) (at end : ℕ) (standing : List ℕ) (any : Bool) (set after : List ℕ) (r : Bool) : Type 0 where
+  pub adds : (defs : List Definition) → RunAt DefinitionAt sizeD defs tree at → at + runSize sizeD defs ≡ end
+      → after ≡ addBits standing set (dependencies defs)
   pub still : r ≡ false → (any ≡ false) × (after ≡ set)
 
 -- what the documents of a set include, into the next
-abbrev pub reachBits : List ℕ → List Document → List ℕ → List ℕ
-reachBits set [] next = next
-reachBits set (d ∷ ds) next = reachBits set ds (cond (bitOf set (d .filename)) (addBits next (dependencies (d .definitions))) next)
+abbrev pub reachBits : List ℕ → List ℕ → List Document → List ℕ → List ℕ
+reachBits standing set [] next = next
+reachBits standing set (d ∷ ds) next =
+    reachBits standing set ds (cond (bitOf set (d .filename)) (addBits standing next (dependencies (d .definitions))) next)
 
--- the includes of documents that were read are in a set
-abbrev pub Covers : List ℕ → List ℕ → List Document → Type 0
-Covers read next [] = Unit {0}
-Covers read next (d ∷ ds) = (bitOf read (d .filename) ≡ true → allBits next (dependencies (d .definitions)) ≡ true) × Covers read next ds
+-- the includes of documents that were read stand or are in a set
+abbrev pub Covers : List ℕ → List ℕ → List ℕ → List Document → Type 0
+Covers standing read next [] = Unit {0}
+Covers standing read next (d ∷ ds) =
+    (bitOf read (d .filename) ≡ true → allKnown standing next (dependencies (d .definitions)) ≡ true) × Covers standing read next ds
 
 -- `reach`: the same, though documents that were read before are not read again
-pub record Reaches (tree : List ℕ) (at end : ℕ) (read set : List ℕ) (any : Bool) (next after : List ℕ) (r : Bool) : Type 0 where
-  pub adds : (ds : List Document) → Bundle ds tree at end → Room next ds → Covers read next ds → after ≡ reachBits set ds next
+pub record Reaches (tree : List ℕ) (at end : ℕ) (standing read set : List ℕ) (any : Bool) (next after : List ℕ) (r : Bool) : Type 0 where
+  pub adds : (ds : List Document) → Bundle ds tree at end → Room next ds → Covers standing read next ds → after ≡ reachBits standing set ds next
   pub still : r ≡ false → (any ≡ false) × (after ≡ next)
 
--- `needed`: an empty set that has room becomes that of the books needed
-pub record Needs (tree : List ℕ) (end : ℕ) (read set after : List ℕ) : Type 0 where
-  pub needs : (root : Document) (others : List Document) → Bundle (root ∷ others) tree 0 end → Distinct (root ∷ others)
-      → Room set (root ∷ others) → SetIs set [] → SetIs read [] → SetIs after (needed [] root others)
+-- `needed`: an empty set that has room becomes that of the books needed; `files`: the numbers of those that stand
+pub record Needs (tree : List ℕ) (end : ℕ) (standing read set after : List ℕ) : Type 0 where
+  pub needs : (files : List ℕ) → SetIs standing files → (root : Document) (others : List Document) → Bundle (root ∷ others) tree 0 end
+      → Distinct (root ∷ others) → Room set (root ∷ others) → SetIs set [] → SetIs read [] → SetIs after (needed files root others)
 
 -- `missing`: row 6, by the sets of the books needed and of those there
 pub record Misses (set present : List ℕ) (r : Found) : Type 0 where
@@ -132,13 +135,14 @@ abbrev pub waiting : List Document → List ℕ → List ℕ
 waiting ds [] = []
 waiting ds (n ∷ ns) = bookWord ds n ∷ waiting ds ns
 
--- `take_books`: an entry for each book needed, where there is room for all; else the mark. With a mark set nothing changes
-pub record TakesBooks (tree : List ℕ) (end : ℕ) (set : List ℕ) (full : ℕ) (books : List ℕ) (r : Taken) (after : List ℕ) : Type 0 where
+-- `take_books`: an entry for each book needed, behind those of so many that stand, where there is room for all; else the mark. With a mark set nothing changes
+pub record TakesBooks (tree : List ℕ) (end : ℕ) (set : List ℕ) (full stand : ℕ) (books : List ℕ) (r : Taken) (after : List ℕ) : Type 0 where
   pub marked : (full ≡ 0 → ⊥) → (r .full ≡ full) × (after ≡ books)
   pub fits : (ds : List Document) (numbers : List ℕ) → Bundle ds tree 0 end → Ascends 0 numbers → Below setSize numbers → SetIs set numbers → full ≡ 0
-      → length numbers ≤ entriesIn 1 (length books) → (r ≡ taken 0 (length numbers)) × (after ≡ waiting ds numbers ++ drop (length numbers) books)
+      → stand + length numbers ≤ entriesIn 1 (length books)
+      → (r ≡ taken 0 (stand + length numbers)) × (after ≡ take stand books ++ (waiting ds numbers ++ drop (stand + length numbers) books))
   pub over : (ds : List Document) (numbers : List ℕ) → Bundle ds tree 0 end → Ascends 0 numbers → Below setSize numbers → SetIs set numbers → full ≡ 0
-      → entriesIn 1 (length books) < length numbers → r .full ≡ booksArea
+      → stand ≤ entriesIn 1 (length books) → entriesIn 1 (length books) < stand + length numbers → r .full ≡ booksArea
 
 -- `narrow_includes`: the includes among the definitions from a place up to the end are below narrowSize
 pub record NarrowIncludes (tree : List ℕ) (at end : ℕ) (r : Bool) : Type 0 where

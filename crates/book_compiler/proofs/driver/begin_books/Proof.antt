@@ -16,9 +16,9 @@ returns : tie.Need-returns
 unfolding part withPart
 returns c =
     let c11 = c .before .before .before .before .before .before .before .before .before .before .before in
-    part-lent {i = 12} (c11 .args .starts .now) (c11 .args .memory .now) (c .before .before .take-books .last .1 .1 .1 .1 .0)
+    part-lent {i = 12} (c11 .args .starts .now) (c11 .args .memory .now) (c .before .before .take-books .last .1 .1 .1 .1 .1 .0)
     (c .before .before .take-books .ensures)
-    (c .before .before .take-books .kept .1 .1 .1 .1 .0)
+    (c .before .before .take-books .kept .1 .1 .1 .1 .1 .0)
 
 returns-2 : tie.Need-returns-2
 returns-2 c =

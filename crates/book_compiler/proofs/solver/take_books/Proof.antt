@@ -14,11 +14,11 @@ use borrow.Author.Needs.{needs}
 use native.Mathlib.Omega.{arith}
 
 abbrev Inv-loop : tie.InvT-loop
-Inv-loop tree end needed full books₀ t₀ place₀ from₀ books t place from = (length books ≡ length books₀) × Skips tree end (place .at) from (place .above)
+Inv-loop tree end needed full stand books₀ t₀ place₀ from₀ books t place from = (length books ≡ length books₀) × Skips tree end (place .at) from (place .above)
     × ((r : Taken) (after : List ℕ) → TakesFrom tree end needed from t books r after → TakesFrom tree end needed 0 t₀ books₀ r after)
 
 abbrev μ-loop : tie.MeasureT-loop
-μ-loop tree end needed full books₀ t₀ place₀ from₀ books t place from = setSize - from
+μ-loop tree end needed full stand books₀ t₀ place₀ from₀ books t place from = setSize - from
 
 loop-holds : tie.Need-loop-holds Inv-loop μ-loop
 loop-holds c = (refl, skips-start (c .before .before .before .args .tree .now) (c .before .before .before .args .end) 0 setSize, λ r after h. h)
@@ -29,7 +29,7 @@ same-length c = c .before .before .before .loop .inv .0
 returns : tie.Need-returns Inv-loop μ-loop
 returns c =
     let c7 = c .before .before .before .before .before .before .before in
-    takes-whole (c7 .args .tree .now) (c7 .args .end) (c7 .args .needed .now) (c7 .args .full) (c7 .args .books .now)
+    takes-whole (c7 .args .tree .now) (c7 .args .end) (c7 .args .needed .now) (c7 .args .full) (c7 .args .stand) (c7 .args .books .now)
     (c .before .before .before .loop .inv .2 _ _
     (takes-full (c7 .args .tree .now) (c7 .args .end) (c7 .args .needed .now) (c .before .before .before .loop .from) (c .before .before .before .loop .t)
     (c .before .before .before .loop .books) (c .if1 .taken)))
@@ -46,7 +46,7 @@ returns-2 : tie.Need-returns-2 Inv-loop μ-loop
 returns-2 c =
     let c5 = c .before .before .before .before .before in
     let c9 = c5 .before .before .before .before in
-    takes-whole (c9 .args .tree .now) (c9 .args .end) (c9 .args .needed .now) (c9 .args .full) (c9 .args .books .now) (c5 .loop .inv .2 _ _
+    takes-whole (c9 .args .tree .now) (c9 .args .end) (c9 .args .needed .now) (c9 .args .full) (c9 .args .stand) (c9 .args .books .now) (c5 .loop .inv .2 _ _
     (takes-none (c9 .args .tree .now) (c9 .args .end) (c9 .args .needed .now) (c5 .loop .from) (c5 .loop .t) (c5 .loop .books) (c .before .next-in .ensures)
     (c .if2 .taken)))
 
@@ -110,7 +110,8 @@ same-length-3 c = c .before .loop .inv .0
 returns-3 : tie.Need-returns-3 Inv-loop μ-loop
 returns-3 c =
     let c5 = c .before .before .before .before .before in
-    takes-whole (c5 .args .tree .now) (c5 .args .end) (c5 .args .needed .now) (c5 .args .full) (c5 .args .books .now) (c .before .loop .inv .2 _ _
+    takes-whole (c5 .args .tree .now) (c5 .args .end) (c5 .args .needed .now) (c5 .args .full) (c5 .args .stand) (c5 .args .books .now)
+    (c .before .loop .inv .2 _ _
     (takes-end (c5 .args .tree .now) (c5 .args .end) (c5 .args .needed .now) (c .before .loop .from) (c .before .loop .t) (c .before .loop .books)
     (c .loop-test .left)))
 
