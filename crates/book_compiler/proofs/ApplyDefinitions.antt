@@ -16,13 +16,13 @@ use Rattle.definition.specs.FunctionState.{Entry, findName}
 use Rattle.definition.specs.Uses.{Limits}
 use Rattle.definition.specs.Book.{Book, Context, pushBookError, addMethods, methodsIn, methodsOf, modelOf, getLocalValue, findModelBy}
 use Rattle.definition.specs.Book.{findModelIn, findModelIndexByLocalName, compileApplyDefinition}
-use Rattle.definition_laws.proofs.Steady.{same, more}
+use Rattle.definition_laws.proofs.StepPreserves.{same, more}
 use Rattle.building.specs.declared.scopes.Found.{Found}
 use Rattle.building.specs.declared.scopes.Found.the-variants.{At, Nothing}
 use Rattle.building.specs.Found.{foundOf}
 use Rattle.compiler_laws.specs.declared.book.Book as struct
 use Rattle.compiler_laws.specs.ModelSteps.{FindsModel}
-use Rattle.compiler_laws.proofs.UnchangedByModels.{calm-methods, calm-find-model}
+use Rattle.compiler_laws.proofs.UnchangedByModels.{unchanged-methods, unchanged-find-model}
 use Rattle.compiler_laws.proofs.MapEntries.{found-at, found-none}
 use Rattle.compiler_laws.proofs.MethodsTogether.{methods-none, keeping-marked}
 use Rattle.compiler_laws.proofs.ModelsFound as area
@@ -40,7 +40,7 @@ module _ {tree : List ℕ} {at : ℕ} {m : BookMemory} where
   pub find-full : (m .book .full ≡ 0 → ⊥) → {g : Found} → FindsModelIndex tree at g m m
   find-full ne = record {
     seeks = record {
-      meets = λ κ ps others w H. represents-longer (calm-find-model (tokenAt tree at) w .uses) ne H;
+      meets = λ κ ps others w H. represents-longer (unchanged-find-model (tokenAt tree at) w .uses) ne H;
       sought = λ κ ps others w H z. absurd (ne z);
     };
   }
@@ -120,7 +120,7 @@ module _ {tree : List ℕ} {at end : ℕ} {m : BookMemory} where
             let H₁ = A .seeks .meets κ ps others w H in
             let H₂ = B .seeks .meets κ ps others (x .book) H₁ in
             rw (first, second) (go κ ps others (y .book) (x .place) (y .place) (methodsOf (x .place) (x .book .context))
-            (λ z. A .seeks .sought κ ps others w H (represents-unfilled (calm-find-model (tokenAt tree (at + 2)) (x .book) .uses) H₁ H₂ z))
+            (λ z. A .seeks .sought κ ps others w H (represents-unfilled (unchanged-find-model (tokenAt tree (at + 2)) (x .book) .uses) H₁ H₂ z))
             (λ z. B .seeks .sought κ ps others (x .book) H₁ z)
             (ap (λ (v : Context). methodsOf (x .place) v) (sym (find-context (tokenAt tree (at + 2)) (x .book)))) H₂);
       };
@@ -137,7 +137,7 @@ module _ {tree : List ℕ} {at end : ℕ} {m : BookMemory} where
 
     -- without a source nothing is to be copied
     pub apply-nothing : from ≡ Nothing → CompilesApplyDefinition tree at end m m₂
-    apply-nothing lost = rest go (λ κ ps others w y es ne H. represents-longer (calm-methods y es w .uses) ne H)
+    apply-nothing lost = rest go (λ κ ps others w y es ne H. represents-longer (unchanged-methods y es w .uses) ne H)
       where
         go : (κ : Limits) (ps : List ℕ) (others : ℕ → List ℕ) (w : Book) (x y : Option ℕ) (es : List Entry)
             → m₂ .book .full ≡ 0 → from ≡ foundOf x → to ≡ foundOf y → es ≡ methodsOf x (w .context)
@@ -152,7 +152,7 @@ module _ {tree : List ℕ} {at end : ℕ} {m : BookMemory} where
     pub apply-nowhere : to ≡ Nothing → CompilesApplyDefinition tree at end m m₂
     apply-nowhere lost =
         rest (λ κ ps others w x y es z a d is H. rw (found-none y d lost) H)
-        (λ κ ps others w y es ne H. represents-longer (calm-methods y es w .uses) ne H)
+        (λ κ ps others w y es ne H. represents-longer (unchanged-methods y es w .uses) ne H)
 
     pub apply-copies : {source target : ℕ} → from ≡ At source → to ≡ At target → {m′ : BookMemory} → CopiesBookMethods source target m₂ m′
         → CompilesApplyDefinition tree at end m m′
@@ -162,4 +162,4 @@ module _ {tree : List ℕ} {at end : ℕ} {m : BookMemory} where
         rw (found-at y d at-t, same-es) (methods-copied M .meets κ ps others w H))
         (λ κ ps others w y es ne H.
         let H′ = methods-copied M .meets κ ps others w H in
-        represents-same H′ (keeping-marked (more same) (calm-methods y es w .uses) ne (H .keeping) (H′ .keeping)))
+        represents-same H′ (keeping-marked (more same) (unchanged-methods y es w .uses) ne (H .keeping) (H′ .keeping)))

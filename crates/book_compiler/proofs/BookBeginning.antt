@@ -19,12 +19,12 @@ use Rattle.definition_laws.proofs.Limits.{fine-limited}
 use Rattle.definition_laws.proofs.Counts.{loaded-length}
 use Rattle.building.specs.declared.taking.Taken.{Taken}
 use Rattle.building.specs.Taking.{taken}
-use Rattle.building.specs.Held.{Marks}
+use Rattle.building.specs.RepresentsMachine.{Marks}
 use Rattle.building.proofs.Notes.{over-longer}
 use Rattle.compiler_laws.specs.declared.book.Book as struct
-use Rattle.compiler_laws.specs.BookAreas.{Shelf, shelf, Keeping}
+use Rattle.compiler_laws.specs.BookAreas.{BookAreas, bookAreas, RepresentsAreas}
 use Rattle.compiler_laws.specs.OpenedBooks.{Resting, openedBook, nobody}
-use Rattle.compiler_laws.proofs.UnchangedByBooks.{Calms}
+use Rattle.compiler_laws.proofs.UnchangedByBooks.{Unchanged}
 use Rattle.compiler_laws.specs.FileSets.{setSize, Ascends, Below}
 use Rattle.compiler_laws.specs.SolverSteps.{waiting, TakesBooks}
 use Rattle.compiler_laws.specs.BooksInOrder.{Zero, begunBook, FirstConstants, Accepted, Cleared}
@@ -86,8 +86,8 @@ withFull s full = record {
 
 -- another mark and other notes: what the areas hold does not depend on them
 renoted : {κ : Limits} (s : struct.Book) {c k f m p t l u n b e : List ℕ} (context : Context) {uses us : List Use} {full : ℕ} → Marks (firstOver κ us) full
-    → (full ≡ 0 → s .full ≡ 0) → Keeping κ [] (shelf (openedBook s (bookCount context)) c k f m p t l u n b e) (opened nobody context uses)
-    → Keeping κ [] (shelf (openedBook (withFull s full) (bookCount context)) c k f m p t l u n b e) (opened nobody context us)
+    → (full ≡ 0 → s .full ≡ 0) → RepresentsAreas κ [] (bookAreas (openedBook s (bookCount context)) c k f m p t l u n b e) (opened nobody context uses)
+    → RepresentsAreas κ [] (bookAreas (openedBook (withFull s full) (bookCount context)) c k f m p t l u n b e) (opened nobody context us)
 renoted s context marks before K = record {
   fitted = record {
     code = K .fitted .code;
@@ -217,7 +217,7 @@ module _ {tree chosen a w w₁ : List ℕ} {s : struct.Book} {stand : ℕ} {r : 
     }
 
   -- the ways of `compile_needed`: the books do not fit
-  pub needed-full : (calm : (d : Definition) → Calms (compileDefinition d)) {set : List ℕ} {s₁ : struct.Book} → s₁ ≡ withFull s (r .full)
+  pub needed-full : (calm : (d : Definition) → Unchanged (compileDefinition d)) {set : List ℕ} {s₁ : struct.Book} → s₁ ≡ withFull s (r .full)
       → (r .full ≡ 0 → ⊥) → (row place : ℕ) → CompilesNeeded tree chosen set stand (bookLaid s a w) (bookLaid s₁ a w₁) row place
   needed-full calm {set} {s₁} s-is ne row place = record {
     works = λ root others κ parts context uses rest A long H.
@@ -264,7 +264,7 @@ module _ (strict : Bool) {a w w₁ w₂ : List ℕ} {x : Taken} (C : LentPart co
 
     -- the parts, but for constants and slots, are as they were
     begun-view : (s : struct.Book) → bookView (bookLaid s a w₂)
-        ≡ shelf s (part a 1 w) (part a 2 w₁) (part a 3 w) (part a 4 w) (part a 5 w) (part a 6 w) (part a 7 w) (part a 8 w) (part a 9 w) (part a 10 w)
+        ≡ bookAreas s (part a 1 w) (part a 2 w₁) (part a 3 w) (part a 4 w) (part a 5 w) (part a 6 w) (part a 7 w) (part a 8 w) (part a 9 w) (part a 10 w)
         (part a 11 w)
     begun-view s =
         let at = lent-part (omega arith) f C in
@@ -296,7 +296,7 @@ module _ (strict : Bool) {a w w₁ w₂ : List ℕ} {x : Taken} (C : LentPart co
         ready = record {
           fits = lent-fits (omega arith) f₁ filled;
           preserves = record { same = λ j g q. go j g q (eqb j booksArea) refl };
-          keeping = subst (λ (v : Shelf). Keeping κ [] v (opened nobody (newContext strict) (using′ constantsArea 3 ∷ [])))
+          keeping = subst (λ (v : BookAreas). RepresentsAreas κ [] v (opened nobody (newContext strict) (using′ constantsArea 3 ∷ [])))
               (sym (begun-view (openedBook start 0))) (resting .ready);
           slots = slots-count refl (slots-filled S f₁);
         };

@@ -15,7 +15,7 @@ use Rattle.building.specs.declared.scopes.Found.{Found}
 use Rattle.building.specs.State.{begun}
 use Rattle.building.specs.Pool.{addConstantC}
 use Rattle.compiler_laws.specs.declared.book.Book as struct
-use Rattle.compiler_laws.specs.BookAreas.{shelf, Places}
+use Rattle.compiler_laws.specs.BookAreas.{bookAreas, Places}
 use Rattle.compiler_laws.specs.BookSteps.{resumedBook, Valuable}
 use Rattle.compiler_laws.proofs.BookLeaves.{constant-places}
 use Rattle.book_compiler.specs.Represents.{laid}
@@ -77,7 +77,7 @@ module _ {m m′ : BookMemory} where
 
       places : {κ : Limits} {ps : List ℕ} {others : ℕ → List ℕ} {b : Book} → RepresentsBook κ ps others m b
           → Places (bookView m)
-          (shelf (m′ .book) (areaOf m codeArea) (areaOf m′ constantsArea) (areaOf m functionsArea) (areaOf m modelsArea) (areaOf m propertiesArea)
+          (bookAreas (m′ .book) (areaOf m codeArea) (areaOf m′ constantsArea) (areaOf m functionsArea) (areaOf m modelsArea) (areaOf m propertiesArea)
           (areaOf m methodsArea) (areaOf m contextLocalsArea) (areaOf m publicNamesArea) (areaOf m scopeNamesArea) (areaOf m breaksArea)
           (areaOf m errorsArea)) place (addBookConstant (constantOf kind value))
       places H =

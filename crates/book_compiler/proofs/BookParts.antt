@@ -10,12 +10,12 @@ use borrow.Author.Tests.{eqb-true, eqb-false, ne-eqb}
 use Rattle.memory.specs.Layout.{part, withPart, partCount, Fits}
 use Rattle.memory.proofs.Parts.{put-part, put-fits, ends-within}
 use Rattle.definition.specs.Uses.{Limits}
-use Rattle.definition.specs.Book.{Book, Deed, MaybePlaced}
-use Rattle.definition_laws.proofs.Steady.{Longer}
+use Rattle.definition.specs.Book.{Book, BookStep, MaybePlaced}
+use Rattle.definition_laws.proofs.StepPreserves.{NotesGrow}
 use Rattle.building.specs.declared.scopes.Found.{Found}
 use Rattle.compiler_laws.specs.declared.book.Book as struct
-use Rattle.compiler_laws.specs.BookAreas.{Shelf, shelf, Keeping, Deeds, Seeks}
-use Rattle.compiler_laws.proofs.UnchangedByBooks.{Calm, Calms}
+use Rattle.compiler_laws.specs.BookAreas.{BookAreas, bookAreas, RepresentsAreas, SimulatesAreas, Seeks}
+use Rattle.compiler_laws.proofs.UnchangedByBooks.{BookUnchanged, Unchanged}
 use Rattle.compiler_laws.proofs.BookStepsInOrder.{keeping-longer, unfilled}
 use Rattle.constant_slots.specs.Plain.{poolOf}
 use Rattle.book_compiler.specs.Represents.{SlotsFilled, Replaced}
@@ -25,9 +25,9 @@ use Rattle.book_compiler.specs.BookLeaves.{SameConstantCount, ReadsAreas
 use Rattle.book_compiler.proofs.Parts.{slots-same}
 
 -- the counts and areas with other counts and another area i
-abbrev pub withBookArea : ℕ → struct.Book → List ℕ → Shelf → Shelf
+abbrev pub withBookArea : ℕ → struct.Book → List ℕ → BookAreas → BookAreas
 withBookArea i s x m =
-    shelf s (cond (eqb i 1) x (m .code)) (cond (eqb i 2) x (m .constants)) (cond (eqb i 3) x (m .functions)) (cond (eqb i 4) x (m .models))
+    bookAreas s (cond (eqb i 1) x (m .code)) (cond (eqb i 2) x (m .constants)) (cond (eqb i 3) x (m .functions)) (cond (eqb i 4) x (m .models))
     (cond (eqb i 5) x (m .properties)) (cond (eqb i 6) x (m .methods)) (cond (eqb i 7) x (m .locals)) (cond (eqb i 8) x (m .publics))
     (cond (eqb i 9) x (m .names)) (cond (eqb i 10) x (m .breaks)) (cond (eqb i 11) x (m .errors))
 
@@ -85,12 +85,12 @@ not-part j i p q = ne-eqb j i (λ r. eqb-false i j (apart i j p q) (sym r))
 pub area-kept : {κ : Limits} {ps : List ℕ} {others : ℕ → List ℕ} {i n : ℕ} {R : List ℕ → List ℕ → Type 0} {m m′ : BookMemory} {b : Book}
     → i < 14 → isOtherArea i ≡ true → Fits (m .starts) (length (m .words)) → PreservesParts others m → SlotsFilled n (m .starts) (m .words)
     → OnArea i R m m′ → ((x : List ℕ) → R (areaOf m i) x → m′ .book .constants ≡ n)
-    → ((x : List ℕ) → R (areaOf m i) x → Keeping κ ps (withBookArea i (m′ .book) x (bookView m)) b) → RepresentsBook κ ps others m′ b
+    → ((x : List ℕ) → R (areaOf m i) x → RepresentsAreas κ ps (withBookArea i (m′ .book) x (bookView m)) b) → RepresentsBook κ ps others m′ b
 area-kept {κ} {ps} {others} {i} {n} {R} {m} {m′} {b} lt is-other suits same filled o count law =
     let e = other i is-other in
     let p = o .on suits in
     let a = m .starts in
-    let here : Keeping κ ps (bookView (bookLaid (m′ .book) a (m′ .words))) b =
+    let here : RepresentsAreas κ ps (bookView (bookLaid (m′ .book) a (m′ .words))) b =
     rw (p .is, put-view a (m .words) (p .words) (m .book) (m′ .book) suits i lt (p .long)) (law (p .words) (p .does)) in
     let fits : Fits a (length (m′ .words)) = rw (p .is) (put-fits a (m .words) (p .words) suits i lt (p .long)) in
     let kept : PreservesParts others (bookLaid (m′ .book) a (m′ .words)) =
@@ -116,18 +116,18 @@ area-kept {κ} {ps} {others} {i} {n} {R} {m} {m′} {b} lt is-other suits same f
 -- and of one that stands for a book
 pub area-law : {κ : Limits} {ps ps′ : List ℕ} {others : ℕ → List ℕ} {i : ℕ} {R : List ℕ → List ℕ → Type 0} {m m′ : BookMemory} {b b′ : Book}
     → i < 14 → isOtherArea i ≡ true → SameConstantCount m m′ → OnArea i R m m′ → RepresentsBook κ ps others m b
-    → ((x : List ℕ) → R (areaOf m i) x → Keeping κ ps′ (withBookArea i (m′ .book) x (bookView m)) b′) → RepresentsBook κ ps′ others m′ b′
+    → ((x : List ℕ) → R (areaOf m i) x → RepresentsAreas κ ps′ (withBookArea i (m′ .book) x (bookView m)) b′) → RepresentsBook κ ps′ others m′ b′
 area-law lt own count o H law = area-kept lt own (H .fits) (H .preserves) (H .slots) o (λ x r. count) law
 
--- so its deed and what it finds on the counts and areas are those on the memory
+-- so its step and what it finds on the counts and areas are those on the memory
 module _ {i : ℕ} {R : List ℕ → List ℕ → Type 0} {m m′ : BookMemory} (lt : i < 14) (own : isOtherArea i ≡ true) (count : SameConstantCount m m′)
     (o : OnArea i R m m′) where
-  pub area-simulates : {deed : Deed} → ((x : List ℕ) → R (areaOf m i) x → Deeds (bookView m) (withBookArea i (m′ .book) x (bookView m)) deed)
-      → SimulatesBook m m′ deed
+  pub area-simulates : {step : BookStep} → ((x : List ℕ) → R (areaOf m i) x → SimulatesAreas (bookView m) (withBookArea i (m′ .book) x (bookView m)) step)
+      → SimulatesBook m m′ step
   area-simulates law = record { meets = λ κ ps others b H. area-law lt own count o H (λ x r. law x r .meets κ ps b (H .keeping)) }
 
-  pub area-seeks : {found : Found} {deed : Book → MaybePlaced}
-      → ((x : List ℕ) → R (areaOf m i) x → Seeks (bookView m) (withBookArea i (m′ .book) x (bookView m)) found deed) → SimulatesSought m m′ found deed
+  pub area-seeks : {found : Found} {step : Book → MaybePlaced}
+      → ((x : List ℕ) → R (areaOf m i) x → Seeks (bookView m) (withBookArea i (m′ .book) x (bookView m)) found step) → SimulatesSought m m′ found step
   area-seeks law = record {
     meets = λ κ ps others b H. area-law lt own count o H (λ x r. law x r .meets κ ps b (H .keeping));
     sought = λ κ ps others b H z. let p = o .on (H .fits) in law (p .words) (p .does) .sought κ ps b (H .keeping) z;
@@ -148,20 +148,20 @@ pub area-back : {i : ℕ} → i < 14 → {R : List ℕ → List ℕ → Type 0} 
 area-back {i} h a w w′ n = record { same = refl; on = λ f. absurd (omega (arith, f .ordered i h)) }
 
 -- with the mark set the memory stands for whatever is compiled further
-pub represents-longer : {κ : Limits} {ps ps′ : List ℕ} {others : ℕ → List ℕ} {m : BookMemory} {b b′ : Book} → Longer (b .uses) (b′ .uses)
+pub represents-longer : {κ : Limits} {ps ps′ : List ℕ} {others : ℕ → List ℕ} {m : BookMemory} {b b′ : Book} → NotesGrow (b .uses) (b′ .uses)
     → (m .book .full ≡ 0 → ⊥) → RepresentsBook κ ps others m b → RepresentsBook κ ps′ others m b′
 represents-longer l ne H = record { fits = H .fits; preserves = H .preserves; keeping = keeping-longer l ne (H .keeping); slots = H .slots }
 
 -- not full after, not full before
-pub represents-unfilled : {κ : Limits} {ps ps′ : List ℕ} {others : ℕ → List ℕ} {m m′ : BookMemory} {b b′ : Book} → Longer (b .uses) (b′ .uses)
+pub represents-unfilled : {κ : Limits} {ps ps′ : List ℕ} {others : ℕ → List ℕ} {m m′ : BookMemory} {b b′ : Book} → NotesGrow (b .uses) (b′ .uses)
     → RepresentsBook κ ps others m b → RepresentsBook κ ps′ others m′ b′ → m′ .book .full ≡ 0 → m .book .full ≡ 0
 represents-unfilled l H H′ z = unfilled l (H .keeping) (H′ .keeping) z
 
-pub simulates-full : {m : BookMemory} {deed : Deed} → Calms deed → (m .book .full ≡ 0 → ⊥) → SimulatesBook m m deed
+pub simulates-full : {m : BookMemory} {step : BookStep} → Unchanged step → (m .book .full ≡ 0 → ⊥) → SimulatesBook m m step
 simulates-full C ne = record { meets = λ κ ps others b H. represents-longer (C b .uses) ne H }
 
 -- one after the other
-pub simulates-then : {m m₁ m′ : BookMemory} {d e : Deed} → SimulatesBook m m₁ d → SimulatesBook m₁ m′ e → SimulatesBook m m′ (λ b. e (d b))
+pub simulates-then : {m m₁ m′ : BookMemory} {d e : BookStep} → SimulatesBook m m₁ d → SimulatesBook m₁ m′ e → SimulatesBook m m′ (λ b. e (d b))
 simulates-then {d = d} A B = record { meets = λ κ ps others b H. B .meets κ ps others (d b) (A .meets κ ps others b H) }
 
 -- a routine that was not lent part i to read
@@ -181,5 +181,5 @@ area-map g o = record {
 
 -- the memory as it was stands for another book
 pub represents-same : {κ : Limits} {ps ps′ : List ℕ} {others : ℕ → List ℕ} {m : BookMemory} {b b′ : Book} → RepresentsBook κ ps others m b
-    → Keeping κ ps′ (bookView m) b′ → RepresentsBook κ ps′ others m b′
+    → RepresentsAreas κ ps′ (bookView m) b′ → RepresentsBook κ ps′ others m b′
 represents-same H K = record { fits = H .fits; preserves = H .preserves; keeping = K; slots = H .slots }

@@ -22,19 +22,19 @@ use Rattle.definition.specs.Answer.{ringErrors}
 use Rattle.definition_laws.proofs.Counts.{loaded-length}
 use Rattle.building.specs.declared.taking.Taken.{Taken}
 use Rattle.building.specs.Taking.{Took, taken}
-use Rattle.building.specs.Held.{Filled, Marks}
+use Rattle.building.specs.RepresentsMachine.{Filled, Marks}
 use Rattle.building.proofs.Filling.{over-fits, over-here}
 use Rattle.building.proofs.Notes.{over-longer}
 use Rattle.compiler_laws.specs.InsideFunction.{skipC}
 use Rattle.compiler_laws.proofs.Tokens.{skip-law}
 use Rattle.compiler_laws.specs.declared.book.Book as struct
-use Rattle.compiler_laws.specs.BookAreas.{Shelved}
-use Rattle.compiler_laws.proofs.UnchangedByBooks.{Calms}
+use Rattle.compiler_laws.specs.BookAreas.{NamesBooks}
+use Rattle.compiler_laws.proofs.UnchangedByBooks.{Unchanged}
 use Rattle.compiler_laws.proofs.BooksPutAway.{putAway, put-away}
 use Rattle.compiler_laws.specs.FileSets.{addBit, SetIs, Ascends}
 use Rattle.compiler_laws.specs.SolverSteps.{InSets, bookUnit, placeUnit, AllWait, Stands, FindsReady, Brings}
-use Rattle.compiler_laws.specs.BooksInOrder.{Leaves, Rung, Rings}
-use Rattle.compiler_laws.proofs.NotesOfDocuments.{calm-definitions, drive-longer, after-longer, loaded-more}
+use Rattle.compiler_laws.specs.BooksInOrder.{Leaves, Rung, PushesRingErrors}
+use Rattle.compiler_laws.proofs.NotesOfDocuments.{unchanged-definitions, drive-longer, after-longer, loaded-more}
 use Rattle.compiler_laws.proofs.BooksLeft.{all-ready, stood-at, added-at, leaves-are}
 use Rattle.compiler_laws.proofs.BooksNeeded.{without-length, without-ascends, without-missing, WaitSplit, wait-split, waits-grow, none-waits}
 use Rattle.compiler_laws.proofs.WaitingBooks.{apart}
@@ -42,7 +42,7 @@ use Rattle.compiler_laws.proofs.RingErrors.{ring-end, ring-more}
 use Rattle.compiler_laws.proofs.FileLists.{addBit-length, set-add, add-grows}
 use Rattle.book_compiler.specs.declared.order.Next.{Next}
 use Rattle.book_compiler.specs.RepresentsBook.{BookMemory, bookLaid, areaOf, RepresentsBook, RepresentsContext, CompilesDocument}
-use Rattle.book_compiler.specs.BookOrder.{LentPart, ReadsPart, withBooks, AtRest, Picked, PicksNext, RingsIn}
+use Rattle.book_compiler.specs.BookOrder.{LentPart, ReadsPart, withBooks, AtRest, Picked, PicksNext, PushesRingErrorsIn}
 use Rattle.book_compiler.specs.BookOrder.{Came, came-delivered, came-faulty, came-ring, Outcome, Driving, Drives}
 use Rattle.book_compiler.proofs.LentParts.{lent-does, lent-part, lent-fits, still-at-rest}
 
@@ -66,21 +66,21 @@ module _ {tree : List ℕ} {end done count : ℕ} {set books marked : List ℕ} 
 
 -- the ways of `ring`
 module _ {i count : ℕ} {t : Taken} {a w : List ℕ} where
-  pub ring-done : count ≤ i → RingsIn i count t a w t w
+  pub ring-done : count ≤ i → PushesRingErrorsIn i count t a w t w
   ring-done past = record { rings = λ f. ring-end past }
 
   pub ring-on : {word : ℕ} {t₁ r : Taken} {w₁ w₂ : List ℕ} → i < count → ReadsPart booksArea (λ o. word ≡ entryField 1 i 0 o) a w
       → LentPart errorsArea (λ e e′. Took errorsArea (t .full) (t .count) (11 ∷ 0 ∷ 0 ∷ word / bookUnit ∷ []) e t₁ e′) a w w₁
-      → RingsIn (i + 1) count t₁ a w₁ r w₂ → RingsIn i count t a w r w₂
+      → PushesRingErrorsIn (i + 1) count t₁ a w₁ r w₂ → PushesRingErrorsIn i count t a w r w₂
   ring-on {word} {t₁} {r} {w₁} {w₂} inside word-is T R = record {
     rings = λ f.
         let same : part a booksArea w₁ ≡ part a booksArea w = lent-part (omega arith) f T booksArea (omega arith) in
-        let onward : Rings (i + 1) count (part a booksArea w) t₁ (part a errorsArea w₁) r (part a errorsArea w₂) =
+        let onward : PushesRingErrors (i + 1) count (part a booksArea w) t₁ (part a errorsArea w₁) r (part a errorsArea w₂) =
         rw same at (R .rings (lent-fits (omega arith) f T)) in
         ring-more inside (word-is .on f) (lent-does (omega arith) f T) onward;
   }
 
-module _ (calm : (d : Definition) → Calms (compileDefinition d)) {tree : List ℕ} {end done count : ℕ} {set : List ℕ} {m : BookMemory} where
+module _ (calm : (d : Definition) → Unchanged (compileDefinition d)) {tree : List ℕ} {end done count : ℕ} {set : List ℕ} {m : BookMemory} where
   -- no book is left
   pub drive-end : count ≤ done → {place : ℕ} → place ≡ done → Drives tree end done count set m m 0 place
   unfolding drive
@@ -120,7 +120,7 @@ module _ (context : Context) (file : ℕ) (books behind : List ℕ) (words : boo
       let first : (length (context .prior .books) + i) * 1 + 0 ≡ length (context .prior .books) + i = omega arith in
       rw (first, in-order) (added-at (context .prior .books) (context .assemblies) (file ∷ behind) i h)
 
-  named-books : Shelved books context
+  named-books : NamesBooks books context
   named-books = record { stood = stood-shown; each = shown }
 
 -- what is known after a book was compiled
@@ -185,7 +185,7 @@ module _ {tree : List ℕ} {end done count : ℕ} {set : List ℕ} {s s₁ : str
             (sym stays) kept;
       }
 
-  module _ (calm : (d : Definition) → Calms (compileDefinition d)) where
+  module _ (calm : (d : Definition) → Unchanged (compileDefinition d)) where
     -- what comes after the book: by its errors
     follows : {ds : List Document} {left rest compiled : List ℕ} {κ : Limits} {others : ℕ → List ℕ} {context : Context} {uses : List Use}
         (R : Round ds tree end file left rest compiled set κ others (bookLaid s₁ a w₂) context uses)
@@ -229,7 +229,7 @@ module _ {tree : List ℕ} {end done count : ℕ} {set : List ℕ} {s s₁ : str
         drives = λ ds left rest compiled κ others context uses D.
             let R = round ds left rest compiled κ others context uses D in
             let x = compileDefinitions (R .book .definitions) (opened (R .book) context uses) in
-            let C = calm-definitions calm (R .book .definitions) (opened (R .book) context uses) in
+            let C = unchanged-definitions calm (R .book .definitions) (opened (R .book) context uses) in
             let clean : x .compiler .errors ≡ [] = no-errors (x .compiler .errors) (R .kept .keeping .rest z₁ .errors) in
             let files : loadedOf (putAway x) ≡ loadedOf context ++ (file ∷ []) =
             loaded-more x ∙ same-files context (x .context) (C .prior) (C .assemblies) (C .filename ∙ sym (R .same)) in
@@ -274,7 +274,7 @@ module _ {tree : List ℕ} {end done count : ℕ} {set : List ℕ} {s s₁ : str
 -- no book is ready: a ring
 module _ {tree : List ℕ} {end done count : ℕ} {set : List ℕ} {s s₁ : struct.Book} {a w w₁ w₂ : List ℕ} {r : Next} {place : ℕ} {x : Taken}
     (z : s .full ≡ 0) (N : LentPart booksArea (PicksNext tree end done count set r) a w w₁) (inside : done < count) (past : count ≤ r .index)
-    (G : RingsIn done count (taken 0 0) a w₁ x w₂) (full-is : s₁ .full ≡ x .full) (errors-are : s₁ .errors ≡ x .count) (place-is : done + place ≡ count) where
+    (G : PushesRingErrorsIn done count (taken 0 0) a w₁ x w₂) (full-is : s₁ .full ≡ x .full) (errors-are : s₁ .errors ≡ x .count) (place-is : done + place ≡ count) where
   pub drive-ring : Drives tree end done count set (bookLaid s a w) (bookLaid s₁ a w₂) 8 place
   unfolding drive
   drive-ring = record {
@@ -283,14 +283,14 @@ module _ {tree : List ℕ} {end done count : ℕ} {set : List ℕ} {s s₁ : str
         let many : done ≡ length (loadedOf context) = D .so-many ∙ sym (loaded-length context) in
         let Q = lent-does (omega arith) f N .nothing past .nothing ds (loadedOf context) left rest compiled (D .stands) many (D .in-all) past in
         let same : part a errorsArea w₁ ≡ part a errorsArea w = lent-part (omega arith) f N errorsArea (omega arith) in
-        let rung : Rings done count (part a booksArea w₁) (taken 0 0) (part a errorsArea w) x (part a errorsArea w₂) =
+        let rung : PushesRingErrors done count (part a booksArea w₁) (taken 0 0) (part a errorsArea w) x (part a errorsArea w₂) =
         rw same at (G .rings (lent-fits (omega arith) f N)) in
         go ds left rest compiled κ others context uses D rung (Q .is) (rw (← many) at (leaves-are (Q .stands)));
   }
     where
       go : (ds : List Document) (left rest compiled : List ℕ) (κ : Limits) (others : ℕ → List ℕ) (context : Context) (uses : List Use)
           → Driving ds tree end done count left rest compiled set κ others (bookLaid s a w) context uses
-          → Rings done count (part a booksArea w₁) (taken 0 0) (part a errorsArea w) x (part a errorsArea w₂)
+          → PushesRingErrors done count (part a booksArea w₁) (taken 0 0) (part a errorsArea w) x (part a errorsArea w₂)
           → ready ds compiled left ≡ none → Leaves (part a booksArea w₁) done left
           → Outcome κ others (bookLaid s₁ a w₂) rest 8 place (drive (length left) ds compiled left context uses)
       go ds [] rest compiled κ others context uses D rung q h = absurd (omega (arith, D .in-all))

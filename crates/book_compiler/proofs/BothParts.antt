@@ -21,10 +21,10 @@ use Rattle.building.specs.declared.taking.Taken.{Taken}
 use Rattle.building.specs.State.{withBreaks, withLoop}
 use Rattle.building.specs.Taking.{takenOf, tookWords, Took, givenUp}
 use Rattle.building.specs.Emission.{Coded, coded, Breaking, breaking, nextC, emitC, replaceC, patchC, emitBreakC, exitBreakC}
-use Rattle.building.specs.Held.{Machine, machine, Held, isOpen}
+use Rattle.building.specs.RepresentsMachine.{Machine, machine, RepresentsMachine, isOpen}
 use Rattle.building.proofs.Emitting.{patch-turn, patch-end, exit-full, exit-more, break-in, break-out}
 use Rattle.building.proofs.BreakLaws.{held-breaking, breakingMachine, break-law, exit-break-law}
-use Rattle.book_compiler.specs.Represents.{Memory, laid, partOf, Represents, Replaced, On, Acts}
+use Rattle.book_compiler.specs.Represents.{Memory, laid, partOf, Represents, Replaced, On, Simulates}
 use Rattle.constant_slots.specs.Plain.{poolOf}
 use Rattle.book_compiler.proofs.Parts.{unbuilt, slots-same}
 use Rattle.book_compiler.proofs.ConstantCount.{break-count, exit-break-count}
@@ -52,7 +52,7 @@ replacing {i} {R} {m} {m′} h o f =
 -- a method over both on what the memory stands for: it keeps the count of constants
 pub both-law : {κ : Limits} {E : Entries} {others : ℕ → List ℕ} {f : Breaking → Breaking} {m m′ : Memory} {w w′ : Work} → m′ .starts ≡ m .starts
     → OnBoth f m m′ → Represents κ E others m w → ((g : Breaking) → f g .state .constants ≡ g .state .constants)
-    → Held κ E (breakingMachine (f (breaking (m .state) (partOf m 1) (partOf m 10))) (partOf m 2) (partOf m 9) (partOf m 11)) w′
+    → RepresentsMachine κ E (breakingMachine (f (breaking (m .state) (partOf m 1) (partOf m 10))) (partOf m 2) (partOf m 9) (partOf m 11)) w′
     → Represents κ E others m′ w′
 both-law {m = m} {m′ = m′} same o H count G =
     let B = o .on (H .fits) in
@@ -109,7 +109,7 @@ break-inside p {s} {a} {l} {index} {m₁} {m′} inside at d e = record {
     other1 i q x y = ap (λ (t : Bool). cond t x y) (flip i 1 q)
 
 pub break-acts : {s : FunctionState} {a l : List ℕ} {s′ : FunctionState} {l′ : List ℕ} (p : ℕ) → OnBoth (emitBreakC p) (laid s a l) (laid s′ a l′)
-    → Acts (laid s a l) (laid s′ a l′) (doing (method.emitBreak p))
+    → Simulates (laid s a l) (laid s′ a l′) (doing (method.emitBreak p))
 break-acts p o = record { meets = λ κ E others w H. both-law refl o H (break-count p) (break-law p (H .held)) }
 
 -- `patch_breaks`: what is left to patch from i is what was to patch at first

@@ -17,11 +17,11 @@ use Rattle.definition_laws.proofs.Limits.{LimitedFunction, functionsIn}
 use Rattle.compiler_laws.specs.InsideFunction.{skipC}
 use Rattle.compiler_laws.proofs.Tokens.{skip-law}
 use Rattle.compiler_laws.specs.declared.book.Book as struct
-use Rattle.compiler_laws.specs.BookAreas.{Shelf, Keeping, Shelved}
+use Rattle.compiler_laws.specs.BookAreas.{BookAreas, RepresentsAreas, NamesBooks}
 use Rattle.compiler_laws.specs.OpenedBooks.{openedBook, nobody}
-use Rattle.compiler_laws.proofs.BookStepsInOrder.{shelved-calm}
+use Rattle.compiler_laws.proofs.BookStepsInOrder.{books-named-unchanged}
 use Rattle.compiler_laws.proofs.BuiltFunctions.{bounded, all-bounded}
-use Rattle.compiler_laws.proofs.DefinitionKinds.{calm-definition}
+use Rattle.compiler_laws.proofs.DefinitionKinds.{unchanged-definition}
 use Rattle.book_compiler.specs.RepresentsBook.{BookMemory, bookLaid, RepresentsBook, CompilesDefinition, CompilesDefinitions, CompilesDocument}
 use Rattle.book_compiler.specs.BookLeaves.{PublishesName}
 use Rattle.book_compiler.specs.DefinitionSteps.{CompilesLocalDefinition, CompilesIncludeDefinition, CompilesModelDefinition, CompilesApplyDefinition}
@@ -43,7 +43,7 @@ module _ {tree : List ℕ} {at end kind : ℕ} (kind-is : kind ≡ kindAt tree a
   definition-include is D = record { meets = λ d h q limited κ others x B H. go d (seeD d tree at h kind-is is) h q κ others x B H }
     where
       go : (d : Definition) → ViewD 11 d → DefinitionAt d tree at → at + sizeD d ≡ end → (κ : Limits) (others : ℕ → List ℕ) (x : Book)
-          → Shelved (others booksArea) (x .context) → RepresentsBook κ [] others m x → RepresentsBook κ [] others m′ (compileDefinition d x)
+          → NamesBooks (others booksArea) (x .context) → RepresentsBook κ [] others m x → RepresentsBook κ [] others m′ (compileDefinition d x)
       go _ (v-IncludeDefinition {n = index} {t = file} {l = as′}) h q κ others x B H = D .includes index file as′ h q .meets κ [] others x B H
 
   pub definition-implement : kind ≡ 16 → CompilesImplementDefinition tree at end m m′ → CompilesDefinition tree at end m m′
@@ -130,7 +130,7 @@ module _ {tree : List ℕ} {at end : ℕ} where
     where
       go : (ds : List Definition) → RunAt DefinitionAt sizeD ds tree at → at + runSize sizeD ds ≡ end
           → All (λ (d : Definition). All LimitedFunction (functionsIn d)) ds → (κ : Limits) (others : ℕ → List ℕ) (b : Book)
-          → Shelved (others booksArea) (b .context) → RepresentsBook κ [] others m b → RepresentsBook κ [] others m (compileDefinitions ds b)
+          → NamesBooks (others booksArea) (b .context) → RepresentsBook κ [] others m b → RepresentsBook κ [] others m (compileDefinitions ds b)
       go [] h q l κ others b s H = H
       go (d ∷ ds) h q l κ others b s H = absurd (omega (arith, sizeD-pos d))
 
@@ -141,15 +141,15 @@ module _ {tree : List ℕ} {at end : ℕ} where
     where
       go : (ds : List Definition) → RunAt DefinitionAt sizeD ds tree at → at + runSize sizeD ds ≡ end
           → All (λ (d : Definition). All LimitedFunction (functionsIn d)) ds → (κ : Limits) (others : ℕ → List ℕ) (b : Book)
-          → Shelved (others booksArea) (b .context) → RepresentsBook κ [] others m b → RepresentsBook κ [] others m′ (compileDefinitions ds b)
+          → NamesBooks (others booksArea) (b .context) → RepresentsBook κ [] others m b → RepresentsBook κ [] others m′ (compileDefinitions ds b)
       go [] h q l κ others b s H = absurd (omega arith)
       go (d ∷ ds) h q (l & ls) κ others b s H =
           let mid : next ≡ at + sizeD d = skipped ∙ skip-law tree at end (headD d (h .0)) (sizeD-pos d) (omega arith) in
           B .meets ds (rw mid (h .1)) (omega arith) ls κ others (compileDefinition d b)
-          (shelved-calm (calm-definition d b) s) (A .meets d (h .0) (sym mid) l κ others b s H)
+          (books-named-unchanged (unchanged-definition d b) s) (A .meets d (h .0) (sym mid) l κ others b s H)
 
 -- a book's own name stands nowhere in the areas yet
-named : {κ : Limits} {m : Shelf} {c : Context} {uses : List Use} (d : Document) → Keeping κ [] m (opened nobody c uses) → Keeping κ [] m (opened d c uses)
+named : {κ : Limits} {m : BookAreas} {c : Context} {uses : List Use} (d : Document) → RepresentsAreas κ [] m (opened nobody c uses) → RepresentsAreas κ [] m (opened d c uses)
 named d H = record {
   fitted = H .fitted;
   full = H .full;
@@ -187,12 +187,12 @@ named d H = record {
 module _ {tree : List ℕ} {at end index : ℕ} {s : struct.Book} {a w : List ℕ} {m′ : BookMemory} where
   pub document-compiled : CompilesDefinitions tree (at + 1) end (bookLaid (openedBook s index) a w) m′ → CompilesDocument tree at end index (bookLaid s a w) m′
   document-compiled M = record {
-    meets = λ d h q limited κ others context uses i shelved R.
+    meets = λ d h q limited κ others context uses i books-named R.
         let H : RepresentsBook κ [] others (bookLaid (openedBook s index) a w) (opened nobody context uses) =
         subst (λ (x : ℕ). RepresentsBook κ [] others (bookLaid (openedBook s x) a w) (opened nobody context uses)) (sym i) (R .ready) in
-        M .meets (d .definitions) (h .definitions) (omega arith) limited κ others (opened d context uses) shelved
+        M .meets (d .definitions) (h .definitions) (omega arith) limited κ others (opened d context uses) books-named
         (record { fits = H .fits; preserves = H .preserves; keeping = named d (H .keeping); slots = H .slots });
   }
 
   pub document-past : end ≤ at → CompilesDocument tree at end index (bookLaid s a w) m′
-  document-past past = record { meets = λ d h q limited κ others context uses i shelved R. absurd (omega arith) }
+  document-past past = record { meets = λ d h q limited κ others context uses i books-named R. absurd (omega arith) }

@@ -13,7 +13,7 @@ use Rattle.definition.specs.Uses.{Limits}
 use Rattle.definition.specs.Book.{Book, Placed, MaybePlaced, Made, functionCount, pushBookError, addBookConstant, setLocalValue, defineContextLocal}
 use Rattle.definition.specs.Book.{compileBase, addFunction, addPlainFunction, compileFunctionDefinition}
 use Rattle.definition_laws.proofs.Lists.{cond-case}
-use Rattle.definition_laws.proofs.Steady.{same, more}
+use Rattle.definition_laws.proofs.StepPreserves.{same, more}
 use Rattle.building.specs.declared.function_state.FunctionState.{FunctionState}
 use Rattle.building.specs.declared.scopes.Found.{Found}
 use Rattle.building.specs.Found.{foundOf}
@@ -21,7 +21,7 @@ use Rattle.building.proofs.Notes.{over-longer}
 use Rattle.compiler_laws.specs.declared.book.Book as struct
 use Rattle.compiler_laws.specs.BookSteps.{resumedBook, AddedLocal}
 use Rattle.compiler_laws.specs.AddingFunctions.{Bounded, baseOf}
-use Rattle.compiler_laws.proofs.UnchangedByBooks.{Calm, calm-trans, calm-error, calm-constant, calm-local, calm-value}
+use Rattle.compiler_laws.proofs.UnchangedByBooks.{BookUnchanged, unchanged-trans, unchanged-error, unchanged-constant, unchanged-local, unchanged-value}
 use Rattle.compiler_laws.proofs.BookLeaves.{defined-added}
 use Rattle.compiler_laws.proofs.BuiltFunctions.{added-fitted}
 use Rattle.book_compiler.specs.Represents.{laid}
@@ -34,24 +34,24 @@ use Rattle.book_compiler.proofs.BookLeaves.{local-defined}
 use Rattle.book_compiler.proofs.MakingFunctions.{built-kept, built-parts, built-live}
 
 -- what is left after the base only adds to the notes
-calm-plain : (o : Option ℕ) (m : Made) (name : ℕ) → Calm (m .book) (addPlainFunction o (m .state) name (m .book) .book)
+unchanged-plain : (o : Option ℕ) (m : Made) (name : ℕ) → BookUnchanged (m .book) (addPlainFunction o (m .state) name (m .book) .book)
 unfolding addPlainFunction
-calm-plain o m name =
+unchanged-plain o m name =
     let y = addFunction (m .state) name (m .book) in
     let i = functionCount (m .book .context) in
     let a = addBookConstant (constantOf functionKind i) y in
     let z = setLocalValue o (a .place) (a .book) in
-    let C : Calm (m .book) z = calm-trans {b = y} (record { uses = more same; prior = refl; assemblies = refl; filename = refl; index = refl })
-    (calm-trans (calm-constant (constantOf functionKind i) y) (calm-value o (a .place) (a .book))) in
-    cond-case (λ (w : Book). Calm (m .book) w) (eqb name 1)
+    let C : BookUnchanged (m .book) z = unchanged-trans {b = y} (record { uses = more same; prior = refl; assemblies = refl; filename = refl; index = refl })
+    (unchanged-trans (unchanged-constant (constantOf functionKind i) y) (unchanged-value o (a .place) (a .book))) in
+    cond-case (λ (w : Book). BookUnchanged (m .book) w) (eqb name 1)
     (λ t. record { uses = C .uses; prior = C .prior; assemblies = C .assemblies; filename = C .filename; index = C .index }) (λ t. C)
 
-calm-rest : (f : FunctionDefinition) (o : Option ℕ) (m : Made)
-    → Calm (m .book) (cond (m .state .header .isInstance) (record { place = 0; book = pushBookError 8 (f .name) (m .book) })
+unchanged-rest : (f : FunctionDefinition) (o : Option ℕ) (m : Made)
+    → BookUnchanged (m .book) (cond (m .state .header .isInstance) (record { place = 0; book = pushBookError 8 (f .name) (m .book) })
     (addPlainFunction o (m .state) (f .name .value) (m .book)) .book)
-calm-rest f o m =
-    cond-case (λ (p : Placed). Calm (m .book) (p .book)) (m .state .header .isInstance) (λ t. calm-error 8 (f .name) (m .book))
-    (λ t. calm-plain o m (f .name .value))
+unchanged-rest f o m =
+    cond-case (λ (p : Placed). BookUnchanged (m .book) (p .book)) (m .state .header .isInstance) (λ t. unchanged-error 8 (f .name) (m .book))
+    (λ t. unchanged-plain o m (f .name .value))
 
 module _ {tree : List ℕ} {at end name : ℕ} {s s₁ : struct.Book} {a l l₁ l′ : List ℕ} {found : Found} {r : FunctionState} (name-is : name ≡ valueAt tree at)
     (D : DefinesContextLocal name found (bookLaid s a l) (bookLaid s₁ a l₁)) (M : MakesFunction tree at end (bookLaid s₁ a l₁) (laid r a l′)) where
@@ -81,7 +81,7 @@ module _ {tree : List ℕ} {at end name : ℕ} {s s₁ : struct.Book} {a l l₁ 
     is-below : r .full ≡ 0 → AddedLocal (local .place) (local .book .context)
     is-below z =
         defined-added (f .name .value) x
-        (H .keeping .rest (represents-unfilled (calm-local (f .name .value) x .uses) H there (built-live built z)) .counted)
+        (H .keeping .rest (represents-unfilled (unchanged-local (f .name .value) x .uses) H there (built-live built z)) .counted)
 
     full-represents : (r .full ≡ 0 → ⊥) → RepresentsBook κ ps others (bookLaid (resumedBook s₁ r) a l′) (compileFunctionDefinition f x .book)
     unfolding compileFunctionDefinition compileBase
@@ -90,7 +90,7 @@ module _ {tree : List ℕ} {at end name : ℕ} {s s₁ : struct.Book} {a l l₁ 
       preserves = built-kept built;
       keeping = record {
         fitted = added-fitted (built-parts built) refl;
-        full = over-longer κ (calm-rest f (local .place) (compileBase f (local .book)) .uses) (built .function .held .full) ne;
+        full = over-longer κ (unchanged-rest f (local .place) (compileBase f (local .book)) .uses) (built .function .held .full) ne;
         rest = λ z. absurd (ne z);
       };
       slots = built .function .slots;

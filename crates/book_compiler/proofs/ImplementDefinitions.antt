@@ -23,12 +23,12 @@ use Rattle.building.specs.Found.{foundOf}
 use Rattle.compiler_laws.specs.declared.book.Book as struct
 use Rattle.compiler_laws.specs.AddingFunctions.{Bounded}
 use Rattle.compiler_laws.specs.ImplementSteps.{implementing, implementingAll, numbered}
-use Rattle.compiler_laws.proofs.UnchangedByModels.{calm-methods}
+use Rattle.compiler_laws.proofs.UnchangedByModels.{unchanged-methods}
 use Rattle.compiler_laws.proofs.MapEntries.{found-at, found-none}
 use Rattle.compiler_laws.proofs.BuiltFunctions.{functions-count}
 use Rattle.compiler_laws.proofs.MethodsTogether.{inserts-append, methods-then, methods-none}
 use Rattle.compiler_laws.proofs.MethodOrder.{Distinct, nobody, distinct-insert, inserts-entry}
-use Rattle.compiler_laws.proofs.ImplementedMethods.{all-more, calm-implement}
+use Rattle.compiler_laws.proofs.ImplementedMethods.{all-more, unchanged-implement}
 use Rattle.book_compiler.specs.Represents.{laid}
 use Rattle.book_compiler.specs.RepresentsBook.{BookMemory, bookLaid, RepresentsBook, SimulatesBook, SimulatesSought}
 use Rattle.book_compiler.specs.BookLeaves.{InsertsBookMethod}
@@ -189,7 +189,7 @@ module _ {tree : List ℕ} {at end : ℕ} {m : BookMemory} where
   implement-past past = record { simulates = λ model fs h r q bounded. absurd (omega arith) }
 
   pub implement-full : (m .book .full ≡ 0 → ⊥) → CompilesImplementDefinition tree at end m m
-  implement-full ne = record { simulates = λ model fs h r q bounded. simulates-full (calm-implement model fs) ne }
+  implement-full ne = record { simulates = λ model fs h r q bounded. simulates-full (unchanged-implement model fs) ne }
 
   module _ (live : m .book .full ≡ 0) {m₁ m₂ : BookMemory} {found : Found} (A : ImplementsFunctions tree (at + 1) end m m₁)
       (F : FindsModelIndex tree at found m₁ m₂) where
@@ -212,7 +212,7 @@ module _ {tree : List ℕ} {at end : ℕ} {m : BookMemory} where
       full-represents : (m₂ .book .full ≡ 0 → ⊥) → RepresentsBook κ ps others m₂ (compileImplementDefinition model fs x)
       full-represents ne =
           rw (by-parts model fs x)
-          (represents-longer (calm-methods (sought model fs x .place) (collected rows []) (sought model fs x .book) .uses) ne looked-for)
+          (represents-longer (unchanged-methods (sought model fs x .place) (collected rows []) (sought model fs x .book) .uses) ne looked-for)
 
       module _ (z : m₂ .book .full ≡ 0) where
         answer : found ≡ foundOf (sought model fs x .place)

@@ -17,11 +17,11 @@ use Rattle.building.specs.declared.scopes.Found.{Found}
 use Rattle.building.specs.declared.scopes.Found.the-variants.{At, Nothing}
 use Rattle.building.specs.Found.{foundOf}
 use Rattle.compiler_laws.specs.declared.book.Book as struct
-use Rattle.compiler_laws.specs.BookAreas.{Shelved}
+use Rattle.compiler_laws.specs.BookAreas.{NamesBooks}
 use Rattle.compiler_laws.specs.BookSteps.{AddedLocal}
 use Rattle.compiler_laws.specs.IncludeSteps.{includedC, AsksMode}
-use Rattle.compiler_laws.proofs.UnchangedByBooks.{calm-local, calm-give, calm-alias, included-calm, calm-include-or-row-11}
-use Rattle.compiler_laws.proofs.BookStepsInOrder.{shelved-calm}
+use Rattle.compiler_laws.proofs.UnchangedByBooks.{unchanged-local, unchanged-give, unchanged-alias, included-unchanged, unchanged-include-or-row-11}
+use Rattle.compiler_laws.proofs.BookStepsInOrder.{books-named-unchanged}
 use Rattle.compiler_laws.proofs.BookLeaves.{defined-added, fitted-locals}
 use Rattle.compiler_laws.proofs.BookCounts.{withMark}
 use Rattle.compiler_laws.proofs.AreaEntries.{keeping-over}
@@ -42,7 +42,7 @@ module _ (tree : List ℕ) (at next file : ℕ) {local : ℕ} (hl : local ≡ va
     (D : DefinesContextLocal local found m m₁) where
   -- the local is defined, whatever comes of the public name
   after-local : {m′ : BookMemory}
-      → ((κ : Limits) (ps : List ℕ) (others : ℕ → List ℕ) (x : Book) → Shelved (others booksArea) (x .context) → RepresentsBook κ ps others m x
+      → ((κ : Limits) (ps : List ℕ) (others : ℕ → List ℕ) (x : Book) → NamesBooks (others booksArea) (x .context) → RepresentsBook κ ps others m x
       → RepresentsBook κ ps others m₁ (defineContextLocal local x .book)
       → (let d = defineContextLocal local x in RepresentsBook κ ps others m′
       (giveValue (d .place) (includedName file (valueAt tree at) (x .context)) (d .book))))
@@ -61,17 +61,17 @@ module _ (tree : List ℕ) (at next file : ℕ) {local : ℕ} (hl : local ≡ va
   alias-full ne =
       after-local (λ κ ps others x B H H₁.
       let d = defineContextLocal local x in
-      represents-longer (calm-give (d .place) (includedName file (valueAt tree at) (x .context)) (d .book) .uses) ne H₁)
+      represents-longer (unchanged-give (d .place) (includedName file (valueAt tree at) (x .context)) (d .book) .uses) ne H₁)
 
   module _ (z : m₁ .book .full ≡ 0) {name : ℕ} (hn : name ≡ valueAt tree at) {value : Found} (hv : FindsIncluded file name value m₁) where
     -- the books before are as they were
-    included : (κ : Limits) (ps : List ℕ) (others : ℕ → List ℕ) (x : Book) → Shelved (others booksArea) (x .context)
+    included : (κ : Limits) (ps : List ℕ) (others : ℕ → List ℕ) (x : Book) → NamesBooks (others booksArea) (x .context)
         → RepresentsBook κ ps others m₁ (defineContextLocal local x .book) → value ≡ foundOf (includedName file (valueAt tree at) (x .context))
     included κ ps others x B H₁ =
-        let kept = calm-local local x in
+        let kept = unchanged-local local x in
         let found : value ≡ foundOf (includedC (m₁ .book .file) (m₁ .book .publics) file name (others booksArea) (areaOf m₁ publicNamesArea)) =
         rw (books-stay H₁) at (hv .reads .on (H₁ .fits)) in
-        found ∙ ap foundOf (included-law file name (H₁ .keeping .rest z) (shelved-calm kept B) ∙ included-calm file name kept
+        found ∙ ap foundOf (included-law file name (H₁ .keeping .rest z) (books-named-unchanged kept B) ∙ included-unchanged file name kept
         ∙ ap (λ (n : ℕ). includedName file n (x .context)) hn)
 
     pub alias-none : value ≡ Nothing → CompilesAlias tree at next file m m₁
@@ -89,7 +89,7 @@ module _ (tree : List ℕ) (at next file : ℕ) {local : ℕ} (hl : local ≡ va
     alias-value {constant} is {m′} L =
         after-local (λ κ ps others x B H H₁.
         let d = defineContextLocal local x in
-        let many = H .keeping .rest (represents-unfilled (calm-local local x .uses) H H₁ z) .counted in
+        let many = H .keeping .rest (represents-unfilled (unchanged-local local x .uses) H H₁ z) .counted in
         go κ ps others (d .book) (d .place) (local-defined D .sought κ ps others x H z) (defined-added local x many)
         (includedName file (valueAt tree at) (x .context)) (sym (included κ ps others x B H₁) ∙ is) H₁)
       where
@@ -125,7 +125,7 @@ aliases-more tree i end file {m} {m₁} {m′} h A R = record { takes = go }
         record {
           meets = λ κ ps others x B H.
               R .takes as′ (rw (← next) (there .1)) (omega (arith, same)) .meets κ ps others (compileAlias file a x)
-              (shelved-calm (calm-alias file a x) B) (A .takes a (there .0 .0) (there .0 .1) .meets κ ps others x B H);
+              (books-named-unchanged (unchanged-alias file a x) B) (A .takes a (there .0 .0) (there .0 .1) .meets κ ps others x B H);
         }
 
 -- `compile_include_definition`
@@ -134,7 +134,7 @@ module _ (tree : List ℕ) (at end : ℕ) {m : BookMemory} where
   pub include-full : (m .book .full ≡ 0 → ⊥) → CompilesIncludeDefinition tree at end m m
   include-full ne = record {
     includes = λ index file as′ h same. record {
-      meets = λ κ ps others x B H. represents-longer (calm-include-or-row-11 index (file .value) as′ x .uses) ne H;
+      meets = λ κ ps others x B H. represents-longer (unchanged-include-or-row-11 index (file .value) as′ x .uses) ne H;
     };
   }
 
@@ -151,7 +151,7 @@ module _ (tree : List ℕ) (at end : ℕ) {m : BookMemory} where
     -- what is asked is the definition's
     asked : {κ : Limits} {ps : List ℕ} {others : ℕ → List ℕ} {x : Book} (index : ℕ) (file : Token) (as′ : List Alias)
         → DefinitionAt (IncludeDefinition index file as′) tree at → at + sizeD (IncludeDefinition index file as′) ≡ end
-        → Shelved (others booksArea) (x .context) → RepresentsBook κ ps others m x → gives ≡ givesValues (file .value) as′ (x .context)
+        → NamesBooks (others booksArea) (x .context) → RepresentsBook κ ps others m x → gives ≡ givesValues (file .value) as′ (x .context)
     unfolding DefinitionAt sizeD
     asked {others = others} {x = x} index file as′ h same B H =
         let S = H .keeping .rest z in

@@ -23,14 +23,14 @@ use Rattle.building.specs.State.{mostDepth}
 use Rattle.building.specs.Found.{foundOf, wrapped}
 use Rattle.building.specs.Scopes.{Naming, naming, enterScopeC, exitScopeC, defineAnonymousC}
 use Rattle.building.specs.Pool.{Erring}
-use Rattle.building.specs.Held.{machine, Held, isOpen}
+use Rattle.building.specs.RepresentsMachine.{machine, RepresentsMachine, isOpen}
 use Rattle.building.proofs.EmissionLaws.{held-coded, emit-law, emit-opcode-without-position-law, emit-null-law, remove-law, return-law}
 use Rattle.building.proofs.EmissionLaws as emission
 use Rattle.building.proofs.BreakLaws.{replace-law}
 use Rattle.building.proofs.StateLaws as state
 use Rattle.building.proofs.ScopeLaws as scopes
 use Rattle.building.proofs.PoolLaws as pool
-use Rattle.book_compiler.specs.Represents.{Memory, laid, partOf, view, Represents, Acts}
+use Rattle.book_compiler.specs.Represents.{Memory, laid, partOf, view, Represents, Simulates}
 use Rattle.book_compiler.specs.Leaves.{OnCode, OnNames, DefinesLocal, AddsConstant, MarksGlobal, PushesError, LastPosition, FindsLocal}
 use Rattle.book_compiler.proofs.Parts.{withArea, on-law, on-other, slots-count, unbuilt}
 use Rattle.book_compiler.proofs.PoolSlots.{pool-marked}
@@ -39,7 +39,7 @@ use Rattle.book_compiler.proofs.ConstantCount as count
 module _ {κ : Limits} {E : Entries} {others : ℕ → List ℕ} {m m′ : Memory} {w : Work} where
   -- the code
   code-law : {f : Coded → Coded} {w′ : Work} → ((g : Coded) → f g .state .constants ≡ g .state .constants) → OnCode f m m′ → Represents κ E others m w
-      → ((c : List ℕ) → coded (m′ .state) c ≡ f (coded (m .state) (partOf m 1)) → Held κ E (withArea 1 (m′ .state) c (view m)) w′)
+      → ((c : List ℕ) → coded (m′ .state) c ≡ f (coded (m .state) (partOf m 1)) → RepresentsMachine κ E (withArea 1 (m′ .state) c (view m)) w′)
       → Represents κ E others m′ w′
   code-law keeps d H law =
       on-other (omega arith) refl refl refl (d .acts) H (λ c r. ap (λ (g : Coded). g .state .constants) r ∙ keeps (coded (m .state) (partOf m 1))) law
@@ -83,7 +83,7 @@ module _ {κ : Limits} {E : Entries} {others : ℕ → List ℕ} {m m′ : Memor
 
   -- the constants with their slots, and the errors
   added-law : {kind value index : ℕ} {w′ : Work} → AddsConstant kind value index m m′ → Represents κ E others m w
-      → Held κ E (machine (m′ .state) (partOf m 1) (partOf m′ 2) (partOf m 9) (partOf m 10) (partOf m 11)) w′ → Represents κ E others m′ w′
+      → RepresentsMachine κ E (machine (m′ .state) (partOf m 1) (partOf m′ 2) (partOf m 9) (partOf m 10) (partOf m 11)) w′ → Represents κ E others m′ w′
   added-law d H G =
       let A = d .adds (H .fits) (H .slots) in
       record {
@@ -135,7 +135,7 @@ module _ {κ : Limits} {E : Entries} {others : ℕ → List ℕ} {s s′ : Funct
   counted : {t : FunctionState} → s′ ≡ t → s′ .constants ≡ t .constants
   counted q = ap (λ (u : FunctionState). u .constants) q
 
-  alone : {w′ : Work} → s′ .constants ≡ s .constants → Held κ E (view (laid s′ a l)) w′ → Represents κ E others (laid s′ a l) w′
+  alone : {w′ : Work} → s′ .constants ≡ s .constants → RepresentsMachine κ E (view (laid s′ a l)) w′ → Represents κ E others (laid s′ a l) w′
   alone n G = record { fits = H .fits; preserves = record { same = H .preserves .same }; held = G; slots = slots-count n (H .slots) }
 
   pub entered : s′ ≡ enterScopeC s → Represents κ E others (laid s′ a l) (doing method.enterScope w)
@@ -161,4 +161,4 @@ module _ {κ : Limits} {E : Entries} {others : ℕ → List ℕ} {s : FunctionSt
   replaced {index} {v} j i d hj hv H = on-other (omega arith) refl refl refl (d .acts) H (λ c r. refl) (λ c r.
       let G = replace-law index v j i hj hv (H .held) in
       let M = view (laid s a l) in
-      subst (λ (g : Coded). Held κ E (machine s (g .code) (M .constants) (M .names) (M .breaks) (M .errors)) (replaceInstruction j i w)) (sym r) G)
+      subst (λ (g : Coded). RepresentsMachine κ E (machine s (g .code) (M .constants) (M .names) (M .breaks) (M .errors)) (replaceInstruction j i w)) (sym r) G)

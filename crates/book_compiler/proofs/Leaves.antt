@@ -22,7 +22,7 @@ use Rattle.definition.specs.Compiler.{emitNameInContext, compileExpression, com
 use Rattle.definition.specs.Compiler.{compileNullExpression, compileIntegerExpression, compileFloatExpression, compileStringExpression}
 use Rattle.definition.specs.Compiler.{compileBooleanExpression, doing}
 use Rattle.definition.specs.Program.{Entries}
-use Rattle.definition_laws.proofs.Steady.{steady-name}
+use Rattle.definition_laws.proofs.StepPreserves.{preserves-name}
 use Rattle.tree.specs.At.{ExpressionAt}
 use Rattle.tree.proofs.View.{ViewE, seeE}
 use Rattle.tree.proofs.View.ViewE.{v-Identifier, v-This, v-Integer, v-Float, v-Text}
@@ -35,20 +35,20 @@ use Rattle.building.proofs.ContextLaws.{find-context-law}
 use Rattle.building.proofs.StateLaws.{put-reads}
 use Rattle.compiler_laws.specs.InsideFunction.{Inside, standingOf}
 use Rattle.compiler_laws.proofs.ConstantLeaves.{low-bits}
-use Rattle.book_compiler.specs.Represents.{Memory, view, Represents, Acts, Does}
+use Rattle.book_compiler.specs.Represents.{Memory, view, Represents, Simulates, SimulatesInside}
 use Rattle.book_compiler.specs.Leaves.{OnCode, AddsConstant, MarksGlobal, PushesError, FindsLocal, FindsContextLocal}
-use Rattle.book_compiler.specs.Members.{token, MeetsLeaf, Finishes}
+use Rattle.book_compiler.specs.Members.{token, CompilesLeaf, Finishes}
 use Rattle.book_compiler.proofs.Steps.{acts-does, full-does}
 use Rattle.book_compiler.proofs.Laws.{emitted, added, added-index, marked, pushed, local-is}
 
 -- `push_error`
 pub faults : {number position kind value : ℕ} {m m′ : Memory} → PushesError number position kind value m m′
-    → Acts m m′ (pushError number (token position kind value))
+    → Simulates m m′ (pushError number (token position kind value))
 faults {number} {position} {kind} {value} d = record { meets = λ κ E others w H. pushed number (token position kind value) d H }
 
 -- `constant`
 pub constant-acts : {m m₁ m′ : Memory} {kind value index x : ℕ} (o position : ℕ) → AddsConstant kind value index m m₁
-    → x ≡ word (toInstruction o index) → OnCode (emitC x position) m₁ m′ → Acts m m′ (emitConstant o (constantOf kind value) position)
+    → x ≡ word (toInstruction o index) → OnCode (emitC x position) m₁ m′ → Simulates m m′ (emitConstant o (constantOf kind value) position)
 unfolding emitConstant
 constant-acts {kind = kind} {value = value} o position a as-word d = record {
   meets = λ κ E others w H. emitted (toInstruction o (addConstant (constantOf kind value) w .index)) position d
@@ -57,7 +57,7 @@ constant-acts {kind = kind} {value = value} o position a as-word d = record {
 
 -- `global`
 pub global-acts : {m m₁ m₂ m′ : Memory} {name index x : ℕ} (o position : ℕ) → AddsConstant textKind name index m m₁ → MarksGlobal index m₁ m₂
-    → x ≡ word (toInstruction o index) → OnCode (emitC x position) m₂ m′ → Acts m m′ (emitGlobal o name position)
+    → x ≡ word (toInstruction o index) → OnCode (emitC x position) m₂ m′ → Simulates m m′ (emitGlobal o name position)
 unfolding emitGlobal
 global-acts {m₁ = m₁} {m₂ = m₂} {name = name} o position a g as-word d = record {
   meets = λ κ E others w H.
@@ -69,11 +69,11 @@ global-acts {m₁ = m₁} {m₂ = m₂} {name = name} o position a g as-word d =
 
 -- `name`
 module _ {start count : ℕ} {m : Memory} (l x g text p : ℕ) where
-  pub name-full : (m .state .full ≡ 0 → ⊥) → Does start count m m (emitName l x g text p)
-  name-full ne = full-does (steady-name l x g text p) ne
+  pub name-full : (m .state .full ≡ 0 → ⊥) → SimulatesInside start count m m (emitName l x g text p)
+  name-full ne = full-does (preserves-name l x g text p) ne
 
   pub name-local : m .state .full ≡ 0 → {f : Found} → FindsLocal text f m → {i v : ℕ} → f ≡ At i → v ≡ word (toInstruction l i)
-      → {m′ : Memory} → OnCode (emitC v p) m m′ → Does start count m m′ (emitName l x g text p)
+      → {m′ : Memory} → OnCode (emitC v p) m m′ → SimulatesInside start count m m′ (emitName l x g text p)
   unfolding emitName
   name-local z searched {i} {v} at as-word {m′} d = record {
     meets = λ κ E others w I H. go κ E others w H (findLocal text (w .function)) (sym (local-is searched H z) ∙ at);
@@ -89,7 +89,7 @@ module _ {start count : ℕ} {m : Memory} (l x g text p : ℕ) where
   -- no local: by the context's names
   elsewhere : m .state .full ≡ 0 → {f : Found} → FindsLocal text f m → f ≡ Nothing → {h : Found} → FindsContextLocal start count text h m → {m′ : Memory}
       → ((κ : Limits) (E : Entries) (others : ℕ → List ℕ) (w : Work) → Represents κ E others m w → (o : Option ℕ) → h ≡ foundOf o
-      → Represents κ E others m′ (emitNameInContext o x g text p w)) → Does start count m m′ (emitName l x g text p)
+      → Represents κ E others m′ (emitNameInContext o x g text p w)) → SimulatesInside start count m m′ (emitName l x g text p)
   unfolding emitName
   elsewhere z searched lost {h} there {m′} after = record {
     meets = λ κ E others w I H. go κ E others w I H (findLocal text (w .function)) (sym (local-is searched H z) ∙ lost);
@@ -104,7 +104,7 @@ module _ {start count : ℕ} {m : Memory} (l x g text p : ℕ) where
       go κ E others w I H (some j) q = absurd (let y : _≡_ {A = ℕ} 0 1 = cc in omega arith)
 
   pub name-context : m .state .full ≡ 0 → {f : Found} → FindsLocal text f m → f ≡ Nothing → {h : Found} → FindsContextLocal start count text h m
-      → {i v : ℕ} → h ≡ At i → v ≡ word (toInstruction x i) → {m′ : Memory} → OnCode (emitC v p) m m′ → Does start count m m′ (emitName l x g text p)
+      → {i v : ℕ} → h ≡ At i → v ≡ word (toInstruction x i) → {m′ : Memory} → OnCode (emitC v p) m m′ → SimulatesInside start count m m′ (emitName l x g text p)
   name-context z searched lost {h} there {i} {v} at as-word {m′} d = elsewhere z searched lost there go
     where
       go : (κ : Limits) (E : Entries) (others : ℕ → List ℕ) (w : Work) → Represents κ E others m w → (o : Option ℕ) → h ≡ foundOf o
@@ -114,7 +114,7 @@ module _ {start count : ℕ} {m : Memory} (l x g text p : ℕ) where
           let same : i ≡ j = cc in emitted (toInstruction x j) p d (λ y. as-word ∙ ap (λ (n : ℕ). word (toInstruction x n)) same) (λ y. refl) H
 
   pub name-global : m .state .full ≡ 0 → {f : Found} → FindsLocal text f m → f ≡ Nothing → {h : Found} → FindsContextLocal start count text h m
-      → h ≡ Nothing → {m′ : Memory} → Acts m m′ (emitGlobal g text p) → Does start count m m′ (emitName l x g text p)
+      → h ≡ Nothing → {m′ : Memory} → Simulates m m′ (emitGlobal g text p) → SimulatesInside start count m m′ (emitName l x g text p)
   name-global z searched lost {h} there none-there {m′} G = elsewhere z searched lost there go
     where
       go : (κ : Limits) (E : Entries) (others : ℕ → List ℕ) (w : Work) → Represents κ E others m w → (o : Option ℕ) → h ≡ foundOf o
@@ -127,58 +127,58 @@ token-as : (tree : List ℕ) (at : ℕ) {kind position value : ℕ} → kind ≡
 token-as tree at k p v P q x = rw (q, ← k, ← p, ← v) x
 
 one : {start count position x : ℕ} {m m′ : Memory} → OnCode (emitC x position) m m′ → (i p : ℕ) → x ≡ word (toInstruction PushConstant i) → position ≡ p
-    → Does start count m m′ (emit (toInstruction PushConstant i) p)
+    → SimulatesInside start count m m′ (emit (toInstruction PushConstant i) p)
 one d i p as-word same = record { meets = λ κ E others w I H. emitted (toInstruction PushConstant i) p d (λ z. as-word) (λ z. same) H }
 
 -- `leaf`
 module _ {start count : ℕ} {m m′ : Memory} {kind position value : ℕ} where
-  pub leaf-name : kind ≡ 30 → Does start count m m′ (emitName LocalGet ContextGet GlobalGet value position) → MeetsLeaf kind position value start count m m′
+  pub leaf-name : kind ≡ 30 → SimulatesInside start count m m′ (emitName LocalGet ContextGet GlobalGet value position) → CompilesLeaf kind position value start count m m′
   unfolding ExpressionAt compileExpression compileIdentifierExpression
   leaf-name q N = record { leaf = λ tree at k p v low e h. go tree at k p v e (seeE e tree at h k q) h }
     where
       go : (tree : List ℕ) (at : ℕ) → kind ≡ kindAt tree at → position ≡ positionAt tree at → value ≡ valueAt tree at → (e : Expression) → ViewE 30 e
-          → ExpressionAt e tree at → Does start count m m′ (compileExpression e)
+          → ExpressionAt e tree at → SimulatesInside start count m m′ (compileExpression e)
       go tree at k p v (Identifier t) v-Identifier h =
-          token-as tree at k p v (λ (u : Token). Does start count m m′ (emitName LocalGet ContextGet GlobalGet (u .value) (u .position))) (h .token) N
+          token-as tree at k p v (λ (u : Token). SimulatesInside start count m m′ (emitName LocalGet ContextGet GlobalGet (u .value) (u .position))) (h .token) N
 
-  pub leaf-integer : kind ≡ 33 → Acts m m′ (emitConstant PushConstant (constantOf 2 value) position) → MeetsLeaf kind position value start count m m′
+  pub leaf-integer : kind ≡ 33 → Simulates m m′ (emitConstant PushConstant (constantOf 2 value) position) → CompilesLeaf kind position value start count m m′
   unfolding ExpressionAt compileExpression compileIntegerExpression
   leaf-integer q P = record { leaf = λ tree at k p v low e h. go tree at k p v e (seeE e tree at h k q) h }
     where
       go : (tree : List ℕ) (at : ℕ) → kind ≡ kindAt tree at → position ≡ positionAt tree at → value ≡ valueAt tree at → (e : Expression) → ViewE 33 e
-          → ExpressionAt e tree at → Does start count m m′ (compileExpression e)
+          → ExpressionAt e tree at → SimulatesInside start count m m′ (compileExpression e)
       go tree at k p v (Integer t) v-Integer h =
-          token-as tree at k p v (λ (u : Token). Does start count m m′ (emitConstant PushConstant (constantOf 2 (u .value)) (u .position))) (h .token)
+          token-as tree at k p v (λ (u : Token). SimulatesInside start count m m′ (emitConstant PushConstant (constantOf 2 (u .value)) (u .position))) (h .token)
           (acts-does P)
 
-  pub leaf-float : kind ≡ 34 → Acts m m′ (emitConstant PushConstant (constantOf 3 value) position) → MeetsLeaf kind position value start count m m′
+  pub leaf-float : kind ≡ 34 → Simulates m m′ (emitConstant PushConstant (constantOf 3 value) position) → CompilesLeaf kind position value start count m m′
   unfolding ExpressionAt compileExpression compileFloatExpression
   leaf-float q P = record { leaf = λ tree at k p v low e h. go tree at k p v e (seeE e tree at h k q) h }
     where
       go : (tree : List ℕ) (at : ℕ) → kind ≡ kindAt tree at → position ≡ positionAt tree at → value ≡ valueAt tree at → (e : Expression) → ViewE 34 e
-          → ExpressionAt e tree at → Does start count m m′ (compileExpression e)
+          → ExpressionAt e tree at → SimulatesInside start count m m′ (compileExpression e)
       go tree at k p v (Float t) v-Float h =
-          token-as tree at k p v (λ (u : Token). Does start count m m′ (emitConstant PushConstant (constantOf 3 (u .value)) (u .position))) (h .token)
+          token-as tree at k p v (λ (u : Token). SimulatesInside start count m m′ (emitConstant PushConstant (constantOf 3 (u .value)) (u .position))) (h .token)
           (acts-does P)
 
-  pub leaf-text : kind ≡ 35 → Acts m m′ (emitConstant PushConstant (constantOf 4 value) position) → MeetsLeaf kind position value start count m m′
+  pub leaf-text : kind ≡ 35 → Simulates m m′ (emitConstant PushConstant (constantOf 4 value) position) → CompilesLeaf kind position value start count m m′
   unfolding ExpressionAt compileExpression compileStringExpression
   leaf-text q P = record { leaf = λ tree at k p v low e h. go tree at k p v e (seeE e tree at h k q) h }
     where
       go : (tree : List ℕ) (at : ℕ) → kind ≡ kindAt tree at → position ≡ positionAt tree at → value ≡ valueAt tree at → (e : Expression) → ViewE 35 e
-          → ExpressionAt e tree at → Does start count m m′ (compileExpression e)
+          → ExpressionAt e tree at → SimulatesInside start count m m′ (compileExpression e)
       go tree at k p v (Text t) v-Text h =
-          token-as tree at k p v (λ (u : Token). Does start count m m′ (emitConstant PushConstant (constantOf 4 (u .value)) (u .position))) (h .token)
+          token-as tree at k p v (λ (u : Token). SimulatesInside start count m m′ (emitConstant PushConstant (constantOf 4 (u .value)) (u .position))) (h .token)
           (acts-does P)
 
   -- one instruction
   module _ {x : ℕ} (d : OnCode (emitC x position) m m′) where
-    pub leaf-this : kind ≡ 31 → x ≡ word (toInstruction LocalGet 0) → MeetsLeaf kind position value start count m m′
+    pub leaf-this : kind ≡ 31 → x ≡ word (toInstruction LocalGet 0) → CompilesLeaf kind position value start count m m′
     unfolding ExpressionAt compileExpression compileThisExpression
     leaf-this q as-word = record { leaf = λ tree at k p v low e h. go tree at p e (seeE e tree at h k q) h }
       where
         go : (tree : List ℕ) (at : ℕ) → position ≡ positionAt tree at → (e : Expression) → ViewE 31 e → ExpressionAt e tree at
-            → Does start count m m′ (compileExpression e)
+            → SimulatesInside start count m m′ (compileExpression e)
         go tree at p (This t) v-This h = record {
           meets = λ κ E others w I H.
               let G = emitted (toInstruction LocalGet 0) (t .position) d (λ z. as-word) (λ z. p ∙ sym (ap (λ (u : Token). u .position) (h .token))) H in
@@ -193,12 +193,12 @@ module _ {start count : ℕ} {m m′ : Memory} {kind position value : ℕ} where
     module _ {v : ℕ} (v-is : v ≡ standingOf kind value) (as-word : x ≡ word (toInstruction PushConstant v))
         (n30 : kind ≡ 30 → ⊥) (n31 : kind ≡ 31 → ⊥) (n33 : kind ≡ 33 → ⊥) (n34 : kind ≡ 34 → ⊥) (n35 : kind ≡ 35 → ⊥) where
       -- null and the booleans are what is left
-      pub leaf-standing : MeetsLeaf kind position value start count m m′
+      pub leaf-standing : CompilesLeaf kind position value start count m m′
       unfolding ExpressionAt compileExpression compileNullExpression compileBooleanExpression
       leaf-standing = record { leaf = go }
         where
           go : (tree : List ℕ) (at : ℕ) → kind ≡ kindAt tree at → position ≡ positionAt tree at → value ≡ valueAt tree at → kind < 37
-              → (e : Expression) → ExpressionAt e tree at → Does start count m m′ (compileExpression e)
+              → (e : Expression) → ExpressionAt e tree at → SimulatesInside start count m m′ (compileExpression e)
           go tree at kind-is p value-is l (Identifier t) h = absurd (n30 (kind-is ∙ h .head .kind-is))
           go tree at kind-is p value-is l (This t) h = absurd (n31 (kind-is ∙ h .head .kind-is))
           go tree at kind-is p value-is l (Integer t) h = absurd (n33 (kind-is ∙ h .head .kind-is))
@@ -227,7 +227,7 @@ module _ {start count : ℕ} {m m′ : Memory} {kind position value : ℕ} where
 
 -- `finish_expression`: by the kind
 opcode-acts : {x position : ℕ} {m m′ : Memory} (o n : ℕ) → x ≡ word (toInstruction o n) → OnCode (emitC x position) m m′
-    → Acts m m′ (emit (toInstruction o n) position)
+    → Simulates m m′ (emit (toInstruction o n) position)
 opcode-acts o n as-word d = record { meets = λ κ E others w H. emitted (toInstruction o n) _ d (λ z. as-word) (λ z. refl) H }
 
 module _ {kind position value n : ℕ} {m m′ : Memory} where
@@ -267,7 +267,7 @@ module _ {kind position value n : ℕ} {m m′ : Memory} where
     index = λ r. opcode-acts IndexGetOp 0 refl d;
   }
 
-  only-prefix : kind ≡ 38 → Acts m m′ (compilePrefixExpression (token position kind value) skip) → Finishes kind position value n m m′
+  only-prefix : kind ≡ 38 → Simulates m m′ (compilePrefixExpression (token position kind value) skip) → Finishes kind position value n m m′
   only-prefix q A = record {
     array = λ r. absurd (omega arith);
     prefix = λ r. A;

@@ -16,7 +16,7 @@ use Rattle.definition.specs.Uses.{Use, Limits}
 use Rattle.definition.specs.Book.{Context, bookCount, opened}
 use Rattle.building.proofs.Filling.{drop-zeros}
 use Rattle.compiler_laws.specs.declared.book.Book as struct
-use Rattle.compiler_laws.specs.BookAreas.{Shelf, shelf, Keeping}
+use Rattle.compiler_laws.specs.BookAreas.{BookAreas, bookAreas, RepresentsAreas}
 use Rattle.compiler_laws.specs.OpenedBooks.{openedBook, nobody}
 use Rattle.compiler_laws.specs.BooksInOrder.{Zero}
 use Rattle.constant_slots.specs.Plain.{poolOf}
@@ -95,7 +95,7 @@ still-at-rest {κ} {others} {R} {s} {a} {w} {w′} {context} {uses} L H =
         ready = record {
           fits = lent-fits (omega arith) f L;
           preserves = record { same = λ j g q. go j g q (eqb j booksArea) refl };
-          keeping = subst (λ (v : Shelf). Keeping κ [] v (opened nobody context uses)) (sym (books-view {s = openedBook s (bookCount context)} f L))
+          keeping = subst (λ (v : BookAreas). RepresentsAreas κ [] v (opened nobody context uses)) (sym (books-view {s = openedBook s (bookCount context)} f L))
               (before .keeping);
           slots = slots-same (lent-part (omega arith) f L 13 (omega arith))
               (ap (λ (k : List ℕ). poolOf (s .constants) k) (lent-part (omega arith) f L 2 (omega arith))) (before .slots);

@@ -18,7 +18,7 @@ use Rattle.building.specs.declared.scopes.Found.the-variants.{At, Nothing}
 use Rattle.building.specs.Found.{foundOf}
 use Rattle.compiler_laws.specs.InsideFunction.{standingOf}
 use Rattle.compiler_laws.specs.BookSteps.{AddedLocal}
-use Rattle.compiler_laws.proofs.UnchangedByBooks.{calm-constant, calm-local, calm-binding-by}
+use Rattle.compiler_laws.proofs.UnchangedByBooks.{unchanged-constant, unchanged-local, unchanged-binding-by}
 use Rattle.compiler_laws.proofs.BookLeaves.{defined-added}
 use Rattle.book_compiler.specs.RepresentsBook.{BookMemory, RepresentsBook, SimulatesBook}
 use Rattle.book_compiler.specs.BookLeaves.{PushesBookError, AddsBookConstant, DefinesContextLocal, SetsLocalValue}
@@ -36,7 +36,7 @@ adds-value kind value P L = record {
         let H₁ = constant-added P .meets κ ps others x H in
         value-set o (a .place) L (record {
           agrees = λ z.
-              let (is, below) = A .agrees (represents-unfilled (calm-constant (constantOf kind value) x .uses) H H₁ z) in
+              let (is, below) = A .agrees (represents-unfilled (unchanged-constant (constantOf kind value) x .uses) H H₁ z) in
               (is, constant-added P .placed κ ps others x H z, below);
         }) H₁;
   };
@@ -101,7 +101,7 @@ module _ (tree : List ℕ) (at next : ℕ) {name : ℕ} (hn : name ≡ valueAt t
   pub binds-full : (m₁ .book .full ≡ 0 → ⊥) → CompilesBinding tree at next m m₁
   binds-full ne =
       after-name (λ κ ps others y v there H H₁.
-      let d = defineContextLocal name y in represents-longer (calm-binding-by (d .place) v (d .book) .uses) ne H₁)
+      let d = defineContextLocal name y in represents-longer (unchanged-binding-by (d .place) v (d .book) .uses) ne H₁)
 
   pub binds-absent : {kind : ℕ} → kind ≡ kindAt tree next → kind ≡ 49 → CompilesBinding tree at next m m₁
   unfolding ValueAt
@@ -131,7 +131,7 @@ module _ (tree : List ℕ) (at next : ℕ) {name : ℕ} (hn : name ≡ valueAt t
   binds-value z hk n₁ {i} is {m′} G =
       after-name (λ κ ps others y v there H H₁.
       let d = defineContextLocal name y in
-      let many = H .keeping .rest (represents-unfilled (calm-local name y .uses) H H₁ z) .counted in
+      let many = H .keeping .rest (represents-unfilled (unchanged-local name y .uses) H H₁ z) .counted in
       go κ ps others (d .book) (d .place) v there (λ q. n₁ (hk ∙ q)) (sym is ∙ local-defined D .sought κ ps others y H z) (defined-added name y many) H₁)
     where
       go : (κ : Limits) (ps : List ℕ) (others : ℕ → List ℕ) (y : Book) (o : Option ℕ) (v : Option Token) → ValueAt v tree next

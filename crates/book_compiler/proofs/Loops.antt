@@ -20,8 +20,8 @@ use Rattle.definition.specs.Uses.{Limits, total}
 use Rattle.definition.specs.Compiler.{Work, withFunction, doing, emit, emitOpcodeWithoutPosition, replaceInstruction, next, emitConstant, getOr}
 use Rattle.definition.specs.Compiler.{compileExpression, compileStatements, compileForStatement}
 use Rattle.definition.specs.Program.{Entries}
-use Rattle.definition_laws.proofs.Steady.{Steady, Steadily, steady-trans, steady-function}
-use Rattle.definition_laws.proofs.Steady.{steady-emit-constant, steady-define, steady-expression, steady-statements}
+use Rattle.definition_laws.proofs.StepPreserves.{StepPreserves, Steadily, preserves-trans, preserves-function}
+use Rattle.definition_laws.proofs.StepPreserves.{preserves-emit-constant, preserves-define, preserves-expression, preserves-statements}
 use Rattle.tree.specs.At.{Leaf, ExpressionAt, StatementsAt, sizeE, sizeSs}
 use Rattle.tree.proofs.View.{headE, sizeE-pos}
 use Rattle.building.specs.declared.function_state.FunctionState.{FunctionState}
@@ -29,20 +29,20 @@ use Rattle.building.specs.declared.scopes.Found.{Found}
 use Rattle.building.specs.Emission.{nextC, emitC, emitLastC, replaceC, enterBreakC, exitBreakC}
 use Rattle.building.specs.Found.{foundOf, wrapped}
 use Rattle.building.specs.Scopes.{enterScopeC, exitScopeC, defineAnonymousC}
-use Rattle.building.specs.Held.{isOpen}
+use Rattle.building.specs.RepresentsMachine.{isOpen}
 use Rattle.building.proofs.ScopeLaws.{define-mark}
 use Rattle.building.proofs.Notes.{held-renoted}
 use Rattle.compiler_laws.specs.InsideFunction.{Inside, skipC}
 use Rattle.compiler_laws.specs.ForStatements.{loopStart, loopHead, loopDefined, loopNext, loopName, loopEnd, foundOrZero, Around}
-use Rattle.compiler_laws.proofs.ScopesBalanced.{balanced-trans, balanced-expression, balanced-statements}
+use Rattle.compiler_laws.proofs.ScopesBalanced.{scopes-trans, scopes-expression, scopes-statements}
 use Rattle.compiler_laws.proofs.StepsInOrder.{inside-after}
 use Rattle.compiler_laws.proofs.Tokens.{skip-law}
 use Rattle.compiler_laws.proofs.ConstantLeaves.{low-bits}
-use Rattle.compiler_laws.proofs.ForStatements.{steady-start, steady-head, steady-name, balanced-head, balanced-name}
+use Rattle.compiler_laws.proofs.ForStatements.{preserves-start, preserves-head, preserves-name, scopes-head, scopes-name}
 use Rattle.book_compiler.specs.declared.statements.LoopEntry.{LoopEntry}
-use Rattle.book_compiler.specs.Represents.{Memory, laid, Represents, Acts, Does}
+use Rattle.book_compiler.specs.Represents.{Memory, laid, Represents, Simulates, SimulatesInside}
 use Rattle.book_compiler.specs.Leaves.{OnCode, OnNames, OnBoth, DefinesLocal, LastPosition}
-use Rattle.book_compiler.specs.Members.{LoopStarts, LoopHead, LoopName, LoopNamed, LoopEnd, MeetsE, MeetsSs, MeetsFor}
+use Rattle.book_compiler.specs.Members.{LoopStarts, LoopHead, LoopName, LoopNamed, LoopEnd, CompilesExpression, CompilesStatements, CompilesForStatement}
 use Rattle.book_compiler.proofs.Steps.{back}
 use Rattle.book_compiler.proofs.Laws.{emitted, last-emitted, replaced, next-is, last-is, left, defined, defined-found, anonymous, entered, loop-entered}
 use Rattle.book_compiler.proofs.BothParts.{exited}
@@ -75,14 +75,14 @@ next-local : (x : ℕ) {local iterator : ℕ} → iterator ≡ (local + 1) % 2 ^
 next-local x q p = q ∙ ap (λ (y : ℕ). (y + 1) % 2 ^ 64) p ∙ mod-add-mod x (2 ^ 64) 1
 
 -- two emissions, the second at the last position
-twice-steady : (o x p o′ : ℕ) → Steadily (λ w. emitOpcodeWithoutPosition o′ (emit (toInstruction o x) p w))
-twice-steady o x p o′ w =
+twice-preserves : (o x p o′ : ℕ) → Steadily (λ w. emitOpcodeWithoutPosition o′ (emit (toInstruction o x) p w))
+twice-preserves o x p o′ w =
     let u = emit (toInstruction o x) p w in
-    steady-trans {b = u} (steady-function w _ refl) (steady-function u _ refl)
+    preserves-trans {b = u} (preserves-function w _ refl) (preserves-function u _ refl)
 
 -- `begin_loop`
 pub head-acts : {m m₁ m₂ m₃ m₄ m′ : Memory} {local iterator v v₁ p : ℕ} → v ≡ word (toInstruction LocalSet local) → OnCode (emitC v p) m m₁
-    → OnCode (emitLastC (word (toInstruction Pop 0))) m₁ m₂ → Acts m₂ m₃ (emitConstant PushConstant (constantOf integerKind 0) p)
+    → OnCode (emitLastC (word (toInstruction Pop 0))) m₁ m₂ → Simulates m₂ m₃ (emitConstant PushConstant (constantOf integerKind 0) p)
     → iterator ≡ (local + 1) % 2 ^ 64 → v₁ ≡ word (toInstruction LocalSet iterator) → OnCode (emitC v₁ p) m₃ m₄
     → OnCode (emitLastC (word (toInstruction Pop 0))) m₄ m′ → LoopHead local p m m′
 head-acts {p = p} as-word d₁ d₂ zeroed more as-word₁ d₄ d′ = record {
@@ -93,7 +93,7 @@ head-acts {p = p} as-word d₁ d₂ zeroed more as-word₁ d₄ d′ = record {
         let H₁ = emitted (toInstruction LocalSet x) p d₁ (λ z. as-local LocalSet x as-word (agree z)) (λ z. refl) H in
         let H₂ = last-emitted Pop d₂ H₁ in
         let Z = zeroed .meets κ E others w₁ H₂ in
-        let S = steady-trans (twice-steady LocalSet x p Pop w) (steady-emit-constant PushConstant (constantOf integerKind 0) p w₁) in
+        let S = preserves-trans (twice-preserves LocalSet x p Pop w) (preserves-emit-constant PushConstant (constantOf integerKind 0) p w₁) in
         let H₄ = emitted (toInstruction LocalSet (x + 1)) p d₄
         (λ z. as-local LocalSet (x + 1) as-word₁ (next-local x more (agree (back (S .uses) H Z z)))) (λ z. refl) Z in
         last-emitted Pop d′ H₄;
@@ -128,14 +128,14 @@ name-names {m} {m₁} {found = found} {text = text} {index = index} D index-is f
       let H₃ = last-emitted JumpIf d₃ H₂ in
       let here : m₁ .state .full ≡ 0 → index ≡ i % 2 ^ 64 =
       λ z. index-is ∙ ap foundOrZero (defined-found D′ H (mark-before D (H .fits) z) op) ∙ found-zero o in
-      let S₃ = twice-steady ForNext x (t .position) JumpIf u in
+      let S₃ = twice-preserves ForNext x (t .position) JumpIf u in
       let H₄ = emitted (toInstruction LocalSet i) (n .position) d₄ (λ z. as-local LocalSet i as-word′ (here (back (S₃ .uses) H₁ H₃ z))) (λ z. sym pn) H₃ in
       let H₅ = last-emitted Pop d₅ H₄ in
-      let S₅ = twice-steady LocalSet i (n .position) Pop w₃ in
-      let S₂ = steady-trans (steady-function w₂ (method.emitOpcodeWithoutPosition JumpIf (w₂ .function)) refl) S₅ in
+      let S₅ = twice-preserves LocalSet i (n .position) Pop w₃ in
+      let S₂ = preserves-trans (preserves-function w₂ (method.emitOpcodeWithoutPosition JumpIf (w₂ .function)) refl) S₅ in
       record {
         represents = H₅;
-        first = λ z. first-is ∙ next-is H₁ (back (steady-trans S₃ S₅ .uses) H₁ H₅ z);
+        first = λ z. first-is ∙ next-is H₁ (back (preserves-trans S₃ S₅ .uses) H₁ H₅ z);
         exit = λ z. exit-is ∙ next-is H₂ (back (S₂ .uses) H₂ H₅ z);
       };
 }
@@ -156,10 +156,10 @@ end-ends {around} position-is more as-word d₁ last as-word₁ d₂ following-i
       let w₂ = emit (toInstruction Jump first′) (getLastPosition (w₁ .function)) w₁ in
       let w₃ = replaceInstruction exit′ (toInstruction JumpIf (next w₂)) w₂ in
       let w₄ = doing (method.exitBreakScope exit′) w₃ in
-      let S₁ : Steady w w₁ = steady-function w _ refl in
-      let S₂ : Steady w w₂ = steady-trans S₁ (steady-function w₁ _ refl) in
-      let S₃ : Steady w w₃ = steady-trans S₂ (steady-function w₂ _ refl) in
-      let S₄ : Steady w w₄ = steady-trans S₃ (steady-function w₃ _ refl) in
+      let S₁ : StepPreserves w w₁ = preserves-function w _ refl in
+      let S₂ : StepPreserves w w₂ = preserves-trans S₁ (preserves-function w₁ _ refl) in
+      let S₃ : StepPreserves w w₃ = preserves-trans S₂ (preserves-function w₂ _ refl) in
+      let S₄ : StepPreserves w w₄ = preserves-trans S₃ (preserves-function w₃ _ refl) in
       let H₁ = emitted (toInstruction Iterate (x + 1)) (getLastPosition f) d₁ (λ z. as-local Iterate (x + 1) as-word (next-local x more (A z .local)))
       (λ z. last-is position-is H z) H in
       let H₂ = emitted (toInstruction Jump first′) (getLastPosition (w₁ .function)) d₂
@@ -173,10 +173,10 @@ end-ends {around} position-is more as-word d₁ last as-word₁ d₂ following-i
 -- `compile_for_statement`
 module _ {tree : List ℕ} {at end start count position text place : ℕ} {body : ℕ} {s s₁ : FunctionState} {a l : List ℕ} {m₂ m₃ m₄ m₅ m₆ : Memory} {r : LoopEntry}
     (text-is : text ≡ valueAt tree at) (place-is : place ≡ positionAt tree at) (skipped : body ≡ skipC tree (at + 1) end) (begun : LoopStarts s s₁)
-    (M : MeetsE tree (at + 1) body start count (laid s₁ a l) m₂) (head : LoopHead (s .«local_count») position m₂ m₃)
-    (named : LoopName position text place (s .«local_count») r m₃ m₄) (N : MeetsSs tree body end start count m₄ m₅)
+    (M : CompilesExpression tree (at + 1) body start count (laid s₁ a l) m₂) (head : LoopHead (s .«local_count») position m₂ m₃)
+    (named : LoopName position text place (s .«local_count») r m₃ m₄) (N : CompilesStatements tree body end start count m₄ m₅)
     (ended : LoopEnd s (r .first) (r .exit) m₅ m₆) where
-  pub for-meets : MeetsFor tree at end position start count (laid s a l) m₆
+  pub for-meets : CompilesForStatement tree at end position start count (laid s a l) m₆
   unfolding compileForStatement
   for-meets = record {
     meets = λ t n x ss pt hn hx hs q.
@@ -189,15 +189,15 @@ module _ {tree : List ℕ} {at end start count position text place : ℕ} {body 
               let w₃ = loopHead i (t .position) w₂ in
               let w₄ = loopName i t n w₃ in
               let w₅ = compileStatements ss w₄ in
-              let S₂ = steady-trans (steady-start w) (steady-expression x w₁) in
-              let S₃ = steady-trans S₂ (steady-head i (t .position) w₂) in
-              let S₄ = steady-name i t n w₃ in
-              let S₅ = steady-statements ss w₄ in
-              let B₃ = balanced-trans (balanced-expression x w₁) (balanced-head i (t .position) w₂) in
-              let B₄ = balanced-name i t n w₃ in
-              let B₅ = balanced-trans (balanced-trans B₃ B₄) (balanced-statements ss w₄) in
+              let S₂ = preserves-trans (preserves-start w) (preserves-expression x w₁) in
+              let S₃ = preserves-trans S₂ (preserves-head i (t .position) w₂) in
+              let S₄ = preserves-name i t n w₃ in
+              let S₅ = preserves-statements ss w₄ in
+              let B₃ = scopes-trans (scopes-expression x w₁) (scopes-head i (t .position) w₂) in
+              let B₄ = scopes-name i t n w₃ in
+              let B₅ = scopes-trans (scopes-trans B₃ B₄) (scopes-statements ss w₄) in
               let I₁ : Inside start count (others contextLocalsArea) w₁ = record { is-open = refl; named = I .named } in
-              let I₃ = inside-after (steady-trans (steady-expression x w₁) (steady-head i (t .position) w₂)) B₃ I₁ in
+              let I₃ = inside-after (preserves-trans (preserves-expression x w₁) (preserves-head i (t .position) w₂)) B₃ I₁ in
               let H₁ = begun .acts a l .meets κ E others w H in
               let H₂ = M .meets x hx (sym mid) .meets κ E others w₁ I₁ H₁ in
               let head′ : LoopHead (s .«local_count») (t .position) m₂ m₃ = rw pt head in
@@ -207,7 +207,7 @@ module _ {tree : List ℕ} {at end start count position text place : ℕ} {body 
               κ E others w₃ (I₃ .is-open) H₃ in
               let H₅ = N .meets ss (rw mid hs) (omega arith) .meets κ E others w₄ (inside-after S₄ B₄ I₃) (L .represents) in
               let around : m₅ .state .full ≡ 0 → Around s i w₅ = λ z.
-              let C = H .held .rest (back (steady-trans S₃ (steady-trans S₄ S₅) .uses) H H₅ z) in
+              let C = H .held .rest (back (preserves-trans S₃ (preserves-trans S₄ S₅) .uses) H H₅ z) in
               record {
                 local = C .locals;
                 scope = C .scope ∙ sym (ap (λ (y : List (List Entry)). total (tail y)) (B₅ .scopes));
@@ -220,5 +220,5 @@ module _ {tree : List ℕ} {at end start count position text place : ℕ} {body 
   }
 
 -- too short for a for: nothing of the kind stands there
-pub for-past : {tree : List ℕ} {at end start count position : ℕ} {m m′ : Memory} → end ≤ at → MeetsFor tree at end position start count m m′
+pub for-past : {tree : List ℕ} {at end start count position : ℕ} {m m′ : Memory} → end ≤ at → CompilesForStatement tree at end position start count m m′
 for-past p = record { meets = λ t n x ss pt hn hx hs q. absurd (omega (arith, sizeE-pos x)) }

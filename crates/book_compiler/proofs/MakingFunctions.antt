@@ -21,7 +21,7 @@ use Rattle.definition.specs.Compiler.{withFunction}
 use Rattle.definition.specs.Book.{Book, Placed, functionCount, withContext, withEntryPoint, pushBookError, addBookConstant, setLocalValue}
 use Rattle.definition.specs.Book.{working, compileBase, addFunction, addPlainFunction}
 use Rattle.definition_laws.proofs.Good.{function-moves}
-use Rattle.definition_laws.proofs.Steady.{steady-base}
+use Rattle.definition_laws.proofs.StepPreserves.{preserves-base}
 use Rattle.building.specs.declared.function_state.FunctionState.{FunctionState}
 use Rattle.building.specs.declared.scopes.Found.{Found}
 use Rattle.building.specs.Emission.{Coded, coded, dropC}
@@ -29,14 +29,14 @@ use Rattle.building.specs.State.{begun, withCodeCount}
 use Rattle.building.specs.Scopes.{Naming, naming, endFunctionC}
 use Rattle.building.specs.Taking.{givenUp}
 use Rattle.building.specs.Found.{foundOf}
-use Rattle.building.specs.Held.{machine}
+use Rattle.building.specs.RepresentsMachine.{machine}
 use Rattle.building.proofs.Filling.{capped}
 use Rattle.building.proofs.BreakLaws.{drop-law}
 use Rattle.building.proofs.Notes.{held-longer}
 use Rattle.building.proofs.StateLaws.{touch-law}
 use Rattle.building.proofs.ScopeLaws.{end-law}
 use Rattle.compiler_laws.specs.declared.book.Book as struct
-use Rattle.compiler_laws.specs.BookAreas.{shelf, Keeping}
+use Rattle.compiler_laws.specs.BookAreas.{bookAreas, RepresentsAreas}
 use Rattle.compiler_laws.specs.BookSteps.{resumedBook, AddedLocal}
 use Rattle.compiler_laws.specs.AddingFunctions.{Bounded, ended, baseOf}
 use Rattle.compiler_laws.specs.AddingFunctions as adding
@@ -117,7 +117,7 @@ module _ {κ : Limits} {ps : List ℕ} {others : ℕ → List ℕ} {s : struct.B
 
   -- as counts and areas
   pub built-parts : adding.Built κ ps
-      (shelf s (part a 1 l) (part a 2 l) (part a 3 l′) (part a 4 l′) (part a 5 l′) (part a 6 l′) (part a 7 l′) (part a 8 l′) (part a 9 l) (part a 10 l)
+      (bookAreas s (part a 1 l) (part a 2 l) (part a 3 l′) (part a 4 l′) (part a 5 l′) (part a 6 l′) (part a 7 l′) (part a 8 l′) (part a 9 l) (part a 10 l)
       (part a 11 l)) x f (view (laid r a l′))
   built-parts =
       let p = B .function .preserves in
@@ -161,9 +161,9 @@ dropped r c = go (eqb (r .full) 0)
     go false = record { full = refl; constants = refl; errors = refl; long = refl }
 
 module _ {κ : Limits} {ps : List ℕ} {s : struct.Book} {c₀ k₀ n₀ b₀ e₀ c k n b e g m p t l u : List ℕ} {r : FunctionState} {x : Book} {f : FunctionDefinition}
-    (B : adding.Built κ ps (shelf s c₀ k₀ g m p t l u n₀ b₀ e₀) x f (machine r c k n b e)) where
+    (B : adding.Built κ ps (bookAreas s c₀ k₀ g m p t l u n₀ b₀ e₀) x f (machine r c k n b e)) where
   drop-keeping : {r₁ : FunctionState} {c₁ : List ℕ} → coded r₁ c₁ ≡ dropC (coded r c)
-      → Keeping κ ps (shelf (resumedBook s r₁) c₁ k g m p t l u n b e) (compileBase f x .book)
+      → RepresentsAreas κ ps (bookAreas (resumedBook s r₁) c₁ k g m p t l u n b e) (compileBase f x .book)
   unfolding compileBase
   drop-keeping {r₁} {c₁} q =
       let D : Dropped r c (coded r₁ c₁) = rw q (dropped r c) in
@@ -175,7 +175,7 @@ module _ {κ : Limits} {ps : List ℕ} {s : struct.Book} {c₀ k₀ n₀ b₀ e�
         names = K .names;
         breaks = K .breaks;
         errors = K .errors;
-      }) (rw (D .full) (B .function .full)) (λ z. built-back B (sym (D .full) ∙ z)) (steady-base f (working x) .locals)
+      }) (rw (D .full) (B .function .full)) (λ z. built-back B (sym (D .full) ∙ z)) (preserves-base f (working x) .locals)
       (function-moves (f .parameters) (f .body) (working x) .context) (λ z.
       let z′ : r .full ≡ 0 = sym (D .full) ∙ z in
       let A = built-between B z′ in
@@ -208,8 +208,8 @@ drop-meets {tree} {at} {s} {s₁} {r} {r₁} {a} {l} {l₁} {m′} d back F = re
 -- `add_plain`
 
 keeping-entry : {κ : Limits} {ps : List ℕ} {s : struct.Book} {c k g m p t l u n b e : List ℕ} {y : Book} (i : ℕ)
-    → Keeping κ ps (shelf s c k g m p t l u n b e) y
-    → Keeping κ ps (shelf (entering i s) c k g m p t l u n b e) (withContext (withEntryPoint i (y .context)) y)
+    → RepresentsAreas κ ps (bookAreas s c k g m p t l u n b e) y
+    → RepresentsAreas κ ps (bookAreas (entering i s) c k g m p t l u n b e) (withContext (withEntryPoint i (y .context)) y)
 keeping-entry i H = record {
   fitted = record {
     code = H .fitted .code;

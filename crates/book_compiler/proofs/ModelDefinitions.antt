@@ -24,15 +24,15 @@ use Rattle.building.specs.Taking.{Took}
 use Rattle.building.proofs.ContextLaws.{took-law}
 use Rattle.building.proofs.PoolLaws.{entries-more}
 use Rattle.compiler_laws.specs.declared.book.Book as struct
-use Rattle.compiler_laws.specs.BookAreas.{Shelf, shelf, Keeping}
+use Rattle.compiler_laws.specs.BookAreas.{BookAreas, bookAreas, RepresentsAreas}
 use Rattle.compiler_laws.specs.BookSteps.{Valuable}
 use Rattle.compiler_laws.specs.ModelSteps as area
 use Rattle.compiler_laws.specs.ModelSteps.{placeModel}
 use Rattle.compiler_laws.proofs.BookCounts.{withModelCount}
-use Rattle.compiler_laws.proofs.UnchangedByBooks.{calm-local}
-use Rattle.compiler_laws.proofs.UnchangedByModels.{calm-property, calm-place-model}
+use Rattle.compiler_laws.proofs.UnchangedByBooks.{unchanged-local}
+use Rattle.compiler_laws.proofs.UnchangedByModels.{unchanged-property, unchanged-place-model}
 use Rattle.compiler_laws.proofs.BookLeaves.{defined-added}
-use Rattle.compiler_laws.proofs.AreaEntries.{keeping-grown, stock-models, fitted-models}
+use Rattle.compiler_laws.proofs.AreaEntries.{keeping-grown, contents-models, fitted-models}
 use Rattle.compiler_laws.proofs.AddedProperties.{models-count, property-full, property-there, property-new}
 use Rattle.book_compiler.specs.RepresentsBook.{BookMemory, areaOf, bookView, RepresentsBook, OnArea}
 use Rattle.book_compiler.specs.BookLeaves.{PushesBookError, AddsBookConstant, DefinesContextLocal, SetsLocalValue, FindsProperty}
@@ -43,7 +43,7 @@ use Rattle.book_compiler.proofs.BookLeaves.{constant-added, local-defin
 -- `add_property`: the laws of `compiler_laws`, on the errors or the properties
 module _ {tree : List ℕ} {at first : ℕ} {m : BookMemory} where
   pub property-marked : (m .book .full ≡ 0 → ⊥) → AddsModelProperty tree at first m m
-  property-marked ne = record { meets = λ κ ps others w start H. represents-longer (calm-property (tokenAt tree at) ps w .uses) ne H }
+  property-marked ne = record { meets = λ κ ps others w start H. represents-longer (unchanged-property (tokenAt tree at) ps w .uses) ne H }
 
   module _ (z : m .book .full ≡ 0) {g : Found} {name : ℕ} (value : name ≡ valueAt tree at) (searched : FindsProperty first name g m) {m′ : BookMemory} where
     pub property-again : {i : ℕ} → g ≡ At i → PushesBookError 6 (tokenAt tree at) m m′ → AddsModelProperty tree at first m m′
@@ -117,7 +117,7 @@ module _ (tree : List ℕ) (end first : ℕ) where
           let H₁ = A .meets κ ps others w start H in
           let w₁ = addProperty (tokenAt tree i) ps w in
           rw token (B .meets κ (w₁ .texts) others (w₁ .book) ts (run .1) (omega arith)
-          (λ z. start (represents-unfilled (calm-property (tokenAt tree i) ps w .uses) H H₁ z)
+          (λ z. start (represents-unfilled (unchanged-property (tokenAt tree i) ps w .uses) H H₁ z)
           ∙ ap propertyCount (sym (same-context (tokenAt tree i) ps w))) H₁)
 
   pub properties-done : (at : ℕ) {m m′ : BookMemory} → first ≡ m .book .properties → AddsPropertiesFrom tree at end first m m′
@@ -140,8 +140,8 @@ own-properties c x =
 
 -- a model more, on the counts and areas
 entry-taken : {s : struct.Book} {c k f m p t l u n b e m′ : List ℕ} {κ : Limits} {ps : List ℕ} {w : Book} (name : ℕ) {r : Taken} → s .full ≡ 0
-    → Took modelsArea (s .full) (s .models) (s .file ∷ name ∷ []) m r m′ → Keeping κ ps (shelf s c k f m p t l u n b e) w
-    → Keeping κ [] (shelf (withModelCount r s) c k f m′ p t l u n b e) (addModel ps name w)
+    → Took modelsArea (s .full) (s .models) (s .file ∷ name ∷ []) m r m′ → RepresentsAreas κ ps (bookAreas s c k f m p t l u n b e) w
+    → RepresentsAreas κ [] (bookAreas (withModelCount r s) c k f m′ p t l u n b e) (addModel ps name w)
 entry-taken {s} {m = m} {ps = ps} {w = w} name {r} z T H =
     let S = H .rest z in
     let ms = w .context .program .models in
@@ -153,7 +153,7 @@ entry-taken {s} {m = m} {ps = ps} {w = w} name {r} z T H =
     ∙ ap (λ (es : Entries). stood ++ es) (sym (entries-more modelEntry 0 ms x))) in
     keeping-grown H z modelsArea (modelCount (w .context) + 1) _ refl (took-law T z (S .models)) (omega arith) refl (H .fitted .models)
     (omega (arith, models-count S)) refl (λ e. fitted-models e (H .fitted))
-    (λ f q. rw q (stock-models S (rw (← entries) f) (own-properties (w .context) x)))
+    (λ f q. rw q (contents-models S (rw (← entries) f) (own-properties (w .context) x)))
 
 model-taken : {κ : Limits} {ps : List ℕ} {others : ℕ → List ℕ} {m m₁ : BookMemory} {w : Book} (name : ℕ) → m .book .full ≡ 0 → TakesModel name m m₁
     → RepresentsBook κ ps others m w → RepresentsBook κ [] others m₁ (addModel ps name w)
@@ -166,7 +166,7 @@ modelConstant ps name w = addBookConstant (constantOf modelKind (modelCount (w .
 -- `place_model`
 pub place-full : {name : ℕ} {m : BookMemory} → (m .book .full ≡ 0 → ⊥) → {place : ℕ} → AddsModel name place m m
 place-full {name} ne = record {
-  meets = λ κ ps others w H. represents-longer (calm-place-model ps name w .uses) ne H;
+  meets = λ κ ps others w H. represents-longer (unchanged-place-model ps name w .uses) ne H;
   placed = λ κ ps others w H z. absurd (ne z);
 }
 
@@ -189,7 +189,7 @@ module _ {name : ℕ} {m m₁ m₂ m₃ : BookMemory} (z : m .book .full ≡ 0) 
     H₃ = local-defined D .meets κ [] others (modelConstant ps name w .book) H₂
 
     before : m₃ .book .full ≡ 0 → m₂ .book .full ≡ 0
-    before z₃ = represents-unfilled (calm-local name (modelConstant ps name w .book) .uses) H₂ H₃ z₃
+    before z₃ = represents-unfilled (unchanged-local name (modelConstant ps name w .book) .uses) H₂ H₃ z₃
 
     valuable : Valuable (m₃ .book) found place (defineContextLocal name (modelConstant ps name w .book) .place) (modelConstant ps name w .place)
         (defineContextLocal name (modelConstant ps name w .book) .book)

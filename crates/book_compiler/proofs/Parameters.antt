@@ -17,7 +17,7 @@ use Rattle.definition.specs.Uses.{Limits}
 use Rattle.definition.specs.Compiler.{Work, doing, withFunction, skip, bareBy, compileBare, compileParameter, compileParameters, compileStatements, andThen}
 use Rattle.definition.specs.Compiler.{compileFunctionDefinitionBase}
 use Rattle.definition.specs.Program.{Entries}
-use Rattle.definition_laws.proofs.Steady.{steady-parameter, steady-parameters}
+use Rattle.definition_laws.proofs.StepPreserves.{preserves-parameter, preserves-parameters}
 use Rattle.tree.specs.At.{Leaf, ParametersAt}
 use Rattle.building.specs.declared.function_state.FunctionState.{FunctionState}
 use Rattle.building.specs.declared.scopes.Found.{Found}
@@ -25,16 +25,16 @@ use Rattle.building.specs.declared.scopes.Found.the-variants.{At, Nothing}
 use Rattle.building.specs.Emission.{parametersC, emitReturnC}
 use Rattle.building.specs.State.{withParameters}
 use Rattle.building.specs.Found.{foundOf, wrapped}
-use Rattle.building.specs.Held.{Held, isOpen}
+use Rattle.building.specs.RepresentsMachine.{RepresentsMachine, isOpen}
 use Rattle.building.proofs.StateLaws.{parameters-law}
 use Rattle.building.proofs.Notes.{held-longer}
 use Rattle.compiler_laws.specs.InsideFunction.{Inside}
-use Rattle.compiler_laws.proofs.ScopesBalanced.{balanced-bare}
+use Rattle.compiler_laws.proofs.ScopesBalanced.{scopes-bare}
 use Rattle.compiler_laws.proofs.StepsInOrder.{same-locals}
 use Rattle.compiler_laws.specs.MakingFunctions.{instanceBy, ParametersEnd}
 use Rattle.book_compiler.specs.Represents.{Memory, laid, view, Represents}
 use Rattle.book_compiler.specs.Leaves.{OnCode, DefinesLocal, PushesError, LastPosition}
-use Rattle.book_compiler.specs.Members.{token, MeetsSs}
+use Rattle.book_compiler.specs.Members.{token, CompilesStatements}
 use Rattle.book_compiler.specs.FunctionSteps.{CompilesParameter, CompilesParameters, CompilesBase}
 use Rattle.book_compiler.proofs.Parts.{slots-count}
 use Rattle.book_compiler.proofs.ConstantCount.{parameters-count}
@@ -60,7 +60,7 @@ module _ {tree : List ℕ} {at : ℕ} {s : FunctionState} {a l : List ℕ} where
   pub parameter-full : (s .full ≡ 0 → ⊥) → CompilesParameter tree at (laid s a l) (laid s a l)
   parameter-full ne = record {
     meets = λ t h κ E others w o H.
-        record { fits = H .fits; preserves = H .preserves; held = held-longer (steady-parameter t w .uses) ne (H .held); slots = H .slots };
+        record { fits = H .fits; preserves = H .preserves; held = held-longer (preserves-parameter t w .uses) ne (H .held); slots = H .slots };
   }
 
   module _ (live : s .full ≡ 0) {kind name : ℕ} {instance : Bool} {s₁ s₂ : FunctionState} {found : Found} {l′ : List ℕ} (kind-is : kind ≡ kindAt tree at)
@@ -78,7 +78,7 @@ module _ {tree : List ℕ} {at : ℕ} {s : FunctionState} {a l : List ℕ} where
       flagged-held = record {
         fits = H .fits;
         preserves = record { same = H .preserves .same };
-        held = subst (λ (x : FunctionState). Held κ E (view (laid x a l)) (flagged t w)) (sym s₁-is)
+        held = subst (λ (x : FunctionState). RepresentsMachine κ E (view (laid x a l)) (flagged t w)) (sym s₁-is)
             (parameters-law (H .held) instance (cond (eqb (t .kind) 41) true (w .function .header .isInstance)) (s .«parameter_count»)
             (w .function .header .parameterCount)
             (λ z. instance-is ∙ rw (same-kind, H .held .rest z .is-instance)) (λ z. H .held .rest z .parameters));
@@ -126,7 +126,7 @@ module _ {tree : List ℕ} {at : ℕ} {s : FunctionState} {a l : List ℕ} where
 -- a parameter leaves the function's scope open
 stays-open : (t : Token) (w : Work) → isOpen (w .function .scopes) ≡ true → isOpen (compileParameter t w .function .scopes) ≡ true
 unfolding compileParameter
-stays-open t w o = balanced-bare 7 t (flagged t w) .is-open ∙ o
+stays-open t w o = scopes-bare 7 t (flagged t w) .is-open ∙ o
 
 stay-open : (ts : List Token) (w : Work) → isOpen (w .function .scopes) ≡ true → isOpen (compileParameters ts w .function .scopes) ≡ true
 unfolding compileParameters skip andThen
@@ -162,7 +162,7 @@ module _ {tree : List ℕ} {at end start count : ℕ} where
 
   pub base-meets : (parameters : ℕ) {first position : ℕ} {s s₁ s₂ : FunctionState} {a l l₁ : List ℕ} {m₃ m₄ : Memory}
       → ParametersEnd tree (at + 1) end first → CompilesParameters tree (at + 1) first (laid s a l) (laid s₁ a l₁) → at + 1 + parameters ≡ first
-      → s₂ ≡ parametersC (s₁ .«is_instance») parameters s₁ → MeetsSs tree first end start count (laid s₂ a l₁) m₃ → LastPosition position m₃
+      → s₂ ≡ parametersC (s₁ .«is_instance») parameters s₁ → CompilesStatements tree first end start count (laid s₂ a l₁) m₃ → LastPosition position m₃
       → OnCode (emitReturnC position) m₃ m₄ → CompilesBase tree at end start count (laid s a l) m₄
   unfolding compileFunctionDefinitionBase
   base-meets parameters {first} {position} {s} {s₁} {s₂} {a} {l} {l₁} {m₃} {m₄} P Q many s₂-is M position-is d = record {
@@ -177,12 +177,12 @@ module _ {tree : List ℕ} {at end start count : ℕ} where
         record {
           fits = H₁ .fits;
           preserves = record { same = H₁ .preserves .same };
-          held = subst (λ (x : FunctionState). Held κ E (view (laid x a l₁)) w₂) (sym s₂-is)
+          held = subst (λ (x : FunctionState). RepresentsMachine κ E (view (laid x a l₁)) w₂) (sym s₂-is)
               (parameters-law (H₁ .held) (s₁ .«is_instance») (w₁ .function .header .isInstance) parameters (length ts)
               (λ z. H₁ .held .rest z .is-instance) (λ z. omega arith));
           slots = slots-count (ap (λ (x : FunctionState). x .constants) s₂-is ∙ parameters-count s₁ (s₁ .«is_instance») parameters) (H₁ .slots);
         } in
-        let S = steady-parameters ts w₀ in
+        let S = preserves-parameters ts w₀ in
         let I : Inside start count (others contextLocalsArea) w₂ = record { is-open = stay-open ts w₀ refl; named = same-locals (S .locals) L } in
         let H₃ = M .meets (f .body) (rw (← ends) at (h .body)) (omega arith) .meets κ E others w₂ I H₂ in
         let w₃ = compileStatements (f .body) w₂ in

@@ -16,7 +16,7 @@ use Rattle.definition.specs.Uses.{Limits}
 use Rattle.definition.specs.Compiler.{Work}
 use Rattle.definition.specs.Program.{Entries}
 use Rattle.building.specs.declared.function_state.FunctionState.{FunctionState}
-use Rattle.building.specs.Held.{Machine, machine, Held}
+use Rattle.building.specs.RepresentsMachine.{Machine, machine, RepresentsMachine}
 use Rattle.book_compiler.specs.Represents.{Memory, laid, partOf, view, isBuilt, Preserves, SlotsFilled, Represents, Replaced, On}
 use Rattle.book_compiler.specs.Leaves.{Reads}
 
@@ -72,11 +72,11 @@ slots-count {a = a} {l = l} q S = subst (λ (k : ℕ). SlotsFilled k a l) (sym q
 pub on-law : {κ : Limits} {E : Entries} {others : ℕ → List ℕ} {i : ℕ} {R : List ℕ → List ℕ → Type 0} {m m′ : Memory} {w w′ : Work}
     → i < 14 → isBuilt i ≡ true → eqb i 13 ≡ false → On i R m m′ → Represents κ E others m w
     → ((x : List ℕ) → R (partOf m i) x → poolOf (m′ .state .constants) (cond (eqb i 2) x (partOf m 2)) ≡ poolOf (m .state .constants) (partOf m 2))
-    → ((x : List ℕ) → R (partOf m i) x → Held κ E (withArea i (m′ .state) x (view m)) w′) → Represents κ E others m′ w′
+    → ((x : List ℕ) → R (partOf m i) x → RepresentsMachine κ E (withArea i (m′ .state) x (view m)) w′) → Represents κ E others m′ w′
 on-law {κ} {E} {others} {i} {R} {m} {m′} {w} {w′} lt built not-slots o H pool law =
     let p = o .on (H .fits) in
     let a = m .starts in
-    let here : Held κ E (view (laid (m′ .state) a (m′ .words))) w′ =
+    let here : RepresentsMachine κ E (view (laid (m′ .state) a (m′ .words))) w′ =
     rw (p .is, put-view a (m .words) (p .words) (m .state) (m′ .state) (H .fits) i lt (p .long)) (law (p .words) (p .does)) in
     let fits : Fits a (length (m′ .words)) = rw (p .is) (put-fits a (m .words) (p .words) (H .fits) i lt (p .long)) in
     let kept : Preserves others (laid (m′ .state) a (m′ .words)) =
@@ -102,7 +102,7 @@ on-law {κ} {E} {others} {i} {R} {m} {m′} {w} {w′} lt built not-slots o H po
 pub on-other : {κ : Limits} {E : Entries} {others : ℕ → List ℕ} {i : ℕ} {R : List ℕ → List ℕ → Type 0} {m m′ : Memory} {w w′ : Work}
     → i < 14 → isBuilt i ≡ true → eqb i 13 ≡ false → eqb i 2 ≡ false → On i R m m′ → Represents κ E others m w
     → ((x : List ℕ) → R (partOf m i) x → m′ .state .constants ≡ m .state .constants)
-    → ((x : List ℕ) → R (partOf m i) x → Held κ E (withArea i (m′ .state) x (view m)) w′) → Represents κ E others m′ w′
+    → ((x : List ℕ) → R (partOf m i) x → RepresentsMachine κ E (withArea i (m′ .state) x (view m)) w′) → Represents κ E others m′ w′
 on-other {m = m} {m′ = m′} lt built not-slots not-constants o H count law = on-law lt built not-slots o H
     (λ x r. ap (λ (t : Bool). poolOf (m′ .state .constants) (cond t x (partOf m 2))) not-constants ∙ ap (λ (n : ℕ). poolOf n (partOf m 2)) (count x r)) law
 

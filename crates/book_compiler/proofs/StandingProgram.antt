@@ -21,9 +21,9 @@ use Rattle.definition_laws.proofs.Lists.{all-map}
 use Rattle.definition_laws.proofs.PassingAreas.{Passing, ProgramPasses, lent-length, lent-wide, lent-back}
 use Rattle.definition_laws.proofs.ReadBack.{methods-back, lent-constants}
 use Rattle.definition_laws.proofs.Safe.{ProgramSafe}
-use Rattle.building.specs.Held.{Filled, Marks}
+use Rattle.building.specs.RepresentsMachine.{Filled, Marks}
 use Rattle.compiler_laws.specs.declared.book.Book as struct
-use Rattle.compiler_laws.specs.BookAreas.{shelf, Fitted}
+use Rattle.compiler_laws.specs.BookAreas.{bookAreas, Fitted}
 use Rattle.compiler_laws.specs.OpenedBooks.{Resting}
 use Rattle.compiler_laws.specs.BooksInOrder.{Zero}
 use Rattle.compiler_laws.proofs.CallBeginning.{zero-filled}
@@ -97,7 +97,7 @@ module _ (strict : Bool) {p : Program} (s : ProgramPasses p) (safe : ProgramSafe
 
   -- the areas, with an area of zeros for the errors, stand for the context
   pub standing-resting : {κ : Limits} {us : List Use} {e : List ℕ} → Zero e → Marks (firstOver κ us) 0
-      → Fitted κ (shelf (standingBook strict p) (wordsIn p 1) (wordsIn p 2) (wordsIn p 3) (wordsIn p 4) (wordsIn p 5) (wordsIn p 6) (wordsIn p 7) (wordsIn p 8)
+      → Fitted κ (bookAreas (standingBook strict p) (wordsIn p 1) (wordsIn p 2) (wordsIn p 3) (wordsIn p 4) (wordsIn p 5) (wordsIn p 6) (wordsIn p 7) (wordsIn p 8)
       (wordsIn p 9) (wordsIn p 10) e)
       → Resting κ (standingBook strict p) (wordsIn p 1) (wordsIn p 2) (wordsIn p 3) (wordsIn p 4) (wordsIn p 5) (wordsIn p 6) (wordsIn p 7) (wordsIn p 8)
       (wordsIn p 9) (wordsIn p 10) e (contextOf strict p) us

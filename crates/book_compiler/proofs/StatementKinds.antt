@@ -18,9 +18,9 @@ use Rattle.definition.specs.Uses.{Limits, total}
 use Rattle.definition.specs.Compiler.{Work, Step, doing, withFunction, pushError, compilePart, compileStatement, compileStatements, compileExpression}
 use Rattle.definition.specs.Compiler.{compileExpressionStatement, compileRescue, compileVariables, compileBare, compileValued, deeper, skip, compileNoPart}
 use Rattle.definition.specs.Program.{Entries}
-use Rattle.definition_laws.proofs.Steady.{Steadily, longer-trans, steady-function, steady-trans, steady-statement, steady-statements, steady-expression}
-use Rattle.definition_laws.proofs.Steady.{steady-variables, steady-return, steady-break, steady-rescue, steady-for, steady-expression-statement, same, more}
-use Rattle.definition_laws.proofs.Steady.{steady-define, steady-error, steady-bare, steady-valued}
+use Rattle.definition_laws.proofs.StepPreserves.{Steadily, longer-trans, preserves-function, preserves-trans, preserves-statement, preserves-statements, preserves-expression}
+use Rattle.definition_laws.proofs.StepPreserves.{preserves-variables, preserves-return, preserves-break, preserves-rescue, preserves-for, preserves-expression-statement, same, more}
+use Rattle.definition_laws.proofs.StepPreserves.{preserves-define, preserves-error, preserves-bare, preserves-valued}
 use Rattle.tree.specs.At.{Head, Leaf, ExpressionAt, StatementAt, StatementsAt, VariablesAt, sizeE, sizeS, sizeSs, sizeVs}
 use Rattle.tree.proofs.View.{ViewS, seeS, headS, sizeS-pos, headE, sizeE-pos, value-there}
 use Rattle.tree.proofs.View.ViewS.{v-Local, v-Break, v-Rescue, v-For, v-Expr}
@@ -34,13 +34,13 @@ use Rattle.building.specs.Scopes.{enterScopeC, exitScopeC, defineC}
 use Rattle.building.proofs.StateLaws.{put-rescue}
 use Rattle.compiler_laws.specs.InsideFunction.{Inside, skipC}
 use Rattle.compiler_laws.specs.StatementParts.{inner}
-use Rattle.compiler_laws.proofs.ScopesBalanced.{balanced-statement, balanced-statements, balanced-define, balanced-bare, balanced-valued, balanced-expression}
+use Rattle.compiler_laws.proofs.ScopesBalanced.{scopes-statement, scopes-statements, scopes-define, scopes-bare, scopes-valued, scopes-expression}
 use Rattle.compiler_laws.proofs.StepsInOrder.{inside-after}
 use Rattle.compiler_laws.proofs.Tokens.{skip-law}
 use Rattle.compiler_laws.proofs.ConstantLeaves.{low-bits}
-use Rattle.book_compiler.specs.Represents.{Memory, laid, Represents, Acts, Does}
+use Rattle.book_compiler.specs.Represents.{Memory, laid, Represents, Simulates, SimulatesInside}
 use Rattle.book_compiler.specs.Leaves.{OnCode, OnNames, DefinesLocal, PushesError}
-use Rattle.book_compiler.specs.Members.{token, MeetsE, MeetsS, MeetsSs, MeetsBlock, MeetsFor, MeetsVariable, MeetsVariables}
+use Rattle.book_compiler.specs.Members.{token, CompilesExpression, CompilesStatement, CompilesStatements, CompilesBlock, CompilesForStatement, CompilesVariable, CompilesVariables}
 use Rattle.book_compiler.proofs.Steps.{back, acts-does, does-then, full-does, full-acts, either}
 use Rattle.book_compiler.proofs.Parts.{slots-count}
 use Rattle.book_compiler.proofs.ConstantCount.{rescue-count}
@@ -48,27 +48,27 @@ use Rattle.book_compiler.proofs.Laws.{last-emitted, null-emitted, remov
 
 -- the loop over statements
 module _ {tree : List ℕ} {at end start count : ℕ} where
-  pub list-end : {m : Memory} → end ≤ at → MeetsSs tree at end start count m m
+  pub list-end : {m : Memory} → end ≤ at → CompilesStatements tree at end start count m m
   unfolding compileStatements StatementsAt sizeSs skip
   list-end {m} past = record { meets = go }
     where
-      go : (ss : Statements) → StatementsAt ss tree at → at + sizeSs ss ≡ end → Does start count m m (compileStatements ss)
+      go : (ss : Statements) → StatementsAt ss tree at → at + sizeSs ss ≡ end → SimulatesInside start count m m (compileStatements ss)
       go ∅ₛ h q = record { meets = λ κ E others w I H. H }
       go (s ∷ₛ ss) h q = absurd (omega (arith, sizeS-pos s))
 
-  pub list-more : {next : ℕ} {m m₁ m′ : Memory} → at < end → next ≡ skipC tree at end → MeetsS tree at next start count m m₁
-      → MeetsSs tree next end start count m₁ m′ → MeetsSs tree at end start count m m′
+  pub list-more : {next : ℕ} {m m₁ m′ : Memory} → at < end → next ≡ skipC tree at end → CompilesStatement tree at next start count m m₁
+      → CompilesStatements tree next end start count m₁ m′ → CompilesStatements tree at end start count m m′
   unfolding compileStatements StatementsAt sizeSs
   list-more {next} {m} {m₁} {m′} inside skipped A B = record { meets = go }
     where
-      go : (ss : Statements) → StatementsAt ss tree at → at + sizeSs ss ≡ end → Does start count m m′ (compileStatements ss)
+      go : (ss : Statements) → StatementsAt ss tree at → at + sizeSs ss ≡ end → SimulatesInside start count m m′ (compileStatements ss)
       go ∅ₛ h q = absurd (omega arith)
       go (s ∷ₛ ss) h q =
           let mid : next ≡ at + sizeS s = skipped ∙ skip-law tree at end (headS s (h .0)) (sizeS-pos s) (omega arith) in
-          does-then (steady-statement s) (balanced-statement s) (A .meets s (h .0) (sym mid)) (B .meets ss (rw mid (h .1)) (omega arith))
+          does-then (preserves-statement s) (scopes-statement s) (A .meets s (h .0) (sym mid)) (B .meets ss (rw mid (h .1)) (omega arith))
 
   -- `compile_block`
-  pub block-none : {m m′ : Memory} → end ≤ at → OnCode emitNullC m m′ → MeetsBlock tree at end start count m m′
+  pub block-none : {m m′ : Memory} → end ≤ at → OnCode emitNullC m m′ → CompilesBlock tree at end start count m m′
   unfolding compileNoPart
   block-none p d = record {
     absent = λ q. record { meets = λ κ E others w I H. null-emitted d H };
@@ -76,8 +76,8 @@ module _ {tree : List ℕ} {at end start count : ℕ} where
   }
 
   pub block-meets : {s s₁ : FunctionState} {a l : List ℕ} {m₂ m₃ m₄ : Memory} → at < end → s₁ ≡ enterScopeC s
-      → MeetsSs tree (at + 1) end start count (laid s₁ a l) m₂ → OnNames (exitScopeC (s .«scope_base»)) m₂ m₃ → OnCode removePopC m₃ m₄
-      → MeetsBlock tree at end start count (laid s a l) m₄
+      → CompilesStatements tree (at + 1) end start count (laid s₁ a l) m₂ → OnNames (exitScopeC (s .«scope_base»)) m₂ m₃ → OnCode removePopC m₃ m₄
+      → CompilesBlock tree at end start count (laid s a l) m₄
   unfolding compilePart
   block-meets inside opened M closed d = record {
     absent = λ q. absurd (omega arith);
@@ -87,8 +87,8 @@ module _ {tree : List ℕ} {at end start count : ℕ} where
           let H₁ = entered H opened in
           let I₁ : Inside start count (others contextLocalsArea) w₁ = record { is-open = refl; named = I .named } in
           let H₂ = M .meets ss h q .meets κ E others w₁ I₁ H₁ in
-          let S = steady-trans (steady-function w (enterScope (w .function)) refl) (steady-statements ss w₁) in
-          let B = balanced-statements ss w₁ in
+          let S = preserves-trans (preserves-function w (enterScope (w .function)) refl) (preserves-statements ss w₁) in
+          let B = scopes-statements ss w₁ in
           let H₃ = left closed
           (λ z. H .held .rest (back (S .uses) H H₂ z) .scope ∙ sym (ap (λ (x : List (List Entry)). total (tail x)) (B .scopes))) H₂ in
           removed d H₃;
@@ -96,47 +96,47 @@ module _ {tree : List ℕ} {at end start count : ℕ} where
   }
 
   -- `compile_statement`
-  pub full-meets : {m : Memory} → (m .state .full ≡ 0 → ⊥) → MeetsS tree at end start count m m
-  full-meets ne = record { meets = λ s h q. full-does (steady-statement s) ne }
+  pub full-meets : {m : Memory} → (m .state .full ≡ 0 → ⊥) → CompilesStatement tree at end start count m m
+  full-meets ne = record { meets = λ s h q. full-does (preserves-statement s) ne }
 
-  pub past-meets : {m m′ : Memory} → end ≤ at → MeetsS tree at end start count m m′
+  pub past-meets : {m m′ : Memory} → end ≤ at → CompilesStatement tree at end start count m m′
   past-meets p = record { meets = λ s h q. absurd (omega (arith, sizeS-pos s)) }
 
 -- a statement, the depth apart, keeps the depth
-steady-inner : (st : Statement) → Steadily (inner st)
-steady-inner (Local vs) = steady-variables vs
-steady-inner (Return t) = steady-return (t .position)
-steady-inner (For t n x ss) = steady-for (steady-expression x) (steady-statements ss) t n
-steady-inner (Break t) = steady-break (t .position)
-steady-inner (Rescue t) = steady-rescue t
-steady-inner (Expr x) = steady-expression-statement (steady-expression x)
+preserves-inner : (st : Statement) → Steadily (inner st)
+preserves-inner (Local vs) = preserves-variables vs
+preserves-inner (Return t) = preserves-return (t .position)
+preserves-inner (For t n x ss) = preserves-for (preserves-expression x) (preserves-statements ss) t n
+preserves-inner (Break t) = preserves-break (t .position)
+preserves-inner (Rescue t) = preserves-rescue t
+preserves-inner (Expr x) = preserves-expression-statement (preserves-expression x)
 
 -- the statement, the depth apart
-record MeetsInner (tree : List ℕ) (at end start count : ℕ) (m m′ : Memory) : Type 0 where
-  pub meets : (s : Statement) → StatementAt s tree at → at + sizeS s ≡ end → Does start count m m′ (inner s)
+record CompilesInnerStatement (tree : List ℕ) (at end start count : ℕ) (m m′ : Memory) : Type 0 where
+  pub meets : (s : Statement) → StatementAt s tree at → at + sizeS s ≡ end → SimulatesInside start count m m′ (inner s)
 
 -- the depth before is the depth after
 module _ {tree : List ℕ} {at end start count : ℕ} {s s₁ s₂ s′ : FunctionState} {a l l₂ : List ℕ} (opened : s₁ ≡ deeperC s)
     (closed : s′ ≡ depthC (s .depth) s₂) where
-  around : MeetsInner tree at end start count (laid s₁ a l) (laid s₂ a l₂) → MeetsS tree at end start count (laid s a l) (laid s′ a l₂)
+  around : CompilesInnerStatement tree at end start count (laid s₁ a l) (laid s₂ a l₂) → CompilesStatement tree at end start count (laid s a l) (laid s′ a l₂)
   unfolding compileStatement deeper
   around M = record { meets = λ st h q. as-is st (one st h q) }
     where
-      one : (st : Statement) → StatementAt st tree at → at + sizeS st ≡ end → Does start count (laid s a l) (laid s′ a l₂) (deeper (inner st))
+      one : (st : Statement) → StatementAt st tree at → at + sizeS st ≡ end → SimulatesInside start count (laid s a l) (laid s′ a l₂) (deeper (inner st))
       one st h q = record {
         meets = λ κ E others w I H.
             let w₁ = doing (λ f. withDepth (f .depth + 1) f) w in
             let w₂ = inner st w₁ in
             let I₁ : Inside start count (others contextLocalsArea) w₁ = record { is-open = I .is-open; named = I .named } in
             let H₂ = M .meets st h q .meets κ E others w₁ I₁ (deepened H opened) in
-            let S = steady-inner st w₁ in
+            let S = preserves-inner st w₁ in
             let kept : w₂ .function .depth - 1 ≡ w .function .depth = omega (arith, S .depth) in
             at-depth H₂ (s .depth) (w₂ .function .depth - 1) closed
             (λ z. H .held .rest (back (longer-trans (more (more (more same))) (S .uses)) H H₂ z) .depth ∙ ap (λ (d : ℕ). min mostDepth d) (sym kept));
       }
 
-      as-is : (st : Statement) → Does start count (laid s a l) (laid s′ a l₂) (deeper (inner st))
-          → Does start count (laid s a l) (laid s′ a l₂) (compileStatement st)
+      as-is : (st : Statement) → SimulatesInside start count (laid s a l) (laid s′ a l₂) (deeper (inner st))
+          → SimulatesInside start count (laid s a l) (laid s′ a l₂) (compileStatement st)
       as-is (Local vs) A = A
       as-is (Return t) A = A
       as-is (For t i x ss) A = A
@@ -146,58 +146,58 @@ module _ {tree : List ℕ} {at end start count : ℕ} {s s₁ s₂ s′ : Functi
 
   -- a way for each kind
   module _ {kind : ℕ} (kind-is : kind ≡ kindAt tree at) where
-    pub statement-expression : {m : Memory} → kind ≡ 25 → MeetsE tree (at + 1) end start count (laid s₁ a l) m
-        → OnCode (emitLastC (word (toInstruction Pop 0))) m (laid s₂ a l₂) → MeetsS tree at end start count (laid s a l) (laid s′ a l₂)
+    pub statement-expression : {m : Memory} → kind ≡ 25 → CompilesExpression tree (at + 1) end start count (laid s₁ a l) m
+        → OnCode (emitLastC (word (toInstruction Pop 0))) m (laid s₂ a l₂) → CompilesStatement tree at end start count (laid s a l) (laid s′ a l₂)
     unfolding StatementAt sizeS compileExpressionStatement
     statement-expression {m} q M d = around (record { meets = λ st h k. go st (seeS st tree at h kind-is q) h k })
       where
-        go : (st : Statement) → ViewS 25 st → StatementAt st tree at → at + sizeS st ≡ end → Does start count (laid s₁ a l) (laid s₂ a l₂) (inner st)
+        go : (st : Statement) → ViewS 25 st → StatementAt st tree at → at + sizeS st ≡ end → SimulatesInside start count (laid s₁ a l) (laid s₂ a l₂) (inner st)
         go (Expr x) v-Expr h k = record { meets = λ κ E others w I H. last-emitted Pop d (M .meets x (h .1) (omega arith) .meets κ E others w I H) }
 
-    pub statement-local : kind ≡ 20 → MeetsVariables tree (at + 1) end start count (laid s₁ a l) (laid s₂ a l₂)
-        → MeetsS tree at end start count (laid s a l) (laid s′ a l₂)
+    pub statement-local : kind ≡ 20 → CompilesVariables tree (at + 1) end start count (laid s₁ a l) (laid s₂ a l₂)
+        → CompilesStatement tree at end start count (laid s a l) (laid s′ a l₂)
     unfolding StatementAt sizeS
     statement-local q M = around (record { meets = λ st h k. go st (seeS st tree at h kind-is q) h k })
       where
-        go : (st : Statement) → ViewS 20 st → StatementAt st tree at → at + sizeS st ≡ end → Does start count (laid s₁ a l) (laid s₂ a l₂) (inner st)
+        go : (st : Statement) → ViewS 20 st → StatementAt st tree at → at + sizeS st ≡ end → SimulatesInside start count (laid s₁ a l) (laid s₂ a l₂) (inner st)
         go (Local vs) v-Local h k = M .meets vs (h .1) (omega arith)
 
     pub statement-for : {position : ℕ} → position ≡ positionAt tree at → kind ≡ 24
-        → MeetsFor tree (at + 1) end position start count (laid s₁ a l) (laid s₂ a l₂) → MeetsS tree at end start count (laid s a l) (laid s′ a l₂)
+        → CompilesForStatement tree (at + 1) end position start count (laid s₁ a l) (laid s₂ a l₂) → CompilesStatement tree at end start count (laid s a l) (laid s′ a l₂)
     unfolding StatementAt sizeS
     statement-for position-is q M = around (record { meets = λ st h k. go st (seeS st tree at h kind-is q) h k })
       where
-        go : (st : Statement) → ViewS 24 st → StatementAt st tree at → at + sizeS st ≡ end → Does start count (laid s₁ a l) (laid s₂ a l₂) (inner st)
+        go : (st : Statement) → ViewS 24 st → StatementAt st tree at → at + sizeS st ≡ end → SimulatesInside start count (laid s₁ a l) (laid s₂ a l₂) (inner st)
         go (For t i x ss) v-For h k =
             let z : at + 2 ≡ at + 1 + 1 = omega arith in
             M .meets t i x ss (ap (λ (u : Token). u .position) (h .0 .token) ∙ sym position-is) (h .1) (rw (← z) (h .2)) (rw (← z) (h .3)) (omega arith)
 
     -- by a step that acts: a break, a rescue
-    pub statement-break : {position : ℕ} → position ≡ positionAt tree at → kind ≡ 22 → Acts (laid s₁ a l) (laid s₂ a l₂) (doing (method.emitBreak position))
-        → MeetsS tree at end start count (laid s a l) (laid s′ a l₂)
+    pub statement-break : {position : ℕ} → position ≡ positionAt tree at → kind ≡ 22 → Simulates (laid s₁ a l) (laid s₂ a l₂) (doing (method.emitBreak position))
+        → CompilesStatement tree at end start count (laid s a l) (laid s′ a l₂)
     unfolding StatementAt
     statement-break {position} position-is q A = around (record { meets = λ st h k. go st (seeS st tree at h kind-is q) h })
       where
-        go : (st : Statement) → ViewS 22 st → StatementAt st tree at → Does start count (laid s₁ a l) (laid s₂ a l₂) (inner st)
+        go : (st : Statement) → ViewS 22 st → StatementAt st tree at → SimulatesInside start count (laid s₁ a l) (laid s₂ a l₂) (inner st)
         go (Break t) v-Break h =
             let here : t .position ≡ position = ap (λ (u : Token). u .position) (h .token) ∙ sym position-is in
             rw here (acts-does A)
 
     pub statement-rescue : {position value : ℕ} → position ≡ positionAt tree at → value ≡ valueAt tree at → kind ≡ 23
-        → Acts (laid s₁ a l) (laid s₂ a l₂) (compileRescue (token position kind value)) → MeetsS tree at end start count (laid s a l) (laid s′ a l₂)
+        → Simulates (laid s₁ a l) (laid s₂ a l₂) (compileRescue (token position kind value)) → CompilesStatement tree at end start count (laid s a l) (laid s′ a l₂)
     unfolding StatementAt
     statement-rescue {position} {value} position-is value-is q A = around (record { meets = λ st h k. go st (seeS st tree at h kind-is q) h })
       where
-        go : (st : Statement) → ViewS 23 st → StatementAt st tree at → Does start count (laid s₁ a l) (laid s₂ a l₂) (inner st)
+        go : (st : Statement) → ViewS 23 st → StatementAt st tree at → SimulatesInside start count (laid s₁ a l) (laid s₂ a l₂) (inner st)
         go (Rescue t) v-Rescue h = rw (h .token, ← kind-is, ← position-is, ← value-is) (acts-does A)
 
     -- a return is what is left
     pub statement-return : {position : ℕ} → position ≡ positionAt tree at → (kind ≡ 25 → ⊥) → (kind ≡ 20 → ⊥) → (kind ≡ 24 → ⊥) → (kind ≡ 22 → ⊥)
-        → (kind ≡ 23 → ⊥) → OnCode (emitReturnC position) (laid s₁ a l) (laid s₂ a l₂) → MeetsS tree at end start count (laid s a l) (laid s′ a l₂)
+        → (kind ≡ 23 → ⊥) → OnCode (emitReturnC position) (laid s₁ a l) (laid s₂ a l₂) → CompilesStatement tree at end start count (laid s a l) (laid s′ a l₂)
     unfolding StatementAt
     statement-return {position} position-is n25 n20 n24 n22 n23 d = around (record { meets = λ st h k. go st h })
       where
-        go : (st : Statement) → StatementAt st tree at → Does start count (laid s₁ a l) (laid s₂ a l₂) (inner st)
+        go : (st : Statement) → StatementAt st tree at → SimulatesInside start count (laid s₁ a l) (laid s₂ a l₂) (inner st)
         go (Local vs) h = absurd (n20 (kind-is ∙ h .0 .kind-is))
         go (Return t) h = record {
           meets = λ κ E others w I H. returned position (t .position) d (λ z. position-is ∙ sym (ap (λ (u : Token). u .position) (h .token))) H;
@@ -208,11 +208,11 @@ module _ {tree : List ℕ} {at end start count : ℕ} {s s₁ s₂ s′ : Functi
         go (Expr x) h = absurd (n25 (kind-is ∙ h .0 .kind-is))
 
 -- `rescue`
-pub rescue-full : {m : Memory} (t : Token) → (m .state .full ≡ 0 → ⊥) → Acts m m (compileRescue t)
-rescue-full t ne = full-acts (steady-rescue t) ne
+pub rescue-full : {m : Memory} (t : Token) → (m .state .full ≡ 0 → ⊥) → Simulates m m (compileRescue t)
+rescue-full t ne = full-acts (preserves-rescue t) ne
 
 pub rescue-deep : {position kind value : ℕ} {m m′ : Memory} → m .state .full ≡ 0 → 1 < m .state .depth → PushesError 4 position kind value m m′
-    → Acts m m′ (compileRescue (token position kind value))
+    → Simulates m m′ (compileRescue (token position kind value))
 unfolding compileRescue
 rescue-deep {position} {kind} {value} z l F = record {
   meets = λ κ E others w H. rw (lt-ltb 1 (w .function .depth) (omega (arith, l, H .held .rest z .depth))) (pushed 4 (token position kind value) F H);
@@ -220,7 +220,7 @@ rescue-deep {position} {kind} {value} z l F = record {
 
 pub rescue-here : (position kind value : ℕ) {s s₁ s′ : FunctionState} {a l l′ : List ℕ} → s .full ≡ 0 → s .depth ≤ 1
     → OnCode (emitReturnC position) (laid s a l) (laid s₁ a l′) → s′ ≡ rescueC s₁
-    → Acts (laid s a l) (laid s′ a l′) (compileRescue (token position kind value))
+    → Simulates (laid s a l) (laid s′ a l′) (compileRescue (token position kind value))
 unfolding compileRescue
 rescue-here position kind value {s₁ = s₁} z l d q = record {
   meets = λ κ E others w H.

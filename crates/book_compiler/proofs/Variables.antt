@@ -19,10 +19,10 @@ use Rattle.definition.specs.Uses.{Limits}
 use Rattle.definition.specs.Compiler.{Work, Step, withFunction, pushError, skip, bareBy, valuedBy}
 use Rattle.definition.specs.Compiler.{compileBare, compileValued, compileExpression, compileVariables}
 use Rattle.definition.specs.Program.{Entries}
-use Rattle.definition_laws.proofs.Steady.{Steadily, steady-trans, steady-define, steady-error, steady-bare, steady-valued, steady-expression}
+use Rattle.definition_laws.proofs.StepPreserves.{Steadily, preserves-trans, preserves-define, preserves-error, preserves-bare, preserves-valued, preserves-expression}
 use Rattle.tree.specs.At.{VariablesAt, sizeE, sizeVs}
 use Rattle.tree.proofs.View.{headE, sizeE-pos, value-there}
-use Rattle.building.specs.Held.{isOpen}
+use Rattle.building.specs.RepresentsMachine.{isOpen}
 use Rattle.building.specs.declared.function_state.FunctionState.{FunctionState}
 use Rattle.building.specs.declared.scopes.Found.{Found}
 use Rattle.building.specs.declared.scopes.Found.the-variants.{At, Nothing}
@@ -31,13 +31,13 @@ use Rattle.building.specs.Found.{foundOf, wrapped}
 use Rattle.building.specs.Scopes.{naming, Defines, defineC}
 use Rattle.compiler_laws.specs.InsideFunction.{Inside, skipC}
 use Rattle.compiler_laws.specs.Cells.{defined}
-use Rattle.compiler_laws.proofs.ScopesBalanced.{balanced-define, balanced-bare, balanced-valued, balanced-expression}
+use Rattle.compiler_laws.proofs.ScopesBalanced.{scopes-define, scopes-bare, scopes-valued, scopes-expression}
 use Rattle.compiler_laws.proofs.StepsInOrder.{inside-after}
 use Rattle.compiler_laws.proofs.ConstantLeaves.{low-bits}
 use Rattle.compiler_laws.proofs.Tokens.{skip-law}
-use Rattle.book_compiler.specs.Represents.{Memory, partOf, Represents, Does}
+use Rattle.book_compiler.specs.Represents.{Memory, partOf, Represents, SimulatesInside}
 use Rattle.book_compiler.specs.Leaves.{OnCode, DefinesLocal, PushesError}
-use Rattle.book_compiler.specs.Members.{token, MeetsE, MeetsVariable, MeetsVariables}
+use Rattle.book_compiler.specs.Members.{token, CompilesExpression, CompilesVariable, CompilesVariables}
 use Rattle.book_compiler.proofs.Steps.{does-then, either}
 use Rattle.book_compiler.proofs.Laws.{emitted, defined-found, pushed}
 use Rattle.book_compiler.proofs.Laws as laws
@@ -75,13 +75,13 @@ module _ {tree : List ℕ} {at end start count name position : ℕ} (name-is : n
     {m m₁ : Memory} {found : Found} (D : DefinesLocal name found m m₁) where
   -- the name is there already
   pub variable-there : {kind : ℕ} {m′ : Memory} → found ≡ Nothing → kind ≡ kindAt tree at → PushesError 1 position kind name m₁ m′
-      → MeetsVariable tree at end start count m m′
+      → CompilesVariable tree at end start count m m′
   unfolding compileBare compileValued
   variable-there {kind} {m′} lost kind-is F = record {
     bare = λ t h h₁ l. of t (h .token) (λ o. bareBy o 1 t)
-        (λ w. ap (λ (u : Token). pushError 1 u w) (as-token tree at kind-is position-is name-is (h .token))) (steady-bare 1 t);
+        (λ w. ap (λ (u : Token). pushError 1 u w) (as-token tree at kind-is position-is name-is (h .token))) (preserves-bare 1 t);
     valued = λ t x h h₁ l. of t (h .token) (λ o. valuedBy o t (compileExpression x))
-        (λ w. ap (λ (u : Token). pushError 1 u w) (as-token tree at kind-is position-is name-is (h .token))) (steady-valued (steady-expression x) t);
+        (λ w. ap (λ (u : Token). pushError 1 u w) (as-token tree at kind-is position-is name-is (h .token))) (preserves-valued (preserves-expression x) t);
   }
     where
       u : Token
@@ -102,20 +102,20 @@ module _ {tree : List ℕ} {at end start count name position : ℕ} (name-is : n
           (sym (defined-found D H (eqb-true (m .state .full) 0 z) (I .is-open)) ∙ lost)
       go by q S κ E others w I H false z =
           let w₁ = withFunction (defineLocal name (w .function) .state) w in
-          either (steady-trans (steady-define name w) (steady-error 1 u w₁) .uses) (S w .uses) (eqb-false (m .state .full) 0 z) H
+          either (preserves-trans (preserves-define name w) (preserves-error 1 u w₁) .uses) (S w .uses) (eqb-false (m .state .full) 0 z) H
           (pushed 1 u F (laws.defined D (I .is-open) H))
 
       of : (t : Token) → t ≡ tokenAt tree at → (by : Option ℕ → Step) → ((w : Work) → by none w ≡ pushError 1 u w)
-          → Steadily (defining (t .value) by) → Does start count m m′ (defining (t .value) by)
-      of t h by q = subst (λ (x : ℕ). Steadily (defining x by) → Does start count m m′ (defining x by)) (named tree at name-is t h)
+          → Steadily (defining (t .value) by) → SimulatesInside start count m m′ (defining (t .value) by)
+      of t h by q = subst (λ (x : ℕ). Steadily (defining x by) → SimulatesInside start count m m′ (defining x by)) (named tree at name-is t h)
           (λ S. record { meets = λ κ E others w I H. go by q S κ E others w I H (eqb (m .state .full) 0) refl })
 
   -- a new name
   module _ {index : ℕ} (new : found ≡ At index) {kind : ℕ} (kind-is : kind ≡ kindAt tree (at + 1)) where
-    pub variable-bare : kind ≡ 49 → MeetsVariable tree at end start count m m₁
+    pub variable-bare : kind ≡ 49 → CompilesVariable tree at end start count m m₁
     unfolding compileBare
     variable-bare q = record {
-      bare = λ t h h₁ l. subst (λ (x : ℕ). Does start count m m₁ (defining x (λ o. bareBy o 1 t))) (named tree at name-is t (h .token))
+      bare = λ t h h₁ l. subst (λ (x : ℕ). SimulatesInside start count m m₁ (defining x (λ o. bareBy o 1 t))) (named tree at name-is t (h .token))
           (record {
             meets = λ κ E others w I H. go t (withFunction (defineLocal name (w .function) .state) w) (laws.defined D (I .is-open) H)
                 (defineLocal name (w .function) .found) (here D new H (I .is-open));
@@ -128,18 +128,18 @@ module _ {tree : List ℕ} {at end start count name position : ℕ} (name-is : n
         go t w H none z = absurd (let y : _≡_ {A = ℕ} 0 1 = cc in omega arith)
         go t w H (some j) z = H
 
-    pub variable-valued : {m₂ m′ : Memory} {v : ℕ} → (kind ≡ 49 → ⊥) → MeetsE tree (at + 1) end start count m₁ m₂
-        → v ≡ word (toInstruction LocalInit index) → OnCode (emitC v position) m₂ m′ → MeetsVariable tree at end start count m m′
+    pub variable-valued : {m₂ m′ : Memory} {v : ℕ} → (kind ≡ 49 → ⊥) → CompilesExpression tree (at + 1) end start count m₁ m₂
+        → v ≡ word (toInstruction LocalInit index) → OnCode (emitC v position) m₂ m′ → CompilesVariable tree at end start count m m′
     unfolding compileValued
     variable-valued {m₂} {m′} {v} ne M as-word q = record {
       bare = λ t h h₁ l. absurd (ne (kind-is ∙ h₁ .kind-is));
-      valued = λ t x h h₁ l. subst (λ (y : ℕ). Does start count m m′ (defining y (λ o. valuedBy o t (compileExpression x))))
+      valued = λ t x h h₁ l. subst (λ (y : ℕ). SimulatesInside start count m m′ (defining y (λ o. valuedBy o t (compileExpression x))))
           (named tree at name-is t (h .token))
           (record {
             meets = λ κ E others w I H. go κ E others t x (position-is ∙ sym (ap (λ (u : Token). u .position) (h .token)))
                 (withFunction (defineLocal name (w .function) .state) w)
                 (M .meets x h₁ l .meets κ E others (withFunction (defineLocal name (w .function) .state) w)
-                (inside-after (steady-define name w) (balanced-define name w) I) (laws.defined D (I .is-open) H))
+                (inside-after (preserves-define name w) (scopes-define name w) I) (laws.defined D (I .is-open) H))
                 (defineLocal name (w .function) .found) (here D new H (I .is-open));
           });
     }
@@ -155,26 +155,26 @@ module _ {tree : List ℕ} {at end start count name position : ℕ} (name-is : n
 
 -- the loop over variables: each is a name and its value, or none
 module _ {tree : List ℕ} {at end start count : ℕ} where
-  pub list-end : {m : Memory} → end ≤ at → MeetsVariables tree at end start count m m
+  pub list-end : {m : Memory} → end ≤ at → CompilesVariables tree at end start count m m
   unfolding compileVariables VariablesAt sizeVs skip
   list-end {m} past = record { meets = go }
     where
-      go : (vs : Variables) → VariablesAt vs tree at → at + sizeVs vs ≡ end → Does start count m m (compileVariables vs)
+      go : (vs : Variables) → VariablesAt vs tree at → at + sizeVs vs ≡ end → SimulatesInside start count m m (compileVariables vs)
       go ∅ᵥ h q = record { meets = λ κ E others w I H. H }
       go (Bare t vs) h q = absurd (omega arith)
       go (Valued t x vs) h q = absurd (omega arith)
 
-  pub list-more : {next : ℕ} {m m₁ m′ : Memory} → at < end → next ≡ skipC tree (at + 1) end → MeetsVariable tree at next start count m m₁
-      → MeetsVariables tree next end start count m₁ m′ → MeetsVariables tree at end start count m m′
+  pub list-more : {next : ℕ} {m m₁ m′ : Memory} → at < end → next ≡ skipC tree (at + 1) end → CompilesVariable tree at next start count m m₁
+      → CompilesVariables tree next end start count m₁ m′ → CompilesVariables tree at end start count m m′
   unfolding compileVariables VariablesAt sizeVs
   list-more {next} {m} {m₁} {m′} inside skipped A B = record { meets = go }
     where
-      go : (vs : Variables) → VariablesAt vs tree at → at + sizeVs vs ≡ end → Does start count m m′ (compileVariables vs)
+      go : (vs : Variables) → VariablesAt vs tree at → at + sizeVs vs ≡ end → SimulatesInside start count m m′ (compileVariables vs)
       go ∅ᵥ h q = absurd (omega arith)
       go (Bare t vs) h q =
           let mid : next ≡ at + 2 = skipped ∙ skip-law tree (at + 1) end (h .1) (omega arith) (omega arith) ∙ omega arith in
-          does-then (steady-bare 1 t) (balanced-bare 1 t) (A .bare t (h .0) (h .1) (sym mid)) (B .meets vs (rw mid (h .2)) (omega arith))
+          does-then (preserves-bare 1 t) (scopes-bare 1 t) (A .bare t (h .0) (h .1) (sym mid)) (B .meets vs (rw mid (h .2)) (omega arith))
       go (Valued t x vs) h q =
           let mid : next ≡ at + 1 + sizeE x = skipped ∙ skip-law tree (at + 1) end (headE x (h .1)) (sizeE-pos x) (omega arith) in
-          does-then (steady-valued (steady-expression x) t) (balanced-valued (balanced-expression x) t)
+          does-then (preserves-valued (preserves-expression x) t) (scopes-valued (scopes-expression x) t)
           (A .valued t x (h .0) (h .1) (sym mid)) (B .meets vs (rw mid (h .2)) (omega arith))

@@ -22,12 +22,12 @@ use Rattle.definition.specs.Within.{All, Areas}
 use Rattle.definition.specs.Promise.{areas, Compiles}
 use Rattle.definition_laws.proofs.Limits.{LimitedDocument}
 use Rattle.building.specs.declared.taking.Taken.{Taken}
-use Rattle.building.specs.Held.{Filled, Marks, Sized}
+use Rattle.building.specs.RepresentsMachine.{Filled, Marks, Sized}
 use Rattle.compiler_laws.specs.declared.book.Book as struct
 use Rattle.compiler_laws.specs.BookAreas.{Fitted}
 use Rattle.compiler_laws.specs.FileSets.{SetIs, Ascends}
 use Rattle.compiler_laws.specs.SolverSteps.{bookUnit, placeUnit, Distinct, Stands, FindsReady, Brings}
-use Rattle.compiler_laws.specs.BooksInOrder.{Zero, Rings, Accepted, MarkedFrom}
+use Rattle.compiler_laws.specs.BooksInOrder.{Zero, PushesRingErrors, Accepted, MarkedFrom}
 use Rattle.compiler_laws.specs.CallEnd.{totals, markRefusal}
 use Rattle.book_compiler.specs.declared.order.Next.{Next}
 use Rattle.book_compiler.specs.Represents.{Replaced}
@@ -64,8 +64,8 @@ pub record PicksNext (tree : List ℕ) (end done count : ℕ) (set : List ℕ) (
   pub nothing : count ≤ r .index → FindsReady tree end done count set books (r .index) after
 
 -- `ring`: an error for each book left; area 12 stays
-pub record RingsIn (i count : ℕ) (t : Taken) (starts before : List ℕ) (r : Taken) (after : List ℕ) : Type 0 where
-  pub rings : Fits starts (length before) → Rings i count (part starts booksArea before) t (part starts errorsArea before) r (part starts errorsArea after)
+pub record PushesRingErrorsIn (i count : ℕ) (t : Taken) (starts before : List ℕ) (r : Taken) (after : List ℕ) : Type 0 where
+  pub rings : Fits starts (length before) → PushesRingErrors i count (part starts booksArea before) t (part starts errorsArea before) r (part starts errorsArea after)
 
 -- how the books end, where nothing is full: `rest` is what stands in area 12 behind the books; of a delivery `place` is the number of books
 pub data Came (κ : Limits) (others : ℕ → List ℕ) (m : BookMemory) (rest : List ℕ) (row place : ℕ) (uses : List Use) : Ending → Type 0 where

@@ -11,7 +11,7 @@ use Rattle.words.specs.Object.{constantOf}
 use Rattle.words.specs.Record.{tokenAt}
 use Rattle.tree.specs.At.{Leaf, Headed, ValueAt, BindingAt, AliasAt, NameAt, FunctionAt, DefinitionAt, RunAt, runSize, sizeF, sizeD, single, double}
 use Rattle.definition.specs.Uses.{Limits}
-use Rattle.definition.specs.Book.{Book, Deed, Placed, setLocalValue, addBookConstant, valueOf, compileValue, compileBinding, compileLocalDefinition}
+use Rattle.definition.specs.Book.{Book, BookStep, Placed, setLocalValue, addBookConstant, valueOf, compileValue, compileBinding, compileLocalDefinition}
 use Rattle.definition.specs.Book.{compileAlias, compileIncludeDefinition, compileInclude, publish, propertyCount, addProperty, compileProperties}
 use Rattle.definition.specs.Book.{compileModelDefinition, findModelIndexByLocalName, compileApplyDefinition, compileFunctionDefinition}
 use Rattle.definition.specs.Book.{addMethods, compileImplementDefinition}
@@ -20,7 +20,7 @@ use Rattle.building.specs.declared.scopes.Found.{Found}
 use Rattle.building.specs.declared.taking.Taken.{Taken}
 use Rattle.building.specs.Taking.{Took}
 use Rattle.compiler_laws.specs.declared.book.Book as struct
-use Rattle.compiler_laws.specs.BookAreas.{Shelved}
+use Rattle.compiler_laws.specs.BookAreas.{NamesBooks}
 use Rattle.compiler_laws.specs.BookSteps.{Valuable, Located}
 use Rattle.compiler_laws.specs.AddingFunctions.{Bounded}
 use Rattle.compiler_laws.specs.ImplementSteps.{implementing, implementingAll, numbered}
@@ -30,9 +30,9 @@ use Rattle.book_compiler.specs.RepresentsBook.{BookMemory, RepresentsBoo
 use Rattle.book_compiler.specs.BookLeaves.{SameConstantCount}
 
 -- of a context local that was found: it is the definition's, where nothing is full
-pub record SimulatesLocated (found : Found) (m m′ : BookMemory) (deed : Option ℕ → Deed) : Type 0 where
+pub record SimulatesLocated (found : Found) (m m′ : BookMemory) (step : Option ℕ → BookStep) : Type 0 where
   pub meets : (κ : Limits) (ps : List ℕ) (others : ℕ → List ℕ) (x : Book) (o : Option ℕ) → Located (m .book) found o x → RepresentsBook κ ps others m x
-      → RepresentsBook κ ps others m′ (deed o x)
+      → RepresentsBook κ ps others m′ (step o x)
 
 -- `add_value`: a constant, which is the value of the local
 pub record AddsLocalValue (found : Found) (kind value : ℕ) (m m′ : BookMemory) : Type 0 where
@@ -51,9 +51,9 @@ pub record CompilesLocalDefinition (tree : List ℕ) (at end : ℕ) (m m′ : Bo
   pub defines : (xs : List Binding) → RunAt BindingAt double xs tree at → at + runSize double xs ≡ end → SimulatesBook m m′ (compileLocalDefinition xs)
 
 -- among the books before, which area 12 names
-pub record SimulatesAmong (m m′ : BookMemory) (deed : Deed) : Type 0 where
-  pub meets : (κ : Limits) (ps : List ℕ) (others : ℕ → List ℕ) (b : Book) → Shelved (others booksArea) (b .context) → RepresentsBook κ ps others m b
-      → RepresentsBook κ ps others m′ (deed b)
+pub record SimulatesAmong (m m′ : BookMemory) (step : BookStep) : Type 0 where
+  pub meets : (κ : Limits) (ps : List ℕ) (others : ℕ → List ℕ) (b : Book) → NamesBooks (others booksArea) (b .context) → RepresentsBook κ ps others m b
+      → RepresentsBook κ ps others m′ (step b)
 
 -- a pair of an include: the public name, and its local at the next place; all pairs from a place up to the end
 pub record CompilesAlias (tree : List ℕ) (at next file : ℕ) (m m′ : BookMemory) : Type 0 where
@@ -106,9 +106,9 @@ pub record AddsModel (name place : ℕ) (m m′ : BookMemory) : Type 0 where
       → place ≡ placeModel ps name w .place
 
 -- between definitions, where no model is under way
-pub record SimulatesPlacedAlone (m m′ : BookMemory) (place : ℕ) (deed : Book → Placed) : Type 0 where
-  pub meets : (κ : Limits) (others : ℕ → List ℕ) (w : Book) → RepresentsBook κ [] others m w → RepresentsBook κ [] others m′ (deed w .book)
-  pub placed : (κ : Limits) (others : ℕ → List ℕ) (w : Book) → RepresentsBook κ [] others m w → m′ .book .full ≡ 0 → place ≡ deed w .place
+pub record SimulatesPlacedAlone (m m′ : BookMemory) (place : ℕ) (step : Book → Placed) : Type 0 where
+  pub meets : (κ : Limits) (others : ℕ → List ℕ) (w : Book) → RepresentsBook κ [] others m w → RepresentsBook κ [] others m′ (step w .book)
+  pub placed : (κ : Limits) (others : ℕ → List ℕ) (w : Book) → RepresentsBook κ [] others m w → m′ .book .full ≡ 0 → place ≡ step w .place
 
 -- `compile_model_definition`, of the model at a place
 pub record CompilesModelDefinition (tree : List ℕ) (at end place : ℕ) (m m′ : BookMemory) : Type 0 where

@@ -18,7 +18,7 @@ use Rattle.definition.specs.Program.{Entries, codeTable}
 use Rattle.building.specs.declared.function_state.FunctionState.{FunctionState}
 use Rattle.building.specs.declared.scopes.Found.{Found}
 use Rattle.building.specs.Found.{foundOf}
-use Rattle.building.specs.Held.{LocalsHeld, isOpen}
+use Rattle.building.specs.RepresentsMachine.{LocalsHeld, isOpen}
 use Rattle.compiler_laws.specs.declared.book.Book as struct
 use Rattle.compiler_laws.specs.BookSteps.{AddedLocal}
 use Rattle.compiler_laws.specs.AddingFunctions.{Bounded, ended, baseOf, AddsFunction}

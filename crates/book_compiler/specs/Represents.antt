@@ -14,7 +14,7 @@ use Rattle.definition.specs.Uses.{Limits}
 use Rattle.definition.specs.Compiler.{Work, Step}
 use Rattle.definition.specs.Program.{Entries}
 use Rattle.building.specs.declared.function_state.FunctionState.{FunctionState}
-use Rattle.building.specs.Held.{Machine, machine, Held}
+use Rattle.building.specs.RepresentsMachine.{Machine, machine, RepresentsMachine}
 use Rattle.compiler_laws.specs.InsideFunction.{Inside}
 
 -- the state of a function, the table of starts, and the memory's words
@@ -56,7 +56,7 @@ Slotted m = SlotsFilled (m .state .constants) (m .starts) (m .words)
 pub record Represents (κ : Limits) (E : Entries) (others : ℕ → List ℕ) (m : Memory) (w : Work) : Type 0 where
   pub fits : Fits (m .starts) (length (m .words))
   pub preserves : Preserves others m
-  pub held : Held κ E (view m) w
+  pub held : RepresentsMachine κ E (view m) w
   pub slots : Slotted m
 
 -- part i has other words, as many as before
@@ -72,10 +72,10 @@ pub record On (i : ℕ) (R : List ℕ → List ℕ → Type 0) (m m′ : Memory)
   pub on : Fits (m .starts) (length (m .words)) → Replaced i R (m .starts) (m .words) (m′ .words)
 
 -- whatever work the memory stands for before, it stands for the step's work after
-pub record Acts (m m′ : Memory) (step : Step) : Type 0 where
+pub record Simulates (m m′ : Memory) (step : Step) : Type 0 where
   pub meets : (κ : Limits) (E : Entries) (others : ℕ → List ℕ) (w : Work) → Represents κ E others m w → Represents κ E others m′ (step w)
 
 -- the same inside a function: a scope is open, and area 7 names the book's context locals
-pub record Does (start count : ℕ) (m m′ : Memory) (step : Step) : Type 0 where
+pub record SimulatesInside (start count : ℕ) (m m′ : Memory) (step : Step) : Type 0 where
   pub meets : (κ : Limits) (E : Entries) (others : ℕ → List ℕ) (w : Work) → Inside start count (others contextLocalsArea) w
       → Represents κ E others m w → Represents κ E others m′ (step w)

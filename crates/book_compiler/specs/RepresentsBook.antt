@@ -12,13 +12,13 @@ use Rattle.words.specs.Areas.{scopeNamesArea, breaksArea, errorsArea, booksArea
 use Rattle.words.specs.Ast.{Definition, Document}
 use Rattle.tree.specs.At.{DefinitionAt, sizeD, DocumentAt, sizeDoc, RunAt, runSize}
 use Rattle.definition.specs.Uses.{Use, Limits}
-use Rattle.definition.specs.Book.{Context, Book, Deed, Placed, MaybePlaced, bookCount, opened, compileDefinition, compileDefinitions}
+use Rattle.definition.specs.Book.{Context, Book, BookStep, Placed, MaybePlaced, bookCount, opened, compileDefinition, compileDefinitions}
 use Rattle.definition.specs.Within.{All}
 use Rattle.definition_laws.proofs.Limits.{LimitedFunction, LimitedDocument, functionsIn}
 use Rattle.building.specs.declared.scopes.Found.{Found}
 use Rattle.building.specs.Found.{foundOf}
 use Rattle.compiler_laws.specs.declared.book.Book as struct
-use Rattle.compiler_laws.specs.BookAreas.{Shelf, shelf, Keeping, Shelved}
+use Rattle.compiler_laws.specs.BookAreas.{BookAreas, bookAreas, RepresentsAreas, NamesBooks}
 use Rattle.compiler_laws.specs.OpenedBooks.{openedBook, nobody}
 use Rattle.book_compiler.specs.Represents.{slotsPart, SlotsFilled, Replaced}
 
@@ -35,9 +35,9 @@ abbrev pub areaOf : BookMemory → ℕ → List ℕ
 areaOf m i = part (m .starts) i (m .words)
 
 -- the counts and areas that a memory is
-abbrev pub bookView : BookMemory → Shelf
+abbrev pub bookView : BookMemory → BookAreas
 bookView m =
-    shelf (m .book) (areaOf m codeArea) (areaOf m constantsArea) (areaOf m functionsArea) (areaOf m modelsArea) (areaOf m propertiesArea) (areaOf m methodsArea)
+    bookAreas (m .book) (areaOf m codeArea) (areaOf m constantsArea) (areaOf m functionsArea) (areaOf m modelsArea) (areaOf m propertiesArea) (areaOf m methodsArea)
     (areaOf m contextLocalsArea) (areaOf m publicNamesArea) (areaOf m scopeNamesArea) (areaOf m breaksArea) (areaOf m errorsArea)
 
 -- the parts that a book is compiled into: areas 1 to 11, and the slots
@@ -52,7 +52,7 @@ pub record PreservesParts (others : ℕ → List ℕ) (m : BookMemory) : Type 0 
 pub record RepresentsBook (κ : Limits) (ps : List ℕ) (others : ℕ → List ℕ) (m : BookMemory) (b : Book) : Type 0 where
   pub fits : Fits (m .starts) (length (m .words))
   pub preserves : PreservesParts others m
-  pub keeping : Keeping κ ps (bookView m) b
+  pub keeping : RepresentsAreas κ ps (bookView m) b
   pub slots : SlotsFilled (m .book .constants) (m .starts) (m .words)
 
 -- between two books it stands for a context: it is ready for the next book, whichever it is
@@ -64,36 +64,36 @@ pub record OnArea (i : ℕ) (R : List ℕ → List ℕ → Type 0) (m m′ : Boo
   pub same : m′ .starts ≡ m .starts
   pub on : Fits (m .starts) (length (m .words)) → Replaced i R (m .starts) (m .words) (m′ .words)
 
--- whatever book the memory stands for before, it stands for the deed's book after
-pub record SimulatesBook (m m′ : BookMemory) (deed : Deed) : Type 0 where
-  pub meets : (κ : Limits) (ps : List ℕ) (others : ℕ → List ℕ) (b : Book) → RepresentsBook κ ps others m b → RepresentsBook κ ps others m′ (deed b)
+-- whatever book the memory stands for before, it stands for the step's book after
+pub record SimulatesBook (m m′ : BookMemory) (step : BookStep) : Type 0 where
+  pub meets : (κ : Limits) (ps : List ℕ) (others : ℕ → List ℕ) (b : Book) → RepresentsBook κ ps others m b → RepresentsBook κ ps others m′ (step b)
 
 -- and the number is the definition's, where nothing is full
-pub record SimulatesPlaced (m m′ : BookMemory) (place : ℕ) (deed : Book → Placed) : Type 0 where
-  pub meets : (κ : Limits) (ps : List ℕ) (others : ℕ → List ℕ) (b : Book) → RepresentsBook κ ps others m b → RepresentsBook κ ps others m′ (deed b .book)
-  pub placed : (κ : Limits) (ps : List ℕ) (others : ℕ → List ℕ) (b : Book) → RepresentsBook κ ps others m b → m′ .book .full ≡ 0 → place ≡ deed b .place
+pub record SimulatesPlaced (m m′ : BookMemory) (place : ℕ) (step : Book → Placed) : Type 0 where
+  pub meets : (κ : Limits) (ps : List ℕ) (others : ℕ → List ℕ) (b : Book) → RepresentsBook κ ps others m b → RepresentsBook κ ps others m′ (step b .book)
+  pub placed : (κ : Limits) (ps : List ℕ) (others : ℕ → List ℕ) (b : Book) → RepresentsBook κ ps others m b → m′ .book .full ≡ 0 → place ≡ step b .place
 
 -- the same of what may be found
-pub record SimulatesSought (m m′ : BookMemory) (found : Found) (deed : Book → MaybePlaced) : Type 0 where
-  pub meets : (κ : Limits) (ps : List ℕ) (others : ℕ → List ℕ) (b : Book) → RepresentsBook κ ps others m b → RepresentsBook κ ps others m′ (deed b .book)
+pub record SimulatesSought (m m′ : BookMemory) (found : Found) (step : Book → MaybePlaced) : Type 0 where
+  pub meets : (κ : Limits) (ps : List ℕ) (others : ℕ → List ℕ) (b : Book) → RepresentsBook κ ps others m b → RepresentsBook κ ps others m′ (step b .book)
   pub sought : (κ : Limits) (ps : List ℕ) (others : ℕ → List ℕ) (b : Book) → RepresentsBook κ ps others m b → m′ .book .full ≡ 0
-      → found ≡ foundOf (deed b .place)
+      → found ≡ foundOf (step b .place)
 
 -- `compile_definition`: of the one that stands at a place and ends at the end
 pub record CompilesDefinition (tree : List ℕ) (at end : ℕ) (m m′ : BookMemory) : Type 0 where
   pub meets : (d : Definition) → DefinitionAt d tree at → at + sizeD d ≡ end → All LimitedFunction (functionsIn d)
-      → (κ : Limits) (others : ℕ → List ℕ) (b : Book) → Shelved (others booksArea) (b .context)
+      → (κ : Limits) (others : ℕ → List ℕ) (b : Book) → NamesBooks (others booksArea) (b .context)
       → RepresentsBook κ [] others m b → RepresentsBook κ [] others m′ (compileDefinition d b)
 
 -- those from a place up to the end
 pub record CompilesDefinitions (tree : List ℕ) (at end : ℕ) (m m′ : BookMemory) : Type 0 where
   pub meets : (ds : List Definition) → RunAt DefinitionAt sizeD ds tree at → at + runSize sizeD ds ≡ end
       → All (λ (d : Definition). All LimitedFunction (functionsIn d)) ds
-      → (κ : Limits) (others : ℕ → List ℕ) (b : Book) → Shelved (others booksArea) (b .context)
+      → (κ : Limits) (others : ℕ → List ℕ) (b : Book) → NamesBooks (others booksArea) (b .context)
       → RepresentsBook κ [] others m b → RepresentsBook κ [] others m′ (compileDefinitions ds b)
 
 -- `compile_document`: of the one that stands at a place and ends at the end, as the book of an index
 pub record CompilesDocument (tree : List ℕ) (at end index : ℕ) (m m′ : BookMemory) : Type 0 where
   pub meets : (d : Document) → DocumentAt d tree at → at + sizeDoc d ≡ end → LimitedDocument d
-      → (κ : Limits) (others : ℕ → List ℕ) (context : Context) (uses : List Use) → index ≡ bookCount context → Shelved (others booksArea) context
+      → (κ : Limits) (others : ℕ → List ℕ) (context : Context) (uses : List Use) → index ≡ bookCount context → NamesBooks (others booksArea) context
       → RepresentsContext κ others m context uses → RepresentsBook κ [] others m′ (compileDefinitions (d .definitions) (opened d context uses))

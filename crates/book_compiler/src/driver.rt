@@ -7,7 +7,7 @@ ghost use Prim.Native.Nat.{_/_, _≤_};
 ghost use Rattle.words.specs.Areas.{constantsArea, booksArea};
 ghost use Rattle.words.specs.Record.{mostRecords};
 ghost use Rattle.compiler_laws.specs.SolverSteps.{TakesBooks, Narrows};
-ghost use Rattle.compiler_laws.specs.BooksInOrder.{Fronts, Fresh, FirstConstants, begunBook};
+ghost use Rattle.compiler_laws.specs.BooksInOrder.{ChecksRows, Fresh, FirstConstants, begunBook};
 ghost use Rattle.book_compiler.specs.RepresentsBook.{bookLaid};
 ghost use Rattle.book_compiler.specs.BookOrder.{LentPart, Drives, CompilesNeeded, Works, Runs};
 use crate::definitions::compile_document;
@@ -42,7 +42,7 @@ fn check_bundle(
     next: &mut [u64],
 ) -> Row
     requires { ⌜ Fresh (now tree) (now chosen) × (now present ≡ now chosen) × (now next ≡ now chosen) ⌝ }
-    ensures { λ r. ⌜ Fronts (now (tree .entry)) (now (standing .entry)) (r .number) (r .place) (now (chosen .exit)) ⌝ }
+    ensures { λ r. ⌜ ChecksRows (now (tree .entry)) (now (standing .entry)) (r .number) (r .place) (now (chosen .exit)) ⌝ }
 {
     let shape = tree::check(tree);
     if let Shape::Refused(number, at) = shape {

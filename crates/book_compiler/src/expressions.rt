@@ -5,8 +5,8 @@ ghost use Rattle.words.specs.Object.{constantOf};
 ghost use Rattle.words.specs.Opcode.{PushConstant};
 ghost use Rattle.definition.specs.Compiler.{emitConstant, emitGlobal, emitName};
 ghost use Rattle.compiler_laws.specs.Cells.{stateOf};
-ghost use Rattle.book_compiler.specs.Represents.{laid, Acts, Does};
-ghost use Rattle.book_compiler.specs.Members.{MeetsLeaf, MeetsE, MeetsInfix, MeetsIf, MeetsTarget};
+ghost use Rattle.book_compiler.specs.Represents.{laid, Simulates, SimulatesInside};
+ghost use Rattle.book_compiler.specs.Members.{CompilesLeaf, CompilesExpression, CompilesInfixExpression, CompilesIfExpression, CompilesAssignLeftPart};
 ghost use mathlib.Core.Path.{_≡_};
 ghost use Rattle.compiler_laws.specs.InsideFunction.{standingOf};
 use crate::cells;
@@ -31,7 +31,7 @@ pub(crate) fn constant(
     value: u64,
     position: u64,
 )
-    ensures { λ _. ⌜ Acts (laid (stateOf (now (cells .entry))) (now (starts .entry)) (now (memory .entry)))
+    ensures { λ _. ⌜ Simulates (laid (stateOf (now (cells .entry))) (now (starts .entry)) (now (memory .entry)))
         (laid (stateOf (now (cells .exit))) (now (starts .entry)) (now (memory .exit)))
         (emitConstant PushConstant (constantOf kind value) position) ⌝ }
 {
@@ -49,7 +49,7 @@ fn global(
     name: u64,
     position: u64,
 )
-    ensures { λ _. ⌜ Acts (laid (stateOf (now (cells .entry))) (now (starts .entry)) (now (memory .entry)))
+    ensures { λ _. ⌜ Simulates (laid (stateOf (now (cells .entry))) (now (starts .entry)) (now (memory .entry)))
         (laid (stateOf (now (cells .exit))) (now (starts .entry)) (now (memory .exit)))
         (emitGlobal (numberOf opcode) name position) ⌝ }
 {
@@ -72,7 +72,7 @@ fn name(
     text: u64,
     position: u64,
 )
-    ensures { λ _. ⌜ Does start count (laid (stateOf (now (cells .entry))) (now (starts .entry)) (now (memory .entry)))
+    ensures { λ _. ⌜ SimulatesInside start count (laid (stateOf (now (cells .entry))) (now (starts .entry)) (now (memory .entry)))
         (laid (stateOf (now (cells .exit))) (now (starts .entry)) (now (memory .exit)))
         (emitName (numberOf local) (numberOf outer) (numberOf other) text position) ⌝ }
 {
@@ -106,7 +106,7 @@ fn leaf(
     position: u64,
     value: u64,
 )
-    ensures { λ _. ⌜ MeetsLeaf kind position value start count (laid (stateOf (now (cells .entry))) (now (starts .entry)) (now (memory .entry)))
+    ensures { λ _. ⌜ CompilesLeaf kind position value start count (laid (stateOf (now (cells .entry))) (now (starts .entry)) (now (memory .entry)))
         (laid (stateOf (now (cells .exit))) (now (starts .entry)) (now (memory .exit))) ⌝ }
 {
     if kind == record::IDENTIFIER {
@@ -157,7 +157,7 @@ pub(crate) fn compile_expression(
     start: usize,
     count: usize,
 )
-    ensures { λ _. ⌜ MeetsE (now (tree .entry)) at end start count (laid (stateOf (now (cells .entry))) (now (starts .entry)) (now (memory .entry)))
+    ensures { λ _. ⌜ CompilesExpression (now (tree .entry)) at end start count (laid (stateOf (now (cells .entry))) (now (starts .entry)) (now (memory .entry)))
         (laid (stateOf (now (cells .exit))) (now (starts .entry)) (now (memory .exit))) ⌝ }
 {
     let full = cells::full(cells);
@@ -217,7 +217,7 @@ fn compile_infix_expression(
     position: u64,
     value: u64,
 )
-    ensures { λ _. ⌜ MeetsInfix (now (tree .entry)) at end position value start count
+    ensures { λ _. ⌜ CompilesInfixExpression (now (tree .entry)) at end position value start count
         (laid (stateOf (now (cells .entry))) (now (starts .entry)) (now (memory .entry)))
         (laid (stateOf (now (cells .exit))) (now (starts .entry)) (now (memory .exit))) ⌝ }
 {
@@ -291,7 +291,7 @@ fn compile_assign_expression_left_part(
     position: u64,
     value: u64,
 )
-    ensures { λ _. ⌜ MeetsTarget (now (tree .entry)) at end position value start count
+    ensures { λ _. ⌜ CompilesAssignLeftPart (now (tree .entry)) at end position value start count
         (laid (stateOf (now (cells .entry))) (now (starts .entry)) (now (memory .entry)))
         (laid (stateOf (now (cells .exit))) (now (starts .entry)) (now (memory .exit))) ⌝ }
 {
@@ -368,7 +368,7 @@ fn compile_if_expression(
     start: usize,
     count: usize,
 )
-    ensures { λ _. ⌜ MeetsIf (now (tree .entry)) at end start count (laid (stateOf (now (cells .entry))) (now (starts .entry)) (now (memory .entry)))
+    ensures { λ _. ⌜ CompilesIfExpression (now (tree .entry)) at end start count (laid (stateOf (now (cells .entry))) (now (starts .entry)) (now (memory .entry)))
         (laid (stateOf (now (cells .exit))) (now (starts .entry)) (now (memory .exit))) ⌝ }
 {
     if at < end {

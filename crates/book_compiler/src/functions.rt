@@ -8,7 +8,7 @@ ghost use Rattle.compiler_laws.specs.MakingFunctions.{instanceBy, ParametersEnd
 ghost use Rattle.compiler_laws.specs.AddingFunctions.{AddsFunction};
 ghost use Rattle.book_compiler.specs.Represents.{laid};
 ghost use Rattle.book_compiler.specs.Leaves.{OnCode, OnNames};
-ghost use Rattle.book_compiler.specs.Members.{MeetsSs};
+ghost use Rattle.book_compiler.specs.Members.{CompilesStatements};
 ghost use Rattle.book_compiler.specs.RepresentsBook.{bookLaid};
 ghost use Rattle.book_compiler.specs.FunctionSteps.{CompilesParameter, CompilesParameters, CompilesBase, MakesFunction, AddsBookFunction};
 ghost use Rattle.book_compiler.specs.FunctionSteps.{DropsBookFunction, AddsPlainFunction};
@@ -135,7 +135,7 @@ fn compile_statements(
     start: usize,
     count: usize,
 )
-    ensures { λ _. ⌜ MeetsSs (now (tree .entry)) at end start count (laid (stateOf (now (cells .entry))) (now (starts .entry)) (now (memory .entry)))
+    ensures { λ _. ⌜ CompilesStatements (now (tree .entry)) at end start count (laid (stateOf (now (cells .entry))) (now (starts .entry)) (now (memory .entry)))
         (laid (stateOf (now (cells .exit))) (now (starts .entry)) (now (memory .exit))) ⌝ }
 {
     let mut i = at;

@@ -4,7 +4,7 @@ ghost use mathlib.Core.Path.{_≡_};
 ghost use mathlib.Core.List.{[], _∷_};
 ghost use Rattle.words.specs.Areas.{errorsArea, booksArea, entryField};
 ghost use Rattle.building.specs.Taking.{Took, taken};
-ghost use Rattle.book_compiler.specs.BookOrder.{LentPart, ReadsPart, PicksNext, RingsIn};
+ghost use Rattle.book_compiler.specs.BookOrder.{LentPart, ReadsPart, PicksNext, PushesRingErrorsIn};
 use crate::solver;
 use building::taking;
 use building::taking::Taken;
@@ -116,7 +116,7 @@ fn push_ring_error(t: Taken, file: u64, starts: &[usize; 15], memory: &mut [u64]
 
 // Row 8: an error 11 for each book left.
 pub(crate) fn ring(done: usize, count: usize, starts: &[usize; 15], memory: &mut [u64]) -> Taken
-    ensures { λ r. ⌜ RingsIn done count (taken 0 0) (now (starts .entry)) (now (memory .entry)) r (now (memory .exit)) ⌝ }
+    ensures { λ r. ⌜ PushesRingErrorsIn done count (taken 0 0) (now (starts .entry)) (now (memory .entry)) r (now (memory .exit)) ⌝ }
 {
     let mut t = Taken { full: 0, count: 0 };
     let mut k = done;

@@ -3,8 +3,8 @@ ghost use mathlib.Core.Path.{_≡_};
 ghost use Rattle.definition.specs.Compiler.{compileRescue};
 ghost use Rattle.compiler_laws.specs.Cells.{stateOf};
 ghost use Rattle.compiler_laws.specs.ForStatements.{foundOrZero};
-ghost use Rattle.book_compiler.specs.Represents.{laid, Acts};
-ghost use Rattle.book_compiler.specs.Members.{token, LoopStarts, LoopHead, LoopName, LoopEnd, MeetsS, MeetsBlock, MeetsFor};
+ghost use Rattle.book_compiler.specs.Represents.{laid, Simulates};
+ghost use Rattle.book_compiler.specs.Members.{token, LoopStarts, LoopHead, LoopName, LoopEnd, CompilesStatement, CompilesBlock, CompilesForStatement};
 use crate::cells;
 use crate::expressions;
 use crate::expressions::compile_expression;
@@ -27,7 +27,7 @@ fn rescue(
     kind: u64,
     value: u64,
 )
-    ensures { λ _. ⌜ Acts (laid (stateOf (now (cells .entry))) (now (starts .entry)) (now (memory .entry)))
+    ensures { λ _. ⌜ Simulates (laid (stateOf (now (cells .entry))) (now (starts .entry)) (now (memory .entry)))
         (laid (stateOf (now (cells .exit))) (now (starts .entry)) (now (memory .exit)))
         (compileRescue (token position kind value)) ⌝ }
 {
@@ -162,7 +162,7 @@ pub(crate) fn compile_statement(
     start: usize,
     count: usize,
 )
-    ensures { λ _. ⌜ MeetsS (now (tree .entry)) at end start count (laid (stateOf (now (cells .entry))) (now (starts .entry)) (now (memory .entry)))
+    ensures { λ _. ⌜ CompilesStatement (now (tree .entry)) at end start count (laid (stateOf (now (cells .entry))) (now (starts .entry)) (now (memory .entry)))
         (laid (stateOf (now (cells .exit))) (now (starts .entry)) (now (memory .exit))) ⌝ }
 {
     let full = cells::full(cells);
@@ -257,7 +257,7 @@ pub(crate) fn compile_block(
     start: usize,
     count: usize,
 )
-    ensures { λ _. ⌜ MeetsBlock (now (tree .entry)) at end start count (laid (stateOf (now (cells .entry))) (now (starts .entry)) (now (memory .entry)))
+    ensures { λ _. ⌜ CompilesBlock (now (tree .entry)) at end start count (laid (stateOf (now (cells .entry))) (now (starts .entry)) (now (memory .entry)))
         (laid (stateOf (now (cells .exit))) (now (starts .entry)) (now (memory .exit))) ⌝ }
 {
     if at < end {
@@ -288,7 +288,7 @@ fn compile_for_statement(
     count: usize,
     position: u64,
 )
-    ensures { λ _. ⌜ MeetsFor (now (tree .entry)) at end position start count (laid (stateOf (now (cells .entry))) (now (starts .entry)) (now (memory .entry)))
+    ensures { λ _. ⌜ CompilesForStatement (now (tree .entry)) at end position start count (laid (stateOf (now (cells .entry))) (now (starts .entry)) (now (memory .entry)))
         (laid (stateOf (now (cells .exit))) (now (starts .entry)) (now (memory .exit))) ⌝ }
 {
     if at < end {

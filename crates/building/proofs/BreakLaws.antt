@@ -23,7 +23,7 @@ use Rattle.building.specs.declared.function_state.FunctionState as struc
 use Rattle.building.specs.State.{withCodeCount, withBreaks, withLoop}
 use Rattle.building.specs.Taking.{taken, givenUp}
 use Rattle.building.specs.Emission.{Coded, coded, nextC, emitC, replaceC, dropC, Breaking, breaking, markBreakC, emitBreakC, patchC, exitBreakC}
-use Rattle.building.specs.Held.{Machine, machine, Filled, breakEntry, breakEntries, isOpen, Contents, Held}
+use Rattle.building.specs.RepresentsMachine.{Machine, machine, Filled, breakEntry, breakEntries, isOpen, Contents, RepresentsMachine}
 use Rattle.building.proofs.Filling.{filled-more, filled-field, filled-set, filled-less, room-fits, setEntry-length, set-append-add, all-front}
 use Rattle.building.proofs.Filling.{over-fits, over-here, held-full, held-step, breaks-length, break-length, capped, Within, noted-within}
 use Rattle.building.proofs.Emitting.{replace-full, replace-in, replace-out, drop-more, exit-full, exit-more}
@@ -76,11 +76,11 @@ module _ (earlier : Entries) (s : struct.FunctionState) (z : s .full ≡ 0) (bas
 
 -- `replace_instruction`; the index and the word matter only where nothing is full
 module _ {κ : Limits} {earlier : Entries} {s : struct.FunctionState} {c k n b e : List ℕ} {w : Work} (index v j : ℕ) (i : Instruction)
-    (hj : s .full ≡ 0 → index ≡ j) (hv : s .full ≡ 0 → v ≡ word i) (H : Held κ earlier (machine s c k n b e) w) where
-  pub replace-law : Held κ earlier (machine s (replaceC index v (coded s c) .code) k n b e) (step.replaceInstruction j i w)
+    (hj : s .full ≡ 0 → index ≡ j) (hv : s .full ≡ 0 → v ≡ word i) (H : RepresentsMachine κ earlier (machine s c k n b e) w) where
+  pub replace-law : RepresentsMachine κ earlier (machine s (replaceC index v (coded s c) .code) k n b e) (step.replaceInstruction j i w)
   replace-law = go (eqb (s .full) 0) refl
     where
-      go : (t : Bool) → eqb (s .full) 0 ≡ t → Held κ earlier (machine s (replaceC index v (coded s c) .code) k n b e) (step.replaceInstruction j i w)
+      go : (t : Bool) → eqb (s .full) 0 ≡ t → RepresentsMachine κ earlier (machine s (replaceC index v (coded s c) .code) k n b e) (step.replaceInstruction j i w)
       go false d =
           let ne = eqb-false (s .full) 0 d in
           rw (← replace-full index v s c ne) (held-full (step.replaceInstruction j i w) (_ ∷ _ ∷ _ ∷ []) refl ne H)
@@ -102,7 +102,7 @@ module _ {κ : Limits} {earlier : Entries} {s : struct.FunctionState} {c k n b e
           (replace-filled earlier s z (C .base) ps c is j i (C .sized) (code-count C) (C .code))))
 
 -- `drop_function`: the areas hold the earlier functions' code alone
-pub drop-law : {κ : Limits} {earlier : Entries} {s : struct.FunctionState} {c k n b e : List ℕ} {w : Work} → Held κ earlier (machine s c k n b e) w
+pub drop-law : {κ : Limits} {earlier : Entries} {s : struct.FunctionState} {c k n b e : List ℕ} {w : Work} → RepresentsMachine κ earlier (machine s c k n b e) w
     → s .full ≡ 0 → Filled 2 (dropC (coded s c) .code) earlier (dropC (coded s c) .state .code)
 drop-law {κ} {earlier} {s} {c} {w = w} H z =
     let C = H .rest z in
@@ -117,8 +117,8 @@ breakingMachine m k n e = machine (m .state) (m .code) k n (m .breaks) e
 
 -- what a routine leaves, by what it ensures
 pub held-breaking : {κ : Limits} {earlier : Entries} {k n e : List ℕ} {w : Work} (r : struct.FunctionState) (c′ b′ : List ℕ) {m : Breaking}
-    → breaking r c′ b′ ≡ m → Held κ earlier (breakingMachine m k n e) w → Held κ earlier (machine r c′ k n b′ e) w
-held-breaking {κ} {earlier} {k} {n} {e} {w} r c′ b′ q H = subst (λ (x : Breaking). Held κ earlier (breakingMachine x k n e) w) (sym q) H
+    → breaking r c′ b′ ≡ m → RepresentsMachine κ earlier (breakingMachine m k n e) w → RepresentsMachine κ earlier (machine r c′ k n b′ e) w
+held-breaking {κ} {earlier} {k} {n} {e} {w} r c′ b′ q H = subst (λ (x : Breaking). RepresentsMachine κ earlier (breakingMachine x k n e) w) (sym q) H
 
 break-snoc : (is : List ℕ) (i : ℕ) → breakEntry (is ++ (i ∷ [])) ≡ breakEntry is ++ ((i ∷ []) ∷ [])
 break-snoc [] i = refl
@@ -150,14 +150,14 @@ module _ {earlier : Entries} {s : struct.FunctionState} {c k n b e : List ℕ} {
   }
 
 -- its entry of area 10, after the Jump, where nothing is full
-module _ {κ : Limits} {earlier : Entries} {m : Machine} {s : struct.FunctionState} {c k n b e : List ℕ} {w : Work} (H : Held κ earlier m w)
-    (z : m .state .full ≡ 0) (f : FunctionState) (H₁ : Held κ earlier (machine s c k n b e) (withFunction f w)) (z₁ : s .full ≡ 0)
+module _ {κ : Limits} {earlier : Entries} {m : Machine} {s : struct.FunctionState} {c k n b e : List ℕ} {w : Work} (H : RepresentsMachine κ earlier m w)
+    (z : m .state .full ≡ 0) (f : FunctionState) (H₁ : RepresentsMachine κ earlier (machine s c k n b e) (withFunction f w)) (z₁ : s .full ≡ 0)
     (i : ℕ) (t : List Event) (o : List ℕ) (os : List (List ℕ)) (q : f .breakScopes ≡ o ∷ os) where
   mark-count : s .breaks ≡ length o + total os
   mark-count = H₁ .rest z₁ .breaks .count ∙ breaks-length (f .breakScopes) ∙ ap (λ (bs : List (List ℕ)). total bs) q
 
   mark-go : (v : Bool) → ltb (s .breaks) (entriesIn 1 (length b)) ≡ v
-      → Held κ earlier (machine (withBreaks (cond v (taken (s .full) (s .breaks + 1)) (taken breaksArea (s .breaks))) s) c k n
+      → RepresentsMachine κ earlier (machine (withBreaks (cond v (taken (s .full) (s .breaks + 1)) (taken breaksArea (s .breaks))) s) c k n
       (cond v (setEntry 1 (s .breaks) (i ∷ []) b) b) e) (withFunction (method.withTrace t (method.withBreakScopes ((o ++ (i ∷ [])) ∷ os) f)) w)
   mark-go true l =
       let C = H₁ .rest z₁ in
@@ -200,7 +200,7 @@ mark-full index s c b h = rw (ne-eqb (s .full) 0 h)
 
 -- what is held, under equal names
 broke-as : {κ : Limits} {earlier : Entries} {k n e : List ℕ} (w : Work) {m m′ : Breaking} {f f′ : FunctionState} → m ≡ m′ → f ≡ f′
-    → Held κ earlier (breakingMachine m k n e) (withFunction f w) → Held κ earlier (breakingMachine m′ k n e) (withFunction f′ w)
+    → RepresentsMachine κ earlier (breakingMachine m k n e) (withFunction f w) → RepresentsMachine κ earlier (breakingMachine m′ k n e) (withFunction f′ w)
 broke-as w p q H = rw (← p, ← q) H
 
 abbrev jumpedC : ℕ → Coded → Coded
@@ -226,14 +226,14 @@ break-full p s c b h = go (s .«in_loop») refl
         ∙ ap (λ (m : Coded). markBreakC (nextC s) (m .state) (m .code) b) (sym (emit-full (word (toInstruction Jump 0)) p (coded s c) h))
         ∙ break-in-is p s c b q
 
-module _ {κ : Limits} {earlier : Entries} {s : struct.FunctionState} {c k n b e : List ℕ} {w : Work} (p : ℕ) (H : Held κ earlier (machine s c k n b e) w)
+module _ {κ : Limits} {earlier : Entries} {s : struct.FunctionState} {c k n b e : List ℕ} {w : Work} (p : ℕ) (H : RepresentsMachine κ earlier (machine s c k n b e) w)
     (z : s .full ≡ 0) where
   abbrev jumped : Coded
   jumped = jumpedC p (coded s c)
 
   -- in a loop
   break-more : (o : List ℕ) (os : List (List ℕ)) → w .function .breakScopes ≡ o ∷ os → (t : Bool) → eqb (jumped .state .full) 0 ≡ t
-      → Held κ earlier (breakingMachine (markBreakC (nextC s) (jumped .state) (jumped .code) b) k n e) (doing (method.emitBreak p) w)
+      → RepresentsMachine κ earlier (breakingMachine (markBreakC (nextC s) (jumped .state) (jumped .code) b) k n e) (doing (method.emitBreak p) w)
   break-more o os q false d =
       let ne = eqb-false (jumped .state .full) 0 d in
       let O = emit-over H (word (toInstruction Jump 0)) p (toInstruction Jump 0) z ne in
@@ -249,7 +249,7 @@ module _ {κ : Limits} {earlier : Entries} {s : struct.FunctionState} {c k n b e
       (ltb (jumped .state .breaks) (entriesIn 1 (length b))) refl)
 
   break-go : (bs : List (List ℕ)) → w .function .breakScopes ≡ bs
-      → Held κ earlier (breakingMachine (emitBreakC p (breaking s c b)) k n e) (doing (method.emitBreak p) w)
+      → RepresentsMachine κ earlier (breakingMachine (emitBreakC p (breaking s c b)) k n e) (doing (method.emitBreak p) w)
   break-go [] q =
       let out : s .«in_loop» ≡ false = H .rest z .in-loop ∙ ap (λ (bs : List (List ℕ)). isOpen bs) q in
       broke-as w (break-out-is p s c b out) (sym (break-is-none p (w .function) q)) (held-touch H z)
@@ -258,10 +258,10 @@ module _ {κ : Limits} {earlier : Entries} {s : struct.FunctionState} {c k n b e
       broke-as w (break-in-is p s c b in′) refl (break-more o os q (eqb (jumped .state .full) 0) refl)
 
 pub break-law : {κ : Limits} {earlier : Entries} {s : struct.FunctionState} {c k n b e : List ℕ} {w : Work} (p : ℕ)
-    → Held κ earlier (machine s c k n b e) w → Held κ earlier (breakingMachine (emitBreakC p (breaking s c b)) k n e) (doing (method.emitBreak p) w)
+    → RepresentsMachine κ earlier (machine s c k n b e) w → RepresentsMachine κ earlier (breakingMachine (emitBreakC p (breaking s c b)) k n e) (doing (method.emitBreak p) w)
 break-law {κ} {earlier} {s} {c} {k} {n} {b} {e} {w} p H = go (eqb (s .full) 0) refl
   where
-    go : (t : Bool) → eqb (s .full) 0 ≡ t → Held κ earlier (breakingMachine (emitBreakC p (breaking s c b)) k n e) (doing (method.emitBreak p) w)
+    go : (t : Bool) → eqb (s .full) 0 ≡ t → RepresentsMachine κ earlier (breakingMachine (emitBreakC p (breaking s c b)) k n e) (doing (method.emitBreak p) w)
     go true d = break-go p H (eqb-true (s .full) 0 d) (w .function .breakScopes) refl
     go false d =
         let ne = eqb-false (s .full) 0 d in
@@ -323,9 +323,9 @@ break-each es xs b count start F l j q =
 
 -- `start` and `inside` are those of the loop around
 module _ {κ : Limits} {earlier : Entries} {s : struct.FunctionState} {c k n b e : List ℕ} {w : Work} (exit start : ℕ) (inside : Bool)
-    (H : Held κ earlier (machine s c k n b e) w) where
+    (H : RepresentsMachine κ earlier (machine s c k n b e) w) where
   exit-go : s .full ≡ 0 → start ≡ total (tail (tail (w .function .breakScopes))) → inside ≡ isOpen (tail (w .function .breakScopes))
-      → Held κ earlier (breakingMachine (exitBreakC start inside (breaking s c b)) k n e) (doing (method.exitBreakScope exit) w)
+      → RepresentsMachine κ earlier (breakingMachine (exitBreakC start inside (breaking s c b)) k n e) (doing (method.exitBreakScope exit) w)
   unfolding method.exitBreakScope
   exit-go z hs hi =
       let C = H .rest z in
@@ -361,11 +361,11 @@ module _ {κ : Limits} {earlier : Entries} {s : struct.FunctionState} {c k n b e
   -- they matter only where nothing is full
   pub exit-break-law : (s .full ≡ 0 → start ≡ total (tail (tail (w .function .breakScopes))))
       → (s .full ≡ 0 → inside ≡ isOpen (tail (w .function .breakScopes)))
-      → Held κ earlier (breakingMachine (exitBreakC start inside (breaking s c b)) k n e) (doing (method.exitBreakScope exit) w)
+      → RepresentsMachine κ earlier (breakingMachine (exitBreakC start inside (breaking s c b)) k n e) (doing (method.exitBreakScope exit) w)
   exit-break-law hs hi = go (eqb (s .full) 0) refl
     where
       go : (t : Bool) → eqb (s .full) 0 ≡ t
-          → Held κ earlier (breakingMachine (exitBreakC start inside (breaking s c b)) k n e) (doing (method.exitBreakScope exit) w)
+          → RepresentsMachine κ earlier (breakingMachine (exitBreakC start inside (breaking s c b)) k n e) (doing (method.exitBreakScope exit) w)
       go true d = let z = eqb-true (s .full) 0 d in exit-go z (hs z) (hi z)
       go false d =
           let ne = eqb-false (s .full) 0 d in

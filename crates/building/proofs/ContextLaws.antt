@@ -23,7 +23,7 @@ use Rattle.building.specs.declared.taking.Taken.{Taken}
 use Rattle.building.specs.Taking.{Took, taken, hasRoom}
 use Rattle.building.specs.Found.{isNamed, findContextLocalC}
 use Rattle.building.specs.Context.{Localing, localing, defineContextBy, defineContextC, setValueC, functionStateWords}
-use Rattle.building.specs.Held.{Machine, Filled, Contents, LocalsHeld}
+use Rattle.building.specs.RepresentsMachine.{Machine, Filled, Contents, LocalsHeld}
 use Rattle.building.proofs.Filling.{room-fits, setEntry-length, filled-more, filled-set, filled-field, code-length}
 use Rattle.building.proofs.OldestFirst.{first-name}
 

@@ -1,4 +1,4 @@
--- The routines of `function_state.rt` do to memory what the definition's steps of the same names do: one law for each, over the relation `Held`. With
+-- The routines of `function_state.rt` do to memory what the definition's steps of the same names do: one law for each, over the relation `RepresentsMachine`. With
 -- the mark set nothing changes and only notes come; where an area is full its note is the first beyond; else the areas hold the function after the
 -- step. By cases of the mark and of room, and by the laws of `Filling`. Assumes nothing.
 use Prim.Native.Nat.{ℕ, zero, suc, _+_, _-_, _*_, _/_, _%_, _^_, _≤_, _<_, min}
@@ -25,7 +25,7 @@ use Rattle.building.specs.declared.function_state.FunctionState as struc
 use Rattle.building.specs.State.{withCode, withCodeCount}
 use Rattle.building.specs.Taking.{taken}
 use Rattle.building.specs.Emission.{Coded, coded, nextC, lastC, lastPositionC, lastOpcodeC, emitC, emitLastC, emitNullC, popC, removePopC, emitReturnC}
-use Rattle.building.specs.Held.{Machine, machine, Filled, Contents, Marks, unmarked, marked, Held}
+use Rattle.building.specs.RepresentsMachine.{Machine, machine, Filled, Contents, Marks, unmarked, marked, RepresentsMachine}
 use Rattle.building.proofs.Filling.{filled-more, filled-field, filled-back, room-fits, setEntry-length, all-front, code-length}
 use Rattle.building.proofs.Filling.{over-stays, over-here, held-full, Capped, capped, held-step}
 use Rattle.building.proofs.Notes.{contents-again}
@@ -36,8 +36,8 @@ codedMachine m k n b e = machine (m .state) (m .code) k n b e
 
 -- what a routine leaves, by what it ensures
 pub held-coded : {κ : Limits} {earlier : Entries} {k n b e : List ℕ} {w : Work} (r : struct.FunctionState) (c′ : List ℕ) {m : Coded} → coded r c′ ≡ m
-    → Held κ earlier (codedMachine m k n b e) w → Held κ earlier (machine r c′ k n b e) w
-held-coded {κ} {earlier} {k} {n} {b} {e} {w} r c′ q H = subst (λ (x : Coded). Held κ earlier (codedMachine x k n b e) w) (sym q) H
+    → RepresentsMachine κ earlier (codedMachine m k n b e) w → RepresentsMachine κ earlier (machine r c′ k n b e) w
+held-coded {κ} {earlier} {k} {n} {b} {e} {w} r c′ q H = subst (λ (x : Coded). RepresentsMachine κ earlier (codedMachine x k n b e) w) (sym q) H
 
 -- the function's state anew, with no note: what a step leaves that changes no count, after its notes
 abbrev pub putFunction : FunctionState → Work → Work
@@ -114,10 +114,10 @@ module _ {earlier : Entries} {m : Machine} {w : Work} (C : Contents earlier m w)
           (sym (List·getD-eq-default (w .function .code .instructions) nothing {n = length (w .function .code .instructions) - 1} (omega arith)))
 
 -- the same over the relation
-pub next-law : {κ : Limits} {earlier : Entries} {m : Machine} {w : Work} → Held κ earlier m w → m .state .full ≡ 0 → nextC (m .state) ≡ next w
+pub next-law : {κ : Limits} {earlier : Entries} {m : Machine} {w : Work} → RepresentsMachine κ earlier m w → m .state .full ≡ 0 → nextC (m .state) ≡ next w
 next-law H z = next-is (H .rest z)
 
-pub last-position-law : {κ : Limits} {earlier : Entries} {m : Machine} {w : Work} → Held κ earlier m w → m .state .full ≡ 0
+pub last-position-law : {κ : Limits} {earlier : Entries} {m : Machine} {w : Work} → RepresentsMachine κ earlier m w → m .state .full ≡ 0
     → lastPositionC (coded (m .state) (m .code)) ≡ getLastPosition (w .function)
 last-position-law H z = last-position-is (H .rest z)
 
@@ -147,8 +147,8 @@ module _ {earlier : Entries} {s : struct.FunctionState} {c k n b e : List ℕ} {
   }
 
 -- a step on the function that leaves it as it is
-pub held-touch : {κ : Limits} {earlier : Entries} {m : Machine} {w : Work} → Held κ earlier m w → m .state .full ≡ 0
-    → Held κ earlier m (withFunction (w .function) w)
+pub held-touch : {κ : Limits} {earlier : Entries} {m : Machine} {w : Work} → RepresentsMachine κ earlier m w → m .state .full ≡ 0
+    → RepresentsMachine κ earlier m (withFunction (w .function) w)
 held-touch {w = w} H z = held-step (w .function) H z z (capped H) (contents-again _ (H .rest z))
 
 none-over : {o : Option ℕ} {n : ℕ} → Marks o n → n ≡ 0 → o ≡ none
@@ -156,9 +156,9 @@ none-over unmarked z = refl
 none-over (marked h) z = absurd (omega arith)
 
 -- two steps on the function as one, where nothing is full after the first: its notes do not matter
-pub held-merge : {κ : Limits} {earlier : Entries} {m m₁ m₂ : Machine} {w : Work} (g f : FunctionState) → Held κ earlier m w → m .state .full ≡ 0
-    → Held κ earlier m₁ (withFunction g w) → m₁ .state .full ≡ 0 → Held κ earlier m₂ (withFunction f (withFunction g w))
-    → Held κ earlier m₂ (withFunction f w)
+pub held-merge : {κ : Limits} {earlier : Entries} {m m₁ m₂ : Machine} {w : Work} (g f : FunctionState) → RepresentsMachine κ earlier m w → m .state .full ≡ 0
+    → RepresentsMachine κ earlier m₁ (withFunction g w) → m₁ .state .full ≡ 0 → RepresentsMachine κ earlier m₂ (withFunction f (withFunction g w))
+    → RepresentsMachine κ earlier m₂ (withFunction f w)
 unfolding firstOver
 held-merge {κ} {earlier} {m} {m₁} {m₂} {w} g f H z H₁ z₁ H₂ = record {
   code-cap = H₂ .code-cap;
@@ -174,8 +174,8 @@ held-merge {κ} {earlier} {m} {m₁} {m₂} {w} g f H z H₁ z₁ H₂ = record 
 }
 
 -- area 1 is full
-pub held-over : {κ : Limits} {earlier : Entries} {m : Machine} (m′ : Machine) {w : Work} (f : FunctionState) → Held κ earlier m w → m .state .full ≡ 0
-    → Capped κ m′ → m′ .state .full ≡ codeArea → limitOf κ codeArea < w .before + length (f .code .instructions) → Held κ earlier m′ (withFunction f w)
+pub held-over : {κ : Limits} {earlier : Entries} {m : Machine} (m′ : Machine) {w : Work} (f : FunctionState) → RepresentsMachine κ earlier m w → m .state .full ≡ 0
+    → Capped κ m′ → m′ .state .full ≡ codeArea → limitOf κ codeArea < w .before + length (f .code .instructions) → RepresentsMachine κ earlier m′ (withFunction f w)
 held-over {κ} m′ {w} f H z K z′ h = record {
   code-cap = K .code;
   constants-cap = K .constants;
@@ -188,9 +188,9 @@ held-over {κ} m′ {w} f H z K z′ h = record {
 
 -- `emit`; its word and its position matter only where nothing is full
 module _ {κ : Limits} {earlier : Entries} {s : struct.FunctionState} {c k n b e : List ℕ} {w : Work} (x p : ℕ) (i : Instruction) (q : ℕ)
-    (hx : s .full ≡ 0 → x ≡ word i) (hp : s .full ≡ 0 → p ≡ q) (H : Held κ earlier (machine s c k n b e) w) where
+    (hx : s .full ≡ 0 → x ≡ word i) (hp : s .full ≡ 0 → p ≡ q) (H : RepresentsMachine κ earlier (machine s c k n b e) w) where
   emit-go : (t : Bool) → eqb (s .full) 0 ≡ t → (u : Bool) → ltb (s .code) (entriesIn 2 (length c)) ≡ u
-      → Held κ earlier (machine (withCode (cond t (cond u (taken (s .full) (s .code + 1)) (taken codeArea (s .code))) (taken (s .full) (s .code))) s)
+      → RepresentsMachine κ earlier (machine (withCode (cond t (cond u (taken (s .full) (s .code + 1)) (taken codeArea (s .code))) (taken (s .full) (s .code))) s)
       (cond t (cond u (setEntry 2 (s .code) (x ∷ p ∷ []) c) c) c) k n b e) (step.emit i q w)
   emit-go false d u l = held-full (step.emit i q w) (_ ∷ _ ∷ _ ∷ []) refl (eqb-false (s .full) 0 d) H
   emit-go true d false l =
@@ -221,25 +221,25 @@ module _ {κ : Limits} {earlier : Entries} {s : struct.FunctionState} {c k n b e
       (length-append ps (q ∷ []) ∙ omega (arith, length-append is (i ∷ []), C .sized))
       (rw (code-snoc is ps i q (C .sized), ← hx z, ← hp z, ← append-assoc earlier (codeEntries is ps) ((x ∷ p ∷ []) ∷ [])) F))
 
-  pub emit-law : Held κ earlier (codedMachine (emitC x p (coded s c)) k n b e) (step.emit i q w)
+  pub emit-law : RepresentsMachine κ earlier (codedMachine (emitC x p (coded s c)) k n b e) (step.emit i q w)
   unfolding emitC
   emit-law = emit-go (eqb (s .full) 0) refl (ltb (s .code) (entriesIn 2 (length c))) refl
 
 -- `emit_opcode`
 pub emit-opcode-law : {κ : Limits} {earlier : Entries} {s : struct.FunctionState} {c k n b e : List ℕ} {w : Work} (o p q : ℕ) → (s .full ≡ 0 → p ≡ q)
-    → Held κ earlier (machine s c k n b e) w → Held κ earlier (codedMachine (emitC (word (toInstruction o 0)) p (coded s c)) k n b e) (step.emitOpcode o q w)
+    → RepresentsMachine κ earlier (machine s c k n b e) w → RepresentsMachine κ earlier (codedMachine (emitC (word (toInstruction o 0)) p (coded s c)) k n b e) (step.emitOpcode o q w)
 emit-opcode-law o p q hp H = emit-law (word (toInstruction o 0)) p (toInstruction o 0) q (λ z. refl) hp H
 
 -- `emit_opcode_without_position`, and null
-module _ {κ : Limits} {earlier : Entries} {s : struct.FunctionState} {c k n b e : List ℕ} {w : Work} (H : Held κ earlier (machine s c k n b e) w) where
-  pub emit-last-law : (i : Instruction) → Held κ earlier (codedMachine (emitLastC (word i) (coded s c)) k n b e) (step.emit i (getLastPosition (w .function)) w)
+module _ {κ : Limits} {earlier : Entries} {s : struct.FunctionState} {c k n b e : List ℕ} {w : Work} (H : RepresentsMachine κ earlier (machine s c k n b e) w) where
+  pub emit-last-law : (i : Instruction) → RepresentsMachine κ earlier (codedMachine (emitLastC (word i) (coded s c)) k n b e) (step.emit i (getLastPosition (w .function)) w)
   emit-last-law i = emit-law (word i) (lastPositionC (coded s c)) i (getLastPosition (w .function)) (λ z. refl) (λ z. last-position-law H z) H
 
   pub emit-opcode-without-position-law : (o : ℕ)
-      → Held κ earlier (codedMachine (emitLastC (word (toInstruction o 0)) (coded s c)) k n b e) (step.emitOpcodeWithoutPosition o w)
+      → RepresentsMachine κ earlier (codedMachine (emitLastC (word (toInstruction o 0)) (coded s c)) k n b e) (step.emitOpcodeWithoutPosition o w)
   emit-opcode-without-position-law o = emit-last-law (toInstruction o 0)
 
-  pub emit-null-law : Held κ earlier (codedMachine (emitNullC (coded s c)) k n b e) (doing method.emitNull w)
+  pub emit-null-law : RepresentsMachine κ earlier (codedMachine (emitNullC (coded s c)) k n b e) (doing method.emitNull w)
   emit-null-law = emit-last-law (toInstruction PushConstant NULL)
 
 -- the last instruction given up
@@ -259,9 +259,9 @@ code-init is ps h q =
     ∙ ap (λ (x : List ℕ). codeEntries (init is ++ (last is nothing ∷ [])) x) (sym (init-last ps 0 (omega arith)))
     ∙ code-snoc (init is) (init ps) (last is nothing) (last ps 0) (omega (arith, init-length is, init-length ps))
 
-module _ {κ : Limits} {earlier : Entries} {s : struct.FunctionState} {c k n b e : List ℕ} {w : Work} (H : Held κ earlier (machine s c k n b e) w) where
+module _ {κ : Limits} {earlier : Entries} {s : struct.FunctionState} {c k n b e : List ℕ} {w : Work} (H : RepresentsMachine κ earlier (machine s c k n b e) w) where
   pop-law : s .full ≡ 0 → 0 < length (w .function .code .instructions)
-      → Held κ earlier (codedMachine (popC (coded s c)) k n b e) (withFunction (method.popLast (w .function)) w)
+      → RepresentsMachine κ earlier (codedMachine (popC (coded s c)) k n b e) (withFunction (method.popLast (w .function)) w)
   pop-law z q =
       let C = H .rest z in
       let is = w .function .code .instructions in
@@ -309,13 +309,13 @@ remove-is-null f r q = rw (ne-eqb (lastOpcode f) Pop r, ne-eqb (lastOpcode f) Re
 
 -- what is held, under equal names
 held-as : {κ : Limits} {earlier : Entries} {k n b e : List ℕ} (w : Work) {m m′ : Coded} {f f′ : FunctionState} → m ≡ m′ → f ≡ f′
-    → Held κ earlier (codedMachine m k n b e) (withFunction f w) → Held κ earlier (codedMachine m′ k n b e) (withFunction f′ w)
+    → RepresentsMachine κ earlier (codedMachine m k n b e) (withFunction f w) → RepresentsMachine κ earlier (codedMachine m′ k n b e) (withFunction f′ w)
 held-as {κ} {earlier} {k} {n} {b} {e} w {m} {m′} {f} {f′} p q H = rw (← p, ← q) H
 
-module _ {κ : Limits} {earlier : Entries} {s : struct.FunctionState} {c k n b e : List ℕ} {w : Work} (H : Held κ earlier (machine s c k n b e) w) where
+module _ {κ : Limits} {earlier : Entries} {s : struct.FunctionState} {c k n b e : List ℕ} {w : Work} (H : RepresentsMachine κ earlier (machine s c k n b e) w) where
   -- by the last opcode, where nothing is full
   remove-go : s .full ≡ 0 → (t : Bool) → eqb (lastOpcode (w .function)) Pop ≡ t → (u : Bool) → eqb (lastOpcode (w .function)) ReturnOp ≡ u
-      → Held κ earlier (codedMachine (removePopC (coded s c)) k n b e) (doing method.removePopOrPushNull w)
+      → RepresentsMachine κ earlier (codedMachine (removePopC (coded s c)) k n b e) (doing method.removePopOrPushNull w)
   remove-go z true p u q =
       let r = eqb-true (lastOpcode (w .function)) Pop p in
       held-as w (remove-pop (coded s c) z (last-opcode-is (H .rest z) ∙ r) refl) (sym (remove-is-pop (w .function) r))
@@ -332,10 +332,10 @@ module _ {κ : Limits} {earlier : Entries} {s : struct.FunctionState} {c k n b e
       held-as w (remove-null (coded s c) z (λ x. r (sym o ∙ x)) (λ x. v (sym o ∙ x)) refl) (sym (remove-is-null (w .function) r v))
       (emit-last-law H (toInstruction PushConstant NULL))
 
-  pub remove-law : Held κ earlier (codedMachine (removePopC (coded s c)) k n b e) (doing method.removePopOrPushNull w)
+  pub remove-law : RepresentsMachine κ earlier (codedMachine (removePopC (coded s c)) k n b e) (doing method.removePopOrPushNull w)
   remove-law = go (eqb (s .full) 0) refl
     where
-      go : (t : Bool) → eqb (s .full) 0 ≡ t → Held κ earlier (codedMachine (removePopC (coded s c)) k n b e) (doing method.removePopOrPushNull w)
+      go : (t : Bool) → eqb (s .full) 0 ≡ t → RepresentsMachine κ earlier (codedMachine (removePopC (coded s c)) k n b e) (doing method.removePopOrPushNull w)
       go true d = remove-go (eqb-true (s .full) 0 d) (eqb (lastOpcode (w .function)) Pop) refl (eqb (lastOpcode (w .function)) ReturnOp) refl
       go false d =
           let ne = eqb-false (s .full) 0 d in
@@ -372,11 +372,11 @@ pub record Overfull (κ : Limits) (m : Coded) (n : ℕ) : Type 0 where
   pub mark : m .state .full ≡ codeArea
   pub more : limitOf κ codeArea < n
 
-module _ {κ : Limits} {earlier : Entries} {m : Machine} {k n b e : List ℕ} {w : Work} (p : ℕ) (H : Held κ earlier m w) (z : m .state .full ≡ 0)
-    (g : FunctionState) (g′ : Coded) (H₁ : Held κ earlier (codedMachine g′ k n b e) (withFunction g w)) where
+module _ {κ : Limits} {earlier : Entries} {m : Machine} {k n b e : List ℕ} {w : Work} (p : ℕ) (H : RepresentsMachine κ earlier m w) (z : m .state .full ≡ 0)
+    (g : FunctionState) (g′ : Coded) (H₁ : RepresentsMachine κ earlier (codedMachine g′ k n b e) (withFunction g w)) where
   -- a Return behind what stands, where nothing is full
   return-on : g′ .state .full ≡ 0 → (t : Bool) → eqb (lastOpcode g) ReturnOp ≡ t
-      → Held κ earlier (codedMachine (cond t g′ (emitC (word (toInstruction ReturnOp 0)) p g′)) k n b e)
+      → RepresentsMachine κ earlier (codedMachine (cond t g′ (emitC (word (toInstruction ReturnOp 0)) p g′)) k n b e)
       (withFunction (cond t g (method.emitOpcode ReturnOp p g)) w)
   return-on z₁ true q = H₁
   return-on z₁ false q =
@@ -384,10 +384,10 @@ module _ {κ : Limits} {earlier : Entries} {m : Machine} {k n b e : List ℕ} {w
       (emit-law (word (toInstruction ReturnOp 0)) p (toInstruction ReturnOp 0) p (λ _. refl) (λ _. refl) H₁)
 
   return-step : ((g′ .state .full ≡ 0 → ⊥) → Overfull κ g′ (w .before + length (g .code .instructions)))
-      → Held κ earlier (codedMachine (returnedC p g′) k n b e) (withFunction (returned p g) w)
+      → RepresentsMachine κ earlier (codedMachine (returnedC p g′) k n b e) (withFunction (returned p g) w)
   return-step over = go (eqb (g′ .state .full) 0) refl
     where
-      go : (t : Bool) → eqb (g′ .state .full) 0 ≡ t → Held κ earlier (codedMachine (returnedC p g′) k n b e) (withFunction (returned p g) w)
+      go : (t : Bool) → eqb (g′ .state .full) 0 ≡ t → RepresentsMachine κ earlier (codedMachine (returnedC p g′) k n b e) (withFunction (returned p g) w)
       go true d =
           let z₁ = eqb-true (g′ .state .full) 0 d in
           rw (last-opcode-is (H₁ .rest z₁)) (return-on z₁ (eqb (lastOpcode g) ReturnOp) refl)
@@ -398,7 +398,7 @@ module _ {κ : Limits} {earlier : Entries} {m : Machine} {k n b e : List ℕ} {w
           (held-over (codedMachine g′ k n b e) (returned p g) H z (capped H₁) (O .mark) (omega (arith, O .more, returned-longer p g)))
 
 -- what fills area 1 when an instruction is emitted is the code with it
-module _ {κ : Limits} {earlier : Entries} {s : struct.FunctionState} {c k n b e : List ℕ} {w : Work} (H : Held κ earlier (machine s c k n b e) w) where
+module _ {κ : Limits} {earlier : Entries} {s : struct.FunctionState} {c k n b e : List ℕ} {w : Work} (H : RepresentsMachine κ earlier (machine s c k n b e) w) where
   pub emit-over : (x p : ℕ) (i : Instruction) → s .full ≡ 0 → (emitC x p (coded s c) .state .full ≡ 0 → ⊥)
       → Overfull κ (emitC x p (coded s c)) (w .before + length (w .function .code .instructions ++ (i ∷ [])))
   unfolding emitC
@@ -441,7 +441,7 @@ module _ {κ : Limits} {earlier : Entries} {s : struct.FunctionState} {c k n b e
       rw (← same, remove-is-null (w .function) r v)
       (emit-over (word (toInstruction PushConstant NULL)) (lastPositionC (coded s c)) (toInstruction PushConstant NULL) z (rw (← same) at h))
 
-  return-go : (p : ℕ) → s .full ≡ 0 → Held κ earlier (codedMachine (emitReturnC p (coded s c)) k n b e) (doing (method.emitReturn p) w)
+  return-go : (p : ℕ) → s .full ≡ 0 → RepresentsMachine κ earlier (codedMachine (emitReturnC p (coded s c)) k n b e) (doing (method.emitReturn p) w)
   unfolding emitReturnC method.emitReturn
   return-go p z =
       return-step p H z (method.removePopOrPushNull (w .function)) (removePopC (coded s c)) (remove-law H)
@@ -455,10 +455,10 @@ module _ {κ : Limits} {earlier : Entries} {s : struct.FunctionState} {c k n b e
 
 -- its position matters only where nothing is full
 pub return-law : {κ : Limits} {earlier : Entries} {s : struct.FunctionState} {c k n b e : List ℕ} {w : Work} (p q : ℕ) → (s .full ≡ 0 → p ≡ q)
-    → Held κ earlier (machine s c k n b e) w → Held κ earlier (codedMachine (emitReturnC p (coded s c)) k n b e) (doing (method.emitReturn q) w)
+    → RepresentsMachine κ earlier (machine s c k n b e) w → RepresentsMachine κ earlier (codedMachine (emitReturnC p (coded s c)) k n b e) (doing (method.emitReturn q) w)
 return-law {κ} {earlier} {s} {c} {k} {n} {b} {e} {w} p q hp H = go (eqb (s .full) 0) refl
   where
-    go : (t : Bool) → eqb (s .full) 0 ≡ t → Held κ earlier (codedMachine (emitReturnC p (coded s c)) k n b e) (doing (method.emitReturn q) w)
+    go : (t : Bool) → eqb (s .full) 0 ≡ t → RepresentsMachine κ earlier (codedMachine (emitReturnC p (coded s c)) k n b e) (doing (method.emitReturn q) w)
     go true d = let z = eqb-true (s .full) 0 d in rw (← hp z) (return-go H p z)
     go false d =
         let ne = eqb-false (s .full) 0 d in

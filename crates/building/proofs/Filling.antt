@@ -22,8 +22,8 @@ use Rattle.definition_laws.proofs.Lists.{all-append, all-set}
 use Rattle.definition_laws.proofs.Cells.{Wide, all-at, flat-length, filled-word, single-length}
 use Rattle.words.specs.Opcode.{Instruction}
 use Rattle.building.specs.Taking.{zeroed, givenUp}
-use Rattle.building.specs.Held.{Machine, Filled, nameEntry, oldestFirst, nameEntries, breakEntry, breakEntries, Contents, Marks, unmarked, marked}
-use Rattle.building.specs.Held.{Sized, Held}
+use Rattle.building.specs.RepresentsMachine.{Machine, Filled, nameEntry, oldestFirst, nameEntries, breakEntry, breakEntries, Contents, Marks, unmarked, marked}
+use Rattle.building.specs.RepresentsMachine.{Sized, RepresentsMachine}
 
 -- lists
 
@@ -197,7 +197,7 @@ over-all κ (u ∷ new) us m ne = over-stays κ u (new ++ us) (over-all κ new u
 
 -- what is full stays, whatever the definition goes on to do and to note
 pub held-full : {κ : Limits} {earlier : Entries} {m : Machine} {w : Work} (w′ : Work) (new : List Use) → w′ .uses ≡ new ++ w .uses
-    → (m .state .full ≡ 0 → ⊥) → Held κ earlier m w → Held κ earlier m w′
+    → (m .state .full ≡ 0 → ⊥) → RepresentsMachine κ earlier m w → RepresentsMachine κ earlier m w′
 held-full {κ} {earlier} {m} {w} w′ new e ne H = record {
   code-cap = H .code-cap;
   constants-cap = H .constants-cap;
@@ -252,7 +252,7 @@ pub record Capped (κ : Limits) (m : Machine) : Type 0 where
   pub breaks : Sized κ breaksArea (m .breaks)
   pub errors : Sized κ errorsArea (m .errors)
 
-pub capped : {κ : Limits} {earlier : Entries} {m : Machine} {w : Work} → Held κ earlier m w → Capped κ m
+pub capped : {κ : Limits} {earlier : Entries} {m : Machine} {w : Work} → RepresentsMachine κ earlier m w → Capped κ m
 capped H = record { code = H .code-cap; constants = H .constants-cap; names = H .names-cap; breaks = H .breaks-cap; errors = H .errors-cap }
 
 pub noted-within : {κ : Limits} {earlier : Entries} {m : Machine} {w : Work} → Capped κ m → Contents earlier m w → Within κ w
@@ -285,8 +285,8 @@ noted-within {κ} {earlier} {m} {w} K C = record {
 }
 
 -- a step on the function: where nothing was full before and the areas hold the function after it, its three notes fit
-pub held-step : {κ : Limits} {earlier : Entries} {m m′ : Machine} {w : Work} (f : FunctionState) → Held κ earlier m w → m .state .full ≡ 0
-    → m′ .state .full ≡ 0 → Capped κ m′ → Contents earlier m′ (withFunction f w) → Held κ earlier m′ (withFunction f w)
+pub held-step : {κ : Limits} {earlier : Entries} {m m′ : Machine} {w : Work} (f : FunctionState) → RepresentsMachine κ earlier m w → m .state .full ≡ 0
+    → m′ .state .full ≡ 0 → Capped κ m′ → Contents earlier m′ (withFunction f w) → RepresentsMachine κ earlier m′ (withFunction f w)
 held-step {κ} {earlier} {m} {m′} {w} f H z z′ K C = record {
   code-cap = K .code;
   constants-cap = K .constants;

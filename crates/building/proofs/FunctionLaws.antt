@@ -12,7 +12,7 @@ use Rattle.definition.specs.Program.{Entries, codeEntries, constantEntry, error
 use Rattle.definition.specs.Within.{All}
 use Rattle.building.specs.declared.function_state.FunctionState as struct
 use Rattle.building.specs.State.{begun}
-use Rattle.building.specs.Held.{machine, Filled, nameEntries, breakEntries, Marks, Held}
+use Rattle.building.specs.RepresentsMachine.{machine, Filled, nameEntries, breakEntries, Marks, RepresentsMachine}
 use Rattle.building.proofs.Filling.{Capped, names-length, breaks-length, code-length}
 use Rattle.building.proofs.StateLaws.{touch-law}
 
@@ -33,7 +33,7 @@ fresh w = record { compiler = w .compiler; context = w .context; function = newF
 module _ {κ : Limits} {E : Entries} {full code constants errors : ℕ} {c k n b e : List ℕ} {w : Work}
     (K : Capped κ (machine (begun full code constants errors) c k n b e)) (marked-by : Marks (firstOver κ (w .uses)) full)
     (live : full ≡ 0 → Between E code constants errors c k n b e w) where
-  pub begin-law : Held κ E (machine (begun full code constants errors) c k n b e) (fresh w)
+  pub begin-law : RepresentsMachine κ E (machine (begun full code constants errors) c k n b e) (fresh w)
   begin-law = record {
     code-cap = K .code;
     constants-cap = K .constants;
@@ -65,7 +65,7 @@ module _ {κ : Limits} {E : Entries} {full code constants errors : ℕ} {c k n b
   }
 
   -- as `compile_function_definition_base` begins
-  pub begin-noted-law : Held κ E (machine (begun full code constants errors) c k n b e) (withFunction newFunctionState w)
+  pub begin-noted-law : RepresentsMachine κ E (machine (begun full code constants errors) c k n b e) (withFunction newFunctionState w)
   begin-noted-law = touch-law begin-law
 
 -- the function's code is behind E
@@ -82,7 +82,7 @@ none-left : {width : ℕ} {l : List ℕ} (es : Entries) {n : ℕ} → length es 
 none-left [] h f = record { zeros = f .zeros; is = f .is; count = refl; wide = f .wide; room = omega (arith, f .room) }
 none-left (x ∷ es) h f = absurd (omega arith)
 
-module _ {κ : Limits} {E : Entries} {s : struct.FunctionState} {c k n b e : List ℕ} {w : Work} (H : Held κ E (machine s c k n b e) w) where
+module _ {κ : Limits} {E : Entries} {s : struct.FunctionState} {c k n b e : List ℕ} {w : Work} (H : RepresentsMachine κ E (machine s c k n b e) w) where
   -- no name and no break is left
   pub between-law : s .full ≡ 0 → total (w .function .scopes) ≡ 0 → total (w .function .breakScopes) ≡ 0
       → Between (E ++ codeEntries (w .function .code .instructions) (w .function .code .positions)) (s .code) (s .constants) (s .errors) c k n b e (done w)

@@ -14,8 +14,8 @@ use Rattle.definition.specs.FunctionState.{FunctionState, orElse}
 use Rattle.definition.specs.Uses.{Use, using′, Limits, limitOf, overBy, firstOver, total}
 use Rattle.definition.specs.Compiler.{Work, withFunction}
 use Rattle.definition.specs.Program.{Entries}
-use Rattle.definition_laws.proofs.Steady.{Longer, same, more}
-use Rattle.building.specs.Held.{Machine, Contents, Marks, unmarked, marked, Held}
+use Rattle.definition_laws.proofs.StepPreserves.{NotesGrow, same, more}
+use Rattle.building.specs.RepresentsMachine.{Machine, Contents, Marks, unmarked, marked, RepresentsMachine}
 use Rattle.building.proofs.Filling.{Within, over-stays, capped, noted-within}
 
 pub marks-same : {o : Option ℕ} {a b : ℕ} → Marks o a → Marks o b → a ≡ b
@@ -25,13 +25,13 @@ marks-same (marked h) (marked k) = refl
 marks-none : {n : ℕ} → Marks none n → n ≡ 0
 marks-none unmarked = refl
 
-pub over-longer : (κ : Limits) {us vs : List Use} {n : ℕ} → Longer us vs → Marks (firstOver κ us) n → (n ≡ 0 → ⊥) → Marks (firstOver κ vs) n
+pub over-longer : (κ : Limits) {us vs : List Use} {n : ℕ} → NotesGrow us vs → Marks (firstOver κ us) n → (n ≡ 0 → ⊥) → Marks (firstOver κ vs) n
 over-longer κ same m ne = m
 over-longer κ (more {vs = vs} {v = v} l) m ne = over-stays κ v vs (over-longer κ l m ne) ne
 
 -- with the mark set, whatever the definition does and notes
-pub held-longer : {κ : Limits} {E : Entries} {m : Machine} {w w′ : Work} → Longer (w .uses) (w′ .uses) → (m .state .full ≡ 0 → ⊥)
-    → Held κ E m w → Held κ E m w′
+pub held-longer : {κ : Limits} {E : Entries} {m : Machine} {w w′ : Work} → NotesGrow (w .uses) (w′ .uses) → (m .state .full ≡ 0 → ⊥)
+    → RepresentsMachine κ E m w → RepresentsMachine κ E m w′
 held-longer {κ} l ne H = record {
   code-cap = H .code-cap;
   constants-cap = H .constants-cap;
@@ -43,7 +43,7 @@ held-longer {κ} l ne H = record {
 }
 
 -- not full after, not full before
-pub back : {κ : Limits} {E E′ : Entries} {m m′ : Machine} {w w′ : Work} → Longer (w .uses) (w′ .uses) → Held κ E m w → Held κ E′ m′ w′
+pub back : {κ : Limits} {E E′ : Entries} {m m′ : Machine} {w w′ : Work} → NotesGrow (w .uses) (w′ .uses) → RepresentsMachine κ E m w → RepresentsMachine κ E′ m′ w′
     → m′ .state .full ≡ 0 → m .state .full ≡ 0
 back {κ} {m = m} l H H′ z = go (eqb (m .state .full) 0) refl
   where
@@ -91,9 +91,9 @@ over-more κ area m m′ h n e = go (ltb (limitOf κ area) m) refl e
     go false q e = absurd (let z : _≡_ {A = ℕ} 0 1 = cc in omega arith)
 
 -- two steps on the function in the place of one: the first adds no name and no break, and the second has no less code
-pub held-renoted : {κ : Limits} {E E₀ : Entries} {m m₀ : Machine} {w : Work} (f g : FunctionState) → Held κ E₀ m₀ w
+pub held-renoted : {κ : Limits} {E E₀ : Entries} {m m₀ : Machine} {w : Work} (f g : FunctionState) → RepresentsMachine κ E₀ m₀ w
     → length (f .code .instructions) ≤ length (g .code .instructions) → total (f .scopes) ≤ total (w .function .scopes)
-    → total (f .breakScopes) ≤ total (w .function .breakScopes) → Held κ E m (withFunction g (withFunction f w)) → Held κ E m (withFunction g w)
+    → total (f .breakScopes) ≤ total (w .function .breakScopes) → RepresentsMachine κ E m (withFunction g (withFunction f w)) → RepresentsMachine κ E m (withFunction g w)
 unfolding firstOver
 held-renoted {κ} {m₀ = m₀} {w = w} f g H₀ code names breaks H = record {
   code-cap = H .code-cap;

@@ -1,5 +1,5 @@
 -- What the routines of `pool.rt` do to memory is what the definition's steps of the same names do: constants, their global marks, and errors. Each law
--- cites the relation `Held` alone. By cases on the mark and on the room, with the entries' laws of `Filling`. Assumes nothing.
+-- cites the relation `RepresentsMachine` alone. By cases on the mark and on the room, with the entries' laws of `Filling`. Assumes nothing.
 use Prim.Native.Nat.{ℕ, zero, suc, _+_, _*_, _≤_, _<_}
 use native.Mathlib.Nat.{zero-add}
 use native.Mathlib.Omega.{arith}
@@ -26,7 +26,7 @@ use Rattle.building.specs.State as state
 use Rattle.building.specs.Taking.{taken, hasRoom}
 use Rattle.building.specs.Found.{isConstant, findConstantC}
 use Rattle.building.specs.Pool.{Pooling, pooling, addNoCheckC, addBy, addConstantC, markGlobalC, Erring, erring, pushErrorC}
-use Rattle.building.specs.Held.{machine, Filled, Contents, Held}
+use Rattle.building.specs.RepresentsMachine.{machine, Filled, Contents, RepresentsMachine}
 use Rattle.building.proofs.Filling.{room-fits, setEntry-length, filled-more, filled-set, filled-field, over-fits, over-here, held-full}
 use Rattle.building.proofs.OldestFirst.{first-constant}
 
@@ -143,7 +143,7 @@ with-errors C t e′ number token f = record {
 
 -- a pool in memory stands for the definition's, and the number is its number unless something is full
 record Pooled (κ : Limits) (earlier : Entries) (c n b e : List ℕ) (p : Pooling) (a : Added) : Type 0 where
-  held : Held κ earlier (machine (p .state) c (p .constants) n b e) (a .work)
+  held : RepresentsMachine κ earlier (machine (p .state) c (p .constants) n b e) (a .work)
   index : p .state .full ≡ 0 → p .index ≡ a .index
 
 -- `add_constant` with nothing full, by whether the kind is shared and what the search found
@@ -153,7 +153,7 @@ adding t o kind value s k = cond t (addBy o kind value s k) (addNoCheckC kind va
 abbrev added : Bool → Option ℕ → ℕ → ℕ → Work → Added
 added t o kind value w = cond t (addConstantBy o (constantOf kind value) w) (addConstantNoCheck (constantOf kind value) w)
 
-module _ {κ : Limits} {earlier : Entries} {s : FunctionState} {c k n b e : List ℕ} {w : Work} (H : Held κ earlier (machine s c k n b e) w) where
+module _ {κ : Limits} {earlier : Entries} {s : FunctionState} {c k n b e : List ℕ} {w : Work} (H : RepresentsMachine κ earlier (machine s c k n b e) w) where
   -- how many constants and errors there are
   constants-count : s .full ≡ 0 → s .constants ≡ length (w .context .constants)
   constants-count z =
@@ -166,7 +166,7 @@ module _ {κ : Limits} {earlier : Entries} {s : FunctionState} {c k n b e : List
   module _ (kind value : ℕ) where
     -- `add_constant_no_check`
     no-check : (t : Bool) → eqb (s .full) 0 ≡ t → (u : Bool) → hasRoom 3 (s .constants) (length k) ≡ u
-        → Held κ earlier
+        → RepresentsMachine κ earlier
         (machine (state.withConstants (cond t (cond u (taken (s .full) (s .constants + 1)) (taken 2 (s .constants))) (taken (s .full) (s .constants))) s) c
         (cond t (cond u (setEntry 3 (s .constants) (kind ∷ value ∷ 0 ∷ []) k) k) k) n b e)
         (addConstantNoCheck (constantOf kind value) w .work)
@@ -203,7 +203,7 @@ module _ {κ : Limits} {earlier : Entries} {s : FunctionState} {c k n b e : List
               (marks-longer (w .context .constants) (constantOf kind value) (C .marks));
         }
 
-    no-check-now : Held κ earlier (machine (addNoCheckC kind value s k .state) c (addNoCheckC kind value s k .constants) n b e)
+    no-check-now : RepresentsMachine κ earlier (machine (addNoCheckC kind value s k .state) c (addNoCheckC kind value s k .constants) n b e)
         (addConstantNoCheck (constantOf kind value) w .work)
     no-check-now = no-check (eqb (s .full) 0) refl (hasRoom 3 (s .constants) (length k)) refl
 
@@ -249,7 +249,7 @@ module _ {κ : Limits} {earlier : Entries} {s : FunctionState} {c k n b e : List
             same-found (find-law z) (add-live z (isShared kind) (findConstant (constantOf kind value) (w .context .constants) 0))
 
   -- a mark more
-  mark-live : s .full ≡ 0 → (i : ℕ) → i < length (w .context .constants) → Held κ earlier (machine s c (set k (i * 3 + 2) 1) n b e) (markGlobal i w)
+  mark-live : s .full ≡ 0 → (i : ℕ) → i < length (w .context .constants) → RepresentsMachine κ earlier (machine s c (set k (i * 3 + 2) 1) n b e) (markGlobal i w)
   mark-live z i h = record {
     code-cap = H .code-cap;
     constants-cap = ap (λ (m : ℕ). entriesIn 3 m) (length-set k (i * 3 + 2) 1) ∙ H .constants-cap;
@@ -286,12 +286,12 @@ module _ {κ : Limits} {earlier : Entries} {s : FunctionState} {c k n b e : List
       less p q = omega arith
 
   mark-now : (i i′ : ℕ) → (s .full ≡ 0 → (i ≡ i′) × (i′ < length (w .context .constants)))
-      → Held κ earlier (machine s c (markGlobalC i s k) n b e) (markGlobal i′ w)
+      → RepresentsMachine κ earlier (machine s c (markGlobalC i s k) n b e) (markGlobal i′ w)
   unfolding markGlobalC
   mark-now i i′ same = go (eqb (s .full) 0) refl
     where
       go : (f : Bool) → eqb (s .full) 0 ≡ f
-          → Held κ earlier (machine s c (cond f (cond (ltb i (s .constants)) (writeWord 3 i 2 1 k) k) k) n b e) (markGlobal i′ w)
+          → RepresentsMachine κ earlier (machine s c (cond f (cond (ltb i (s .constants)) (writeWord 3 i 2 1 k) k) k) n b e) (markGlobal i′ w)
       go false q = held-full (markGlobal i′ w) (using′ constantsArea (length (w .context .constants)) ∷ []) refl (eqb-false (s .full) 0 q) H
       go true q =
           let z = eqb-true (s .full) 0 q in
@@ -300,7 +300,7 @@ module _ {κ : Limits} {earlier : Entries} {s : FunctionState} {c k n b e : List
 
   -- an error more
   error-now : (number : ℕ) (token : Token) (t : Bool) → eqb (s .full) 0 ≡ t → (u : Bool) → hasRoom 4 (s .errors) (length e) ≡ u
-      → Held κ earlier
+      → RepresentsMachine κ earlier
       (machine (state.withErrors (cond t (cond u (taken (s .full) (s .errors + 1)) (taken errorsArea (s .errors))) (taken (s .full) (s .errors))) s) c k n b
       (cond t (cond u (setEntry 4 (s .errors) (number ∷ token .position ∷ token .kind ∷ token .value ∷ []) e) e) e))
       (pushError number token w)
@@ -342,13 +342,13 @@ module _ {κ : Limits} {earlier : Entries} {s : FunctionState} {c k n b e : List
 
 -- `add_constant`
 pub add-constant-law : {κ : Limits} {earlier : Entries} {s : FunctionState} {c k n b e : List ℕ} {w : Work} (kind value : ℕ) {i : ℕ} {r : FunctionState}
-    {k′ : List ℕ} → pooling i r k′ ≡ addConstantC kind value s k → Held κ earlier (machine s c k n b e) w
-    → Held κ earlier (machine r c k′ n b e) (addConstant (constantOf kind value) w .work)
+    {k′ : List ℕ} → pooling i r k′ ≡ addConstantC kind value s k → RepresentsMachine κ earlier (machine s c k n b e) w
+    → RepresentsMachine κ earlier (machine r c k′ n b e) (addConstant (constantOf kind value) w .work)
 add-constant-law kind value q H = rw (ap (λ (p : Pooling). p .state) q, ap (λ (p : Pooling). p .constants) q) (add-now H kind value .held)
 
 -- the number that `add_constant` answers, where nothing is full afterwards
 pub add-constant-index : {κ : Limits} {earlier : Entries} {s : FunctionState} {c k n b e : List ℕ} {w : Work} (kind value : ℕ) {i : ℕ} {r : FunctionState}
-    {k′ : List ℕ} → pooling i r k′ ≡ addConstantC kind value s k → Held κ earlier (machine s c k n b e) w → r .full ≡ 0
+    {k′ : List ℕ} → pooling i r k′ ≡ addConstantC kind value s k → RepresentsMachine κ earlier (machine s c k n b e) w → r .full ≡ 0
     → i ≡ addConstant (constantOf kind value) w .index
 add-constant-index kind value q H z =
     ap (λ (p : Pooling). p .index) q ∙ add-now H kind value .index (sym (ap (λ (p : Pooling). p .state .full) q) ∙ z)
@@ -361,14 +361,14 @@ add-constant-inside c w =
 
 -- `global_dependencies.insert`; the number matters only where nothing is full
 pub mark-global-law : {κ : Limits} {earlier : Entries} {s : FunctionState} {c k n b e : List ℕ} {w : Work} (i i′ : ℕ) {k′ : List ℕ}
-    → k′ ≡ markGlobalC i s k → (s .full ≡ 0 → (i ≡ i′) × (i′ < length (w .context .constants))) → Held κ earlier (machine s c k n b e) w
-    → Held κ earlier (machine s c k′ n b e) (markGlobal i′ w)
+    → k′ ≡ markGlobalC i s k → (s .full ≡ 0 → (i ≡ i′) × (i′ < length (w .context .constants))) → RepresentsMachine κ earlier (machine s c k n b e) w
+    → RepresentsMachine κ earlier (machine s c k′ n b e) (markGlobal i′ w)
 mark-global-law i i′ q same H = rw q (mark-now H i i′ same)
 
 -- `push_error`
 pub push-error-law : {κ : Limits} {earlier : Entries} {s : FunctionState} {c k n b e : List ℕ} {w : Work} (number : ℕ) (token : Token)
     {r : FunctionState} {e′ : List ℕ} → erring r e′ ≡ pushErrorC number (token .position) (token .kind) (token .value) s e
-    → Held κ earlier (machine s c k n b e) w → Held κ earlier (machine r c k n b e′) (pushError number token w)
+    → RepresentsMachine κ earlier (machine s c k n b e) w → RepresentsMachine κ earlier (machine r c k n b e′) (pushError number token w)
 unfolding pushErrorC
 push-error-law {s = s} {e = e} number token q H =
     rw (ap (λ (p : Erring). p .state) q, ap (λ (p : Erring). p .errors) q)

@@ -26,7 +26,7 @@ use Rattle.building.specs.State.{withScope, withNames, withLocalCount}
 use Rattle.building.specs.Taking.{taken, givenUp}
 use Rattle.building.specs.Scopes.{Naming, naming, findLocalC, findInScopeC, enterScopeC, exitScopeC, endFunctionC, defineAnonymousC, countedC}
 use Rattle.building.specs.Scopes.{insertC, Definition, defineBy, defineC, Defines}
-use Rattle.building.specs.Held.{machine, Filled, nameEntries, oldestFirst, isOpen, Contents, Held}
+use Rattle.building.specs.RepresentsMachine.{machine, Filled, nameEntries, oldestFirst, isOpen, Contents, RepresentsMachine}
 use Rattle.building.proofs.Filling.{filled-less, filled-more, names-length, capped, noted-within, setEntry-length, room-fits}
 use Rattle.building.proofs.Filling.{over-stays, over-fits, over-here, held-full, held-step}
 use Rattle.building.proofs.ScopeNames.{names-wide, names-split, total-split, names-insert, total-insert, tail-insert, found-in-scope, found-in-scopes}
@@ -73,7 +73,7 @@ unnamed w = record {
   uses = w .uses;
 }
 
-module _ {κ : Limits} {E : Entries} {s : struct.FunctionState} {c k n b e : List ℕ} {w : Work} (H : Held κ E (machine s c k n b e) w) where
+module _ {κ : Limits} {E : Entries} {s : struct.FunctionState} {c k n b e : List ℕ} {w : Work} (H : RepresentsMachine κ E (machine s c k n b e) w) where
   -- searches, where nothing is full
 
   live : s .full ≡ 0 → s .names ≡ total (w .function .scopes)
@@ -95,7 +95,7 @@ module _ {κ : Limits} {E : Entries} {s : struct.FunctionState} {c k n b e : Lis
   -- a step that changes names, scopes and locals alone, where nothing is full
   named-step : s .full ≡ 0 → (names scope locals : ℕ) (n′ : List ℕ) (ss : List (List Entry)) (count : ℕ) → length n′ ≡ length n
       → Filled 2 n′ (nameEntries ss) names → scope ≡ total (tail ss) → locals ≡ count % 2 ^ 64
-      → Held κ E (machine (withLocalCount locals (withScope names scope s)) c k n′ b e)
+      → RepresentsMachine κ E (machine (withLocalCount locals (withScope names scope s)) c k n′ b e)
       (withFunction (Emission.withScopes ss (Emission.withLocalCount count (w .function))) w)
   named-step z names scope locals n′ ss count long f p q =
       let g = Emission.withScopes ss (Emission.withLocalCount count (w .function)) in
@@ -104,14 +104,14 @@ module _ {κ : Limits} {E : Entries} {s : struct.FunctionState} {c k n b e : Lis
       (contents-named names scope locals n′ ss count (withFunction g w .uses) (H .rest z) f p q)
 
   -- with the mark set nothing changes, and the notes of a step on the function change no mark
-  marked-step : (f : FunctionState) → eqb (s .full) 0 ≡ false → Held κ E (machine s c k n b e) (withFunction f w)
+  marked-step : (f : FunctionState) → eqb (s .full) 0 ≡ false → RepresentsMachine κ E (machine s c k n b e) (withFunction f w)
   marked-step f q = held-full (withFunction f w) (_ ∷ _ ∷ _ ∷ []) refl (eqb-false (s .full) 0 q) H
 
   -- `enter_scope`
-  pub enter-law : {s′ : struct.FunctionState} → s′ ≡ enterScopeC s → Held κ E (machine s′ c k n b e) (doing enterScope w)
+  pub enter-law : {s′ : struct.FunctionState} → s′ ≡ enterScopeC s → RepresentsMachine κ E (machine s′ c k n b e) (doing enterScope w)
   enter-law same = rw same (go (eqb (s .full) 0) refl)
     where
-      go : (t : Bool) → eqb (s .full) 0 ≡ t → Held κ E (machine (cond t (withScope (s .names) (s .names) s) s) c k n b e) (doing enterScope w)
+      go : (t : Bool) → eqb (s .full) 0 ≡ t → RepresentsMachine κ E (machine (cond t (withScope (s .names) (s .names) s) s) c k n b e) (doing enterScope w)
       go false q = marked-step (enterScope (w .function)) q
       go true q =
           let z = eqb-true (s .full) 0 q in
@@ -123,11 +123,11 @@ module _ {κ : Limits} {E : Entries} {s : struct.FunctionState} {c k n b e : Lis
   one-more : s .full ≡ 0 → (s .«local_count» + 1) % 2 ^ 64 ≡ (w .function .header .localCount + 1) % 2 ^ 64
   one-more z = rw (H .rest z .locals) (mod-add-mod (w .function .header .localCount) (2 ^ 64) 1)
 
-  pub anonymous-law : {s′ : struct.FunctionState} → s′ ≡ defineAnonymousC s → Held κ E (machine s′ c k n b e) (doing defineAnonymousLocal w)
+  pub anonymous-law : {s′ : struct.FunctionState} → s′ ≡ defineAnonymousC s → RepresentsMachine κ E (machine s′ c k n b e) (doing defineAnonymousLocal w)
   anonymous-law same = rw same (go (eqb (s .full) 0) refl)
     where
       go : (t : Bool) → eqb (s .full) 0 ≡ t
-          → Held κ E (machine (cond t (withLocalCount ((s .«local_count» + 1) % 2 ^ 64) s) s) c k n b e) (doing defineAnonymousLocal w)
+          → RepresentsMachine κ E (machine (cond t (withLocalCount ((s .«local_count» + 1) % 2 ^ 64) s) s) c k n b e) (doing defineAnonymousLocal w)
       go false q = marked-step (defineAnonymousLocal (w .function)) q
       go true q =
           let z = eqb-true (s .full) 0 q in
@@ -147,7 +147,7 @@ module _ {κ : Limits} {E : Entries} {s : struct.FunctionState} {c k n b e : Lis
 
   -- `exit_scope`, where `start` is that of the scope around
   pub exit-law : {start : ℕ} {s′ : struct.FunctionState} {n′ : List ℕ} → naming s′ n′ ≡ exitScopeC start (naming s n)
-      → (s .full ≡ 0 → start ≡ total (tail (tail (w .function .scopes)))) → Held κ E (machine s′ c k n′ b e) (doing exitScope w)
+      → (s .full ≡ 0 → start ≡ total (tail (tail (w .function .scopes)))) → RepresentsMachine κ E (machine s′ c k n′ b e) (doing exitScope w)
   unfolding exitScopeC
   exit-law {start} {s′} {n′} q around = rw (ap (λ (m : Naming). m .state) q, ap (λ (m : Naming). m .names) q) (go (eqb (s .full) 0) refl)
     where
@@ -155,7 +155,7 @@ module _ {κ : Limits} {E : Entries} {s : struct.FunctionState} {c k n b e : Lis
       low = naming (withScope (min (s .«scope_base») (s .names)) start s) (givenUp 2 (s .«scope_base») (s .names) n)
 
       go : (t : Bool) → eqb (s .full) 0 ≡ t
-          → Held κ E (machine (cond t low (naming s n) .state) c k (cond t low (naming s n) .names) b e) (doing exitScope w)
+          → RepresentsMachine κ E (machine (cond t low (naming s n) .state) c k (cond t low (naming s n) .names) b e) (doing exitScope w)
       go false p = marked-step (exitScope (w .function)) p
       go true p =
           let z = eqb-true (s .full) 0 p in
@@ -163,7 +163,7 @@ module _ {κ : Limits} {E : Entries} {s : struct.FunctionState} {c k n b e : Lis
           (tail (w .function .scopes)) (w .function .header .localCount) (simp length-sets) (ended z) (around z) (H .rest z .locals)
 
   -- the function's end: no name is left, and the definition's state goes
-  pub end-law : {s′ : struct.FunctionState} {n′ : List ℕ} → naming s′ n′ ≡ endFunctionC (naming s n) → Held κ E (machine s′ c k n′ b e) (unnamed w)
+  pub end-law : {s′ : struct.FunctionState} {n′ : List ℕ} → naming s′ n′ ≡ endFunctionC (naming s n) → RepresentsMachine κ E (machine s′ c k n′ b e) (unnamed w)
   unfolding endFunctionC
   end-law {s′} {n′} q = rw (ap (λ (m : Naming). m .state) q, ap (λ (m : Naming). m .names) q) (go (eqb (s .full) 0) refl)
     where
@@ -171,7 +171,7 @@ module _ {κ : Limits} {E : Entries} {s : struct.FunctionState} {c k n b e : Lis
       none-left = naming (withScope 0 0 s) (givenUp 2 0 (s .names) n)
 
       go : (t : Bool) → eqb (s .full) 0 ≡ t
-          → Held κ E (machine (cond t none-left (naming s n) .state) c k (cond t none-left (naming s n) .names) b e) (unnamed w)
+          → RepresentsMachine κ E (machine (cond t none-left (naming s n) .state) c k (cond t none-left (naming s n) .names) b e) (unnamed w)
       go false p = held-full (unnamed w) [] refl (eqb-false (s .full) 0 p) H
       go true p =
           let z = eqb-true (s .full) 0 p in
@@ -198,7 +198,7 @@ module _ {κ : Limits} {E : Entries} {s : struct.FunctionState} {c k n b e : Lis
     grown = defineLocalBy none name (w .function) .state
 
     inserted : (room : Bool) → ltb (s .names) (entriesIn 2 (length n)) ≡ room
-        → Held κ E (machine (countedC (withNames (cond room (taken (s .full) (s .names + 1)) (taken scopeNamesArea (s .names))) s)) c k
+        → RepresentsMachine κ E (machine (countedC (withNames (cond room (taken (s .full) (s .names + 1)) (taken scopeNamesArea (s .names))) s)) c k
         (cond room (setEntry 2 (s .names) (name ∷ s .«local_count» ∷ []) n) n) b e) (withFunction grown w)
     inserted true h =
         let z = eqb-true (s .full) 0 q in
@@ -226,7 +226,7 @@ module _ {κ : Limits} {E : Entries} {s : struct.FunctionState} {c k n b e : Lis
           rest = λ y. absurd (omega arith);
         }
 
-    insert-law : Held κ E (machine (insertC name (naming s n) .state) c k (insertC name (naming s n) .names) b e) (withFunction grown w)
+    insert-law : RepresentsMachine κ E (machine (insertC name (naming s n) .state) c k (insertC name (naming s n) .names) b e) (withFunction grown w)
     insert-law = rw q (inserted (ltb (s .names) (entriesIn 2 (length n))) refl)
 
   module _ (name : ℕ) where
@@ -234,7 +234,7 @@ module _ {κ : Limits} {E : Entries} {s : struct.FunctionState} {c k n b e : Lis
     unchanged = record { found = none; memory = naming s n }
 
     define-go : isOpen (w .function .scopes) ≡ true → (t : Bool) → eqb (s .full) 0 ≡ t → (o p : Option ℕ) → (s .full ≡ 0 → o ≡ wrapped p)
-        → Held κ E (machine (cond t (defineBy o name (naming s n)) unchanged .memory .state) c k
+        → RepresentsMachine κ E (machine (cond t (defineBy o name (naming s n)) unchanged .memory .state) c k
         (cond t (defineBy o name (naming s n)) unchanged .memory .names) b e) (withFunction (defineLocalBy p name (w .function) .state) w)
     define-go op false q o p h = marked-step (defineLocalBy p name (w .function) .state) q
     define-go op true q none none h = insert-law name op q
@@ -259,7 +259,7 @@ module _ {κ : Limits} {E : Entries} {s : struct.FunctionState} {c k n b e : Lis
     define-in f (x ∷ ss) op = refl
 
   module _ {name : ℕ} {r : Defined} {n′ : List ℕ} (D : Defines name (naming s n) r n′) where
-    pub define-law : isOpen (w .function .scopes) ≡ true → Held κ E (machine (r .state) c k n′ b e) (withFunction (defineLocal name (w .function) .state) w)
+    pub define-law : isOpen (w .function .scopes) ≡ true → RepresentsMachine κ E (machine (r .state) c k n′ b e) (withFunction (defineLocal name (w .function) .state) w)
     unfolding defineC defineLocal
     define-law op =
         rw (ap (λ (m : Naming). m .state) (D .memory), ap (λ (m : Naming). m .names) (D .memory), define-in name (w .function) (w .function .scopes) op)

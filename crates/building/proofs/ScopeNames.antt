@@ -18,7 +18,7 @@ use Rattle.definition.specs.Within.{nil, _&_}
 use Rattle.definition_laws.proofs.Lists.{all-append}
 use Rattle.definition_laws.proofs.Cells.{Wide}
 use Rattle.building.specs.Found.{findNewest, wrapped}
-use Rattle.building.specs.Held.{Filled, nameEntry, oldestFirst, nameEntries, isOpen}
+use Rattle.building.specs.RepresentsMachine.{Filled, nameEntry, oldestFirst, nameEntries, isOpen}
 use Rattle.building.proofs.Filling.{filled-field, oldest-length, names-length}
 
 -- entries and their width

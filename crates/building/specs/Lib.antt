@@ -5,4 +5,4 @@ pub mod Emission
 pub mod Scopes
 pub mod Pool
 pub mod Context
-pub mod Held
+pub mod RepresentsMachine

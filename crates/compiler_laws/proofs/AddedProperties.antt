@@ -19,18 +19,18 @@ use Rattle.building.specs.declared.scopes.Found.the-variants.{At, Nothing}
 use Rattle.building.specs.declared.taking.Taken.{Taken}
 use Rattle.building.specs.Found.{foundOf, firstFrom}
 use Rattle.building.specs.Taking.{Took}
-use Rattle.building.specs.Held.{Filled}
+use Rattle.building.specs.RepresentsMachine.{Filled}
 use Rattle.building.proofs.ContextLaws.{took-law}
 use Rattle.compiler_laws.specs.declared.book.Book as struct
-use Rattle.compiler_laws.specs.BookAreas.{Shelf, shelf, Stock, Keeping}
+use Rattle.compiler_laws.specs.BookAreas.{BookAreas, bookAreas, BookContents, RepresentsAreas}
 use Rattle.compiler_laws.specs.BookSteps.{ErrorsDo}
 use Rattle.compiler_laws.specs.IncludeSteps.{isPair, findPairC}
 use Rattle.compiler_laws.specs.ModelSteps.{AddsProperty}
 use Rattle.compiler_laws.proofs.BookCounts.{withPropertyCount}
-use Rattle.compiler_laws.proofs.UnchangedByModels.{calm-property}
+use Rattle.compiler_laws.proofs.UnchangedByModels.{unchanged-property}
 use Rattle.compiler_laws.proofs.BookStepsInOrder.{keeping-longer}
 use Rattle.compiler_laws.proofs.MapEntries.{found-at, found-none, rowsFrom, rows-count, rows-more, row-word}
-use Rattle.compiler_laws.proofs.AreaEntries.{keeping-grown, stock-properties, fitted-properties}
+use Rattle.compiler_laws.proofs.AreaEntries.{keeping-grown, contents-properties, fitted-properties}
 
 abbrev propertyWords : ℕ → ℕ → List ℕ
 propertyWords i n = i ∷ n ∷ []
@@ -94,7 +94,7 @@ more-in i name front ps =
     ∙ sym (rows-more (propertyWords i) 0 ps name) ∙ sym (property-rows i 0 (ps ++ (name ∷ []))))
 
 -- the count of models is the next model's number
-pub models-count : {ps : List ℕ} {m : Shelf} {w : Book} → Stock ps m w → m .book .models ≡ modelCount (w .context)
+pub models-count : {ps : List ℕ} {m : BookAreas} {w : Book} → BookContents ps m w → m .book .models ≡ modelCount (w .context)
 models-count {w = w} S =
     let stood = w .context .prior .models in
     S .models .count ∙ length-append stood _
@@ -102,7 +102,7 @@ models-count {w = w} S =
 
 -- whether the search finds the name
 there-by : {first : ℕ} {s : struct.Book} {p e : List ℕ} (name : ℕ) → s .full ≡ 0 → (c k f m t l u n b : List ℕ) (κ : Limits) (ps : List ℕ) (w : Book)
-    → first ≡ propertyCount (w .context) → Keeping κ ps (shelf s c k f m p t l u n b e) w
+    → first ≡ propertyCount (w .context) → RepresentsAreas κ ps (bookAreas s c k f m p t l u n b e) w
     → hasText name ps ≡ isThere (findPairC 2 first (s .properties) (s .models) name p)
 there-by {s = s} name z c k f m t l u n b κ ps w start H =
     let S = H .rest z in
@@ -112,7 +112,7 @@ there-by {s = s} name z c k f m t l u n b κ ps w start H =
 -- `add_property`
 module _ {tree : List ℕ} {at first : ℕ} {s : struct.Book} {p e : List ℕ} where
   pub property-full : (s .full ≡ 0 → ⊥) → AddsProperty tree at first s p e s p e
-  property-full ne = record { meets = λ c k f m t l u n b κ ps w start H. keeping-longer (calm-property (tokenAt tree at) ps w .uses) ne H }
+  property-full ne = record { meets = λ c k f m t l u n b κ ps w start H. keeping-longer (unchanged-property (tokenAt tree at) ps w .uses) ne H }
 
   pub property-there : s .full ≡ 0 → {g : Found} {i name : ℕ} → name ≡ valueAt tree at
       → g ≡ foundOf (findPairC 2 first (s .properties) (s .models) name p) → g ≡ At i → {s′ : struct.Book} {e′ : List ℕ}
@@ -139,8 +139,8 @@ module _ {tree : List ℕ} {at first : ℕ} {s : struct.Book} {p e : List ℕ} w
   }
     where
       go : (c k f m t l u n b : List ℕ) (κ : Limits) (ps : List ℕ) (w : Book) → first ≡ propertyCount (w .context)
-          → Keeping κ ps (shelf s c k f m p t l u n b e) w → Stock ps (shelf s c k f m p t l u n b e) w
-          → Keeping κ (ps ++ (valueAt tree at ∷ [])) (shelf (withPropertyCount r s) c k f m p′ t l u n b e)
+          → RepresentsAreas κ ps (bookAreas s c k f m p t l u n b e) w → BookContents ps (bookAreas s c k f m p t l u n b e) w
+          → RepresentsAreas κ (ps ++ (valueAt tree at ∷ [])) (bookAreas (withPropertyCount r s) c k f m p′ t l u n b e)
           (noted propertiesArea (propertyCount (w .context) + length ps + 1) w)
       go c k f m t l u n b κ ps w start H S =
           let index = modelCount (w .context) in
@@ -151,4 +151,4 @@ module _ {tree : List ℕ} {at first : ℕ} {s : struct.Book} {p e : List ℕ} w
           rw (models, value) (more-in index (valueAt tree at) front ps) in
           keeping-grown H z propertiesArea (propertyCount (w .context) + length ps + 1) _ refl
           (took-law T z (S .properties)) (omega arith) refl (H .fitted .properties) (omega (arith, before-length (w .context))) refl
-          (λ e. fitted-properties e (H .fitted)) (λ f q. rw q (stock-properties S (rw (← entries) f)))
+          (λ e. fitted-properties e (H .fitted)) (λ f q. rw q (contents-properties S (rw (← entries) f)))

@@ -11,7 +11,7 @@ use Rattle.definition.specs.Book.{Context}
 use Rattle.definition.specs.Program.{Entries, flat, filled, tablesOf, globalDependencies}
 use Rattle.definition.specs.Program.{propertyTable, publicTable, bookTable}
 use Rattle.definition.specs.Answer.{Delivery, replyOf, areasOf}
-use Rattle.building.specs.Held.{Filled}
+use Rattle.building.specs.RepresentsMachine.{Filled}
 use Rattle.compiler_laws.specs.declared.book.Book as struct
 use Rattle.compiler_laws.specs.OpenedBooks.{Resting}
 use Rattle.definition.specs.Promise.{areas, lengthsOf, saying}
@@ -26,7 +26,7 @@ filled-is {l = l} {es = es} f =
     f .is ∙ rw left
 
 module _ {κ : Limits} {s : struct.Book} {c k f m p t l u n b e o : List ℕ} {context : Context} {uses : List Use} {books globals : ℕ}
-    (R : Resting κ s c k f m p t l u n b e context uses) (z : s .full ≡ 0) (shelved : o ≡ filled (length o) (bookTable context))
+    (R : Resting κ s c k f m p t l u n b e context uses) (z : s .full ≡ 0) (books-named : o ≡ filled (length o) (bookTable context))
     (many : books ≡ length (bookTable context))
     (marked : globals ≡ globalDependencies (context .pool .globals) 0 (context .pool .constants)) where
   properties-are : Filled 2 p (propertyTable context) (s .properties)
@@ -51,7 +51,7 @@ module _ {κ : Limits} {s : struct.Book} {c k f m p t l u n b e o : List ℕ} {c
         ← filled-is (S .names),
         ← filled-is (S .breaks),
         ← filled-is (S .errors),
-        ← shelved,
+        ← books-named,
       )
 
   pub delivered-reply : saying (delivery (totals s books globals)) ≡ replyOf (Delivery context)

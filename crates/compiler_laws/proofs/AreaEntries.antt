@@ -11,17 +11,17 @@ use Rattle.definition.specs.Book.{Model, Method, Book, noted, modelCount, withM
 use Rattle.definition.specs.Program.{Entries, entriesFrom, propertyEntries, methodEntry, publicEntries, modelTable, propertyTable, publicTable}
 use Rattle.building.specs.declared.taking.Taken.{Taken}
 use Rattle.building.specs.Taking.{taken}
-use Rattle.building.specs.Held.{Filled, Sized}
+use Rattle.building.specs.RepresentsMachine.{Filled, Sized}
 use Rattle.building.proofs.Filling.{over-fits, over-here}
 use Rattle.building.proofs.ContextLaws.{Grown, grown, over}
 use Rattle.compiler_laws.specs.declared.book.Book as struct
-use Rattle.compiler_laws.specs.BookAreas.{Shelf, shelf, Stock, Fitted, Keeping}
+use Rattle.compiler_laws.specs.BookAreas.{BookAreas, bookAreas, BookContents, Fitted, RepresentsAreas}
 use Rattle.compiler_laws.proofs.BookCounts.{withModelCount, withPropertyCount, withMethodCount, withPublicCount}
 
-module _ {κ : Limits} {ps : List ℕ} {m : Shelf} {b : Book} (H : Keeping κ ps m b) (z : m .book .full ≡ 0) {ps′ : List ℕ} {m′ : Shelf} (area count : ℕ)
+module _ {κ : Limits} {ps : List ℕ} {m : BookAreas} {b : Book} (H : RepresentsAreas κ ps m b) (z : m .book .full ≡ 0) {ps′ : List ℕ} {m′ : BookAreas} (area count : ℕ)
     (b′ : Book) (same : b′ .uses ≡ b .uses) where
   -- the note fits
-  pub keeping-fits : Fitted κ m′ → m′ .book .full ≡ 0 → count ≤ limitOf κ area → Stock ps′ m′ (noted area count b′) → Keeping κ ps′ m′ (noted area count b′)
+  pub keeping-fits : Fitted κ m′ → m′ .book .full ≡ 0 → count ≤ limitOf κ area → BookContents ps′ m′ (noted area count b′) → RepresentsAreas κ ps′ m′ (noted area count b′)
   keeping-fits F z′ h S = record {
     fitted = F;
     full = rw (same, z′) (over-fits κ (using′ area count) (b .uses) (rw z at (H .full)) refl h);
@@ -29,7 +29,7 @@ module _ {κ : Limits} {ps : List ℕ} {m : Shelf} {b : Book} (H : Keeping κ ps
   }
 
   -- it does not
-  pub keeping-over : Fitted κ m′ → m′ .book .full ≡ area → 0 < area → limitOf κ area < count → Keeping κ ps′ m′ (noted area count b′)
+  pub keeping-over : Fitted κ m′ → m′ .book .full ≡ area → 0 < area → limitOf κ area < count → RepresentsAreas κ ps′ m′ (noted area count b′)
   keeping-over F mark pos h = record {
     fitted = F;
     full = rw (same, mark) (over-here κ (using′ area count) (b .uses) (H .full) z h pos);
@@ -39,8 +39,8 @@ module _ {κ : Limits} {ps : List ℕ} {m : Shelf} {b : Book} (H : Keeping κ ps
   -- an entry more
   pub keeping-grown : {entry l : List ℕ} {es : Entries} {n : ℕ} {t : Taken} {l′ : List ℕ} → Grown area n entry l es t l′ → 0 < area
       → widthOf area ≡ length entry → Sized κ area l → count ≡ n + 1 → m′ .book .full ≡ t .full → (length l′ ≡ length l → Fitted κ m′)
-      → (Filled (length entry) l′ (es ++ (entry ∷ [])) (n + 1) → t ≡ taken 0 (n + 1) → Stock ps′ m′ (noted area count b′))
-      → Keeping κ ps′ m′ (noted area count b′)
+      → (Filled (length entry) l′ (es ++ (entry ∷ [])) (n + 1) → t ≡ taken 0 (n + 1) → BookContents ps′ m′ (noted area count b′))
+      → RepresentsAreas κ ps′ m′ (noted area count b′)
   keeping-grown {l = l} (grown {l′ = l′} h f e) pos wide cap c mark F S =
       let room : entriesIn (widthOf area) (length l) ≡ limitOf κ area = cap in
       keeping-fits (F e) mark (omega (arith, rw wide at room)) (S f refl)
@@ -49,12 +49,12 @@ module _ {κ : Limits} {ps : List ℕ} {m : Shelf} {b : Book} (H : Keeping κ ps
       keeping-over (F refl) mark pos (omega (arith, rw wide at room))
 
 -- area 6
-pub stock-methods : {ps : List ℕ} {m : Shelf} {b : Book} {l : List Method} {us : List Use} {t′ : List ℕ} {full n : ℕ} → Stock ps m b
+pub contents-methods : {ps : List ℕ} {m : BookAreas} {b : Book} {l : List Method} {us : List Use} {t′ : List ℕ} {full n : ℕ} → BookContents ps m b
     → Filled 3 t′ (entriesFrom methodEntry 0 l) n
-    → Stock ps (shelf (withMethodCount (taken full n) (m .book)) (m .code) (m .constants) (m .functions) (m .models) (m .properties) t′ (m .locals)
+    → BookContents ps (bookAreas (withMethodCount (taken full n) (m .book)) (m .code) (m .constants) (m .functions) (m .models) (m .properties) t′ (m .locals)
     (m .publics) (m .names) (m .breaks) (m .errors))
     (record { compiler = b .compiler; assembly = b .assembly; context = withMethods l (b .context); uses = us })
-stock-methods S f = record {
+contents-methods S f = record {
   code = S .code;
   sized = S .sized;
   constants = S .constants;
@@ -81,8 +81,8 @@ stock-methods S f = record {
   errors = S .errors;
 }
 
-pub fitted-methods : {κ : Limits} {m : Shelf} {t′ : List ℕ} {s : struct.Book} → length t′ ≡ length (m .methods) → Fitted κ m
-    → Fitted κ (shelf s (m .code) (m .constants) (m .functions) (m .models) (m .properties) t′ (m .locals) (m .publics) (m .names) (m .breaks) (m .errors))
+pub fitted-methods : {κ : Limits} {m : BookAreas} {t′ : List ℕ} {s : struct.Book} → length t′ ≡ length (m .methods) → Fitted κ m
+    → Fitted κ (bookAreas s (m .code) (m .constants) (m .functions) (m .models) (m .properties) t′ (m .locals) (m .publics) (m .names) (m .breaks) (m .errors))
 fitted-methods e F = record {
   code = F .code;
   constants = F .constants;
@@ -99,9 +99,9 @@ fitted-methods e F = record {
 }
 
 -- area 8
-pub stock-publics : {ps : List ℕ} {m : Shelf} {b : Book} {l : List Entry} {us : List Use} {u′ : List ℕ} {full n : ℕ} → Stock ps m b
+pub contents-publics : {ps : List ℕ} {m : BookAreas} {b : Book} {l : List Entry} {us : List Use} {u′ : List ℕ} {full n : ℕ} → BookContents ps m b
     → Filled 3 u′ (publicTable (b .context) ++ publicEntries (b .assembly .index) l) n
-    → Stock ps (shelf (withPublicCount (taken full n) (m .book)) (m .code) (m .constants) (m .functions) (m .models) (m .properties) (m .methods)
+    → BookContents ps (bookAreas (withPublicCount (taken full n) (m .book)) (m .code) (m .constants) (m .functions) (m .models) (m .properties) (m .methods)
     (m .locals) u′ (m .names) (m .breaks) (m .errors))
     (record {
       compiler = b .compiler;
@@ -109,7 +109,7 @@ pub stock-publics : {ps : List ℕ} {m : Shelf} {b : Book} {l : List Entry} {us 
       context = b .context;
       uses = us;
     })
-stock-publics S f = record {
+contents-publics S f = record {
   code = S .code;
   sized = S .sized;
   constants = S .constants;
@@ -136,8 +136,8 @@ stock-publics S f = record {
   errors = S .errors;
 }
 
-pub fitted-publics : {κ : Limits} {m : Shelf} {u′ : List ℕ} {s : struct.Book} → length u′ ≡ length (m .publics) → Fitted κ m
-    → Fitted κ (shelf s (m .code) (m .constants) (m .functions) (m .models) (m .properties) (m .methods) (m .locals) u′ (m .names) (m .breaks) (m .errors))
+pub fitted-publics : {κ : Limits} {m : BookAreas} {u′ : List ℕ} {s : struct.Book} → length u′ ≡ length (m .publics) → Fitted κ m
+    → Fitted κ (bookAreas s (m .code) (m .constants) (m .functions) (m .models) (m .properties) (m .methods) (m .locals) u′ (m .names) (m .breaks) (m .errors))
 fitted-publics e F = record {
   code = F .code;
   constants = F .constants;
@@ -154,12 +154,12 @@ fitted-publics e F = record {
 }
 
 -- area 5: a property more of the model that is not there yet
-pub stock-properties : {ps ps′ : List ℕ} {m : Shelf} {b : Book} {us : List Use} {p′ : List ℕ} {full n : ℕ} → Stock ps m b
+pub contents-properties : {ps ps′ : List ℕ} {m : BookAreas} {b : Book} {us : List Use} {p′ : List ℕ} {full n : ℕ} → BookContents ps m b
     → Filled 2 p′ (propertyTable (b .context) ++ propertyEntries (modelCount (b .context)) ps′) n
-    → Stock ps′ (shelf (withPropertyCount (taken full n) (m .book)) (m .code) (m .constants) (m .functions) (m .models) p′ (m .methods)
+    → BookContents ps′ (bookAreas (withPropertyCount (taken full n) (m .book)) (m .code) (m .constants) (m .functions) (m .models) p′ (m .methods)
     (m .locals) (m .publics) (m .names) (m .breaks) (m .errors))
     (record { compiler = b .compiler; assembly = b .assembly; context = b .context; uses = us })
-stock-properties S f = record {
+contents-properties S f = record {
   code = S .code;
   sized = S .sized;
   constants = S .constants;
@@ -186,8 +186,8 @@ stock-properties S f = record {
   errors = S .errors;
 }
 
-pub fitted-properties : {κ : Limits} {m : Shelf} {p′ : List ℕ} {s : struct.Book} → length p′ ≡ length (m .properties) → Fitted κ m
-    → Fitted κ (shelf s (m .code) (m .constants) (m .functions) (m .models) p′ (m .methods) (m .locals) (m .publics) (m .names) (m .breaks) (m .errors))
+pub fitted-properties : {κ : Limits} {m : BookAreas} {p′ : List ℕ} {s : struct.Book} → length p′ ≡ length (m .properties) → Fitted κ m
+    → Fitted κ (bookAreas s (m .code) (m .constants) (m .functions) (m .models) p′ (m .methods) (m .locals) (m .publics) (m .names) (m .breaks) (m .errors))
 fitted-properties e F = record {
   code = F .code;
   constants = F .constants;
@@ -204,14 +204,14 @@ fitted-properties e F = record {
 }
 
 -- area 4: a model with the properties that were taken for it
-pub stock-models : {ps : List ℕ} {m : Shelf} {b : Book} {l : List Model} {us : List Use} {m′ : List ℕ} {full n : ℕ} → Stock ps m b
+pub contents-models : {ps : List ℕ} {m : BookAreas} {b : Book} {l : List Model} {us : List Use} {m′ : List ℕ} {full n : ℕ} → BookContents ps m b
     → Filled 2 m′ (modelTable (withModels l (b .context))) n
     → propertyTable (b .context) ++ propertyEntries (modelCount (b .context)) ps
     ≡ propertyTable (withModels l (b .context)) ++ propertyEntries (modelCount (withModels l (b .context))) []
-    → Stock [] (shelf (withModelCount (taken full n) (m .book)) (m .code) (m .constants) (m .functions) m′ (m .properties) (m .methods)
+    → BookContents [] (bookAreas (withModelCount (taken full n) (m .book)) (m .code) (m .constants) (m .functions) m′ (m .properties) (m .methods)
     (m .locals) (m .publics) (m .names) (m .breaks) (m .errors))
     (record { compiler = b .compiler; assembly = b .assembly; context = withModels l (b .context); uses = us })
-stock-models S f e = record {
+contents-models S f e = record {
   code = S .code;
   sized = S .sized;
   constants = S .constants;
@@ -238,8 +238,8 @@ stock-models S f e = record {
   errors = S .errors;
 }
 
-pub fitted-models : {κ : Limits} {m : Shelf} {m′ : List ℕ} {s : struct.Book} → length m′ ≡ length (m .models) → Fitted κ m
-    → Fitted κ (shelf s (m .code) (m .constants) (m .functions) m′ (m .properties) (m .methods) (m .locals) (m .publics) (m .names) (m .breaks) (m .errors))
+pub fitted-models : {κ : Limits} {m : BookAreas} {m′ : List ℕ} {s : struct.Book} → length m′ ≡ length (m .models) → Fitted κ m
+    → Fitted κ (bookAreas s (m .code) (m .constants) (m .functions) m′ (m .properties) (m .methods) (m .locals) (m .publics) (m .names) (m .breaks) (m .errors))
 fitted-models e F = record {
   code = F .code;
   constants = F .constants;

@@ -1,4 +1,4 @@
--- One lemma for each way through a routine of the document level that compiles no part: what its calls ensure is the definition's deed. By the laws of
+-- One lemma for each way through a routine of the document level that compiles no part: what its calls ensure is the definition's step. By the laws of
 -- the routines it calls. Assumes nothing.
 use Prim.Native.Nat.{ℕ, _+_, _*_}
 use native.Mathlib.Omega.{arith}
@@ -19,7 +19,7 @@ use Rattle.definition.specs.Program.{Entries, localWords, localEntry, entriesFr
 use Rattle.definition_laws.proofs.Lists.{cond-case}
 use Rattle.definition_laws.proofs.Cells.{single-length}
 use Rattle.definition_laws.proofs.Program.{added-case}
-use Rattle.definition_laws.proofs.Steady.{same, more, steady-constant}
+use Rattle.definition_laws.proofs.StepPreserves.{same, more, preserves-constant}
 use Rattle.building.specs.declared.function_state.FunctionState.{FunctionState}
 use Rattle.building.specs.declared.scopes.Found.{Found}
 use Rattle.building.specs.declared.scopes.Found.the-variants.{At, Nothing}
@@ -29,16 +29,16 @@ use Rattle.building.specs.Taking.{taken}
 use Rattle.building.specs.Found.{foundOf}
 use Rattle.building.specs.Pool.{pooling, addConstantC}
 use Rattle.building.specs.Context.{localing, defineContextC, setValueC}
-use Rattle.building.specs.Held.{Filled, LocalsHeld, machine, Held}
+use Rattle.building.specs.RepresentsMachine.{Filled, LocalsHeld, machine, RepresentsMachine}
 use Rattle.building.proofs.Filling.{over-fits, over-here}
 use Rattle.building.proofs.PoolLaws.{add-constant-law, add-constant-index}
 use Rattle.building.proofs.ContextLaws.{Grown, grown, over, Defines, there, new, withLocal, define-context-law, set-value-law, set-value-locals}
 use Rattle.compiler_laws.specs.declared.book.Book as struct
 use Rattle.compiler_laws.specs.InsideFunction.{OnErrors}
-use Rattle.compiler_laws.specs.BookAreas.{Shelf, shelf, Stock, Fitted, Keeping}
+use Rattle.compiler_laws.specs.BookAreas.{BookAreas, bookAreas, BookContents, Fitted, RepresentsAreas}
 use Rattle.compiler_laws.specs.BookSteps.{resumedBook, ErrorsDo, ConstantsPlace, LocalsSeek, AddedLocal, LocalsValue}
 use Rattle.compiler_laws.proofs.BookCounts.{withLocals}
-use Rattle.compiler_laws.proofs.UnchangedByBooks.{calm-local, calm-value}
+use Rattle.compiler_laws.proofs.UnchangedByBooks.{unchanged-local, unchanged-value}
 use Rattle.compiler_laws.proofs.BookStepsInOrder.{keeping-longer}
 use Rattle.compiler_laws.proofs.FunctionStates.{codeSoFar, held-working, keeping-held}
 use Rattle.compiler_laws.proofs.LocalEntries.{locals-entries, valued-longer, insert-all, table-set}
@@ -47,8 +47,8 @@ use Rattle.compiler_laws.proofs.LocalEntries.{locals-entries, valued-lo
 module _ {s s′ : struct.Book} {before r : FunctionState} {e e′ : List ℕ} (number : ℕ) (token : Token)
     (worked : before ≡ begun (s .full) (s .code) (s .constants) (s .errors)) (acts : OnErrors before e r e′ (pushError number token))
     (back : s′ ≡ resumedBook s r) where
-  pub fault-deeds : ErrorsDo s e s′ e′ (pushBookError number token)
-  fault-deeds = record {
+  pub fault-simulates : ErrorsDo s e s′ e′ (pushBookError number token)
+  fault-simulates = record {
     deeds = λ c k f m p t l u n b. record {
       meets = λ κ ps x H.
           rw back (keeping-held H {w = pushError number token (working x)} (more same) refl refl refl
@@ -65,11 +65,11 @@ module _ {s s′ : struct.Book} {before r : FunctionState} {k k′ : List ℕ} {
     places = λ c f m p t l u n b e. record {
       meets = λ κ ps x H.
           let a = addConstant (constantOf kind value) (working x) in
-          rw back (keeping-held H {w = a .work} (steady-constant (constantOf kind value) (working x) .uses) (new-function (constantOf kind value) x)
-          (steady-constant (constantOf kind value) (working x) .locals) (same-count (constantOf kind value) x)
+          rw back (keeping-held H {w = a .work} (preserves-constant (constantOf kind value) (working x) .uses) (new-function (constantOf kind value) x)
+          (preserves-constant (constantOf kind value) (working x) .locals) (same-count (constantOf kind value) x)
           (add-constant-law kind value added (rw worked (held-working H))));
       placed = λ κ ps x H z.
-          let A : Held κ (codeSoFar x) (machine before c k n b e) (working x) = rw worked (held-working H) in
+          let A : RepresentsMachine κ (codeSoFar x) (machine before c k n b e) (working x) = rw worked (held-working H) in
           add-constant-index kind value added A (rw back at z);
     };
   }
@@ -82,7 +82,7 @@ module _ {s s′ : struct.Book} {before r : FunctionState} {k k′ : List ℕ} {
 
 -- `define_local`
 
-pub names-count : {ps : List ℕ} {m : Shelf} {x : Book} → Stock ps m x → m .book .locals ≡ length (x .context .prior .locals) + length
+pub names-count : {ps : List ℕ} {m : BookAreas} {x : Book} → BookContents ps m x → m .book .locals ≡ length (x .context .prior .locals) + length
     (x .context .locals .names)
 names-count {x = x} S =
     let stood = x .context .prior .locals in
@@ -91,11 +91,11 @@ names-count {x = x} S =
 
 module _ {s : struct.Book} {c k f m p t l u n b e : List ℕ} {x : Book} where
   -- area 7 anew leaves all else
-  stock-locals : {ps : List ℕ} (name : ℕ) {l′ : List ℕ} → Stock ps (shelf s c k f m p t l u n b e) x
+  contents-locals : {ps : List ℕ} (name : ℕ) {l′ : List ℕ} → BookContents ps (bookAreas s c k f m p t l u n b e) x
       → Filled 4 l′ (localTable (x .context) ++ ((s .file ∷ name ∷ 0 ∷ 0 ∷ []) ∷ [])) (s .locals + 1)
       → LocalsHeld (s .«first_local») (s .locals + 1) l′ (withLocal name (s .locals) (x .compiler))
-      → Stock ps (shelf (withLocals (taken 0 (s .locals + 1)) s) c k f m p t l′ u n b e) (defineContextLocalBy none name x .book)
-  stock-locals name S filled held =
+      → BookContents ps (bookAreas (withLocals (taken 0 (s .locals + 1)) s) c k f m p t l′ u n b e) (defineContextLocalBy none name x .book)
+  contents-locals name S filled held =
       let many : s .locals ≡ x .context .pool .localCount = names-count S ∙ sym (S .counted) in
       let entry : Entry = record { name = name; index = x .assembly .index } in
       let stood = x .context .prior .locals in
@@ -131,8 +131,8 @@ module _ {s : struct.Book} {c k f m p t l u n b e : List ℕ} {x : Book} where
         errors = S .errors;
       }
 
-pub fitted-locals : {κ : Limits} {s s′ : struct.Book} {c k f m p t l l′ u n b e : List ℕ} → length l′ ≡ length l → Fitted κ (shelf s c k f m p t l u n b e)
-    → Fitted κ (shelf s′ c k f m p t l′ u n b e)
+pub fitted-locals : {κ : Limits} {s s′ : struct.Book} {c k f m p t l l′ u n b e : List ℕ} → length l′ ≡ length l → Fitted κ (bookAreas s c k f m p t l u n b e)
+    → Fitted κ (bookAreas s′ c k f m p t l′ u n b e)
 fitted-locals long F = record {
   code = F .code;
   constants = F .constants;
@@ -149,7 +149,7 @@ fitted-locals long F = record {
 }
 
 module _ {κ : Limits} {ps : List ℕ} {s : struct.Book} {c k f m p t l u n b e : List ℕ} {x : Book} (z : s .full ≡ 0)
-    (H : Keeping κ ps (shelf s c k f m p t l u n b e) x) where
+    (H : RepresentsAreas κ ps (bookAreas s c k f m p t l u n b e) x) where
   abbrev localEntries : Entries
   localEntries = localTable (x .context)
 
@@ -158,11 +158,11 @@ module _ {κ : Limits} {ps : List ℕ} {s : struct.Book} {c k f m p t l u n b e 
 
   define-new : (name : ℕ) {T : Taken} {l′ : List ℕ} → Grown contextLocalsArea (s .locals) (s .file ∷ name ∷ 0 ∷ 0 ∷ []) l localEntries T l′
       → (T .full ≡ 0 → LocalsHeld (s .«first_local») (s .locals + 1) l′ (withLocal name (s .locals) (x .compiler)))
-      → Keeping κ ps (shelf (withLocals T s) c k f m p t l′ u n b e) (defineContextLocalBy none name x .book)
+      → RepresentsAreas κ ps (bookAreas (withLocals T s) c k f m p t l′ u n b e) (defineContextLocalBy none name x .book)
   define-new name (grown room filled long) held = record {
     fitted = fitted-locals long (H .fitted);
     full = over-fits κ _ _ (rw z at (H .full)) refl (omega (arith, room, H .fitted .locals, locals-many));
-    rest = λ _. stock-locals name (H .rest z) filled (held refl);
+    rest = λ _. contents-locals name (H .rest z) filled (held refl);
   }
   define-new name (over none-left) held = record {
     fitted = fitted-locals refl (H .fitted);
@@ -172,9 +172,9 @@ module _ {κ : Limits} {ps : List ℕ} {s : struct.Book} {c k f m p t l u n b e 
 
   define-now : (name : ℕ) {g : Found} {T : Taken} {l′ : List ℕ}
       → Defines (s .«first_local») (s .locals) (s .file) name l localEntries (x .compiler) g T l′
-      → Keeping κ ps (shelf (withLocals T s) c k f m p t l′ u n b e) (defineContextLocal name x .book)
+      → RepresentsAreas κ ps (bookAreas (withLocals T s) c k f m p t l′ u n b e) (defineContextLocal name x .book)
   unfolding defineContextLocal
-  define-now name (there e₁) = rw e₁ (subst (λ (v : ℕ). Keeping κ ps (shelf (withLocals (taken v (s .locals)) s) c k f m p t l u n b e) x) z H)
+  define-now name (there e₁) = rw e₁ (subst (λ (v : ℕ). RepresentsAreas κ ps (bookAreas (withLocals (taken v (s .locals)) s) c k f m p t l u n b e) x) z H)
   define-now name (new e₁ G held) = rw e₁ (define-new name G held)
 
   define-found : (name : ℕ) {g : Found} {T : Taken} {l′ : List ℕ}
@@ -187,7 +187,7 @@ module _ {s : struct.Book} {l : List ℕ} (name : ℕ) where
   pub define-full : (s .full ≡ 0 → ⊥) → {g : Found} → LocalsSeek s l s l g (defineContextLocal name)
   define-full ne = record {
     seeks = λ c k f m p t u n b e. record {
-      meets = λ κ ps x H. keeping-longer (calm-local name x .uses) ne H;
+      meets = λ κ ps x H. keeping-longer (unchanged-local name x .uses) ne H;
       sought = λ κ ps x H z. absurd (ne z);
     };
   }
@@ -202,7 +202,7 @@ module _ {s : struct.Book} {l : List ℕ} (name : ℕ) where
     };
   }
     where
-      defines : (κ : Limits) (ps c k f m p t u n b e : List ℕ) (x : Book) (H : Keeping κ ps (shelf s c k f m p t l u n b e) x)
+      defines : (κ : Limits) (ps c k f m p t u n b e : List ℕ) (x : Book) (H : RepresentsAreas κ ps (bookAreas s c k f m p t l u n b e) x)
           → Defines (s .«first_local») (s .locals) (s .file) name l (localTable (x .context)) (x .compiler) g T l′
       defines κ ps c k f m p t u n b e x H = define-context-law (s .file) name d z (H .rest z .locals) (H .rest z .named)
 
@@ -231,8 +231,8 @@ value-length full count i constant l = go (eqb full 0) (ltb i count)
     go true true = word 3 constant (writeWord 4 i 2 1 l) ∙ word 2 1 l
 
 value-keeping : {κ : Limits} {ps : List ℕ} {s : struct.Book} {c k f m p t l u n b e : List ℕ} {x : Book} → s .full ≡ 0 → (i constant : ℕ) {l′ : List ℕ}
-    → l′ ≡ setValueC (s .full) (s .locals) i constant l → AddedLocal (some i) (x .context) → Keeping κ ps (shelf s c k f m p t l u n b e) x
-    → Keeping κ ps (shelf s c k f m p t l′ u n b e) (setLocalValue (some i) constant x)
+    → l′ ≡ setValueC (s .full) (s .locals) i constant l → AddedLocal (some i) (x .context) → RepresentsAreas κ ps (bookAreas s c k f m p t l u n b e) x
+    → RepresentsAreas κ ps (bookAreas s c k f m p t l′ u n b e) (setLocalValue (some i) constant x)
 value-keeping {s = s} {l = l} {x = x} z i constant {l′} d h H =
     let S = H .rest z in
     let filled = set-value-law i constant d z (omega (arith, names-count S, h .1)) (S .locals) in
@@ -273,15 +273,15 @@ value-keeping {s = s} {l = l} {x = x} z i constant {l′} d h H =
 -- `set_value`
 module _ {s : struct.Book} {l : List ℕ} {found : Found} {constant : ℕ} where
   pub value-full : (s .full ≡ 0 → ⊥) → LocalsValue s l l found constant
-  value-full ne = record { values = λ c k f m p t u n b e κ ps x o v A H. keeping-longer (calm-value o v x .uses) ne H }
+  value-full ne = record { values = λ c k f m p t u n b e κ ps x o v A H. keeping-longer (unchanged-value o v x .uses) ne H }
 
   pub value-nothing : s .full ≡ 0 → found ≡ Nothing → LocalsValue s l l found constant
   value-nothing z lost = record {
     values = λ c k f m p t u n b e κ ps x o v A H. go c k f m p t u n b e κ ps x o v H (sym lost ∙ A .agrees z .0);
   }
     where
-      go : (c k f m p t u n b e : List ℕ) (κ : Limits) (ps : List ℕ) (x : Book) (o : Option ℕ) (v : ℕ) → Keeping κ ps (shelf s c k f m p t l u n b e) x
-          → Nothing ≡ foundOf o → Keeping κ ps (shelf s c k f m p t l u n b e) (setLocalValue o v x)
+      go : (c k f m p t u n b e : List ℕ) (κ : Limits) (ps : List ℕ) (x : Book) (o : Option ℕ) (v : ℕ) → RepresentsAreas κ ps (bookAreas s c k f m p t l u n b e) x
+          → Nothing ≡ foundOf o → RepresentsAreas κ ps (bookAreas s c k f m p t l u n b e) (setLocalValue o v x)
       go c k f m p t u n b e κ ps x none v H q = H
       go c k f m p t u n b e κ ps x (some i) v H q = absurd (let y : _≡_ {A = ℕ} 0 1 = cc in omega arith)
 
@@ -292,8 +292,8 @@ module _ {s : struct.Book} {l : List ℕ} {found : Found} {constant : ℕ} where
         rw (← r) (go c k f m p t u n b e κ ps x o H (sym at ∙ q) h);
   }
     where
-      go : (c k f m p t u n b e : List ℕ) (κ : Limits) (ps : List ℕ) (x : Book) (o : Option ℕ) → Keeping κ ps (shelf s c k f m p t l u n b e) x
-          → At i ≡ foundOf o → AddedLocal o (x .context) → Keeping κ ps (shelf s c k f m p t l′ u n b e) (setLocalValue o constant x)
+      go : (c k f m p t u n b e : List ℕ) (κ : Limits) (ps : List ℕ) (x : Book) (o : Option ℕ) → RepresentsAreas κ ps (bookAreas s c k f m p t l u n b e) x
+          → At i ≡ foundOf o → AddedLocal o (x .context) → RepresentsAreas κ ps (bookAreas s c k f m p t l′ u n b e) (setLocalValue o constant x)
       go c k f m p t u n b e κ ps x none H q h = absurd (let y : _≡_ {A = ℕ} 0 1 = cc in omega arith)
       go c k f m p t u n b e κ ps x (some j) H q h =
           let is : i ≡ j = cc in

@@ -14,13 +14,13 @@ use Rattle.definition.specs.Book.{Assembly, Context, Book, opened, withAssembli
 use Rattle.definition.specs.Program.{Entries, entriesFrom, assemblyPublics, publicEntries, errorEntry, publicTable}
 use Rattle.building.proofs.PoolLaws.{entries-more}
 use Rattle.compiler_laws.specs.declared.book.Book as struct
-use Rattle.compiler_laws.specs.BookAreas.{Shelf, shelf, Keeping}
+use Rattle.compiler_laws.specs.BookAreas.{BookAreas, bookAreas, RepresentsAreas}
 use Rattle.compiler_laws.specs.OpenedBooks.{nobody, Resting}
 use Rattle.compiler_laws.proofs.BookLeaves.{names-count}
 use Rattle.compiler_laws.proofs.PublishedNames.{before-length}
 
 -- a book's own name stands nowhere in the areas yet
-named : {κ : Limits} {m : Shelf} {c : Context} {uses : List Use} (d : Document) → Keeping κ [] m (opened nobody c uses) → Keeping κ [] m (opened d c uses)
+named : {κ : Limits} {m : BookAreas} {c : Context} {uses : List Use} (d : Document) → RepresentsAreas κ [] m (opened nobody c uses) → RepresentsAreas κ [] m (opened d c uses)
 named d H = record {
   fitted = H .fitted;
   full = H .full;
@@ -74,7 +74,7 @@ abbrev pub putAway : Book → Context
 putAway b = withAssemblies (b .context .assemblies ++ (b .assembly ∷ [])) (b .context)
 
 pub put-away : {κ : Limits} {s : struct.Book} {c k f m p t l u n b e : List ℕ} {x : Book} → x .compiler .errors ≡ []
-    → Keeping κ [] (shelf s c k f m p t l u n b e) x → Resting κ s c k f m p t l u n b e (putAway x) (x .uses)
+    → RepresentsAreas κ [] (bookAreas s c k f m p t l u n b e) x → Resting κ s c k f m p t l u n b e (putAway x) (x .uses)
 put-away {x = x} clean H = record {
   ready = record {
     fitted = record {

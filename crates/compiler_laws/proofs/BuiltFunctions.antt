@@ -19,7 +19,7 @@ use Rattle.definition.specs.Program.{Entries, entriesFrom, codeEntries, functio
 use Rattle.definition_laws.proofs.Lists.{all-append, all-map}
 use Rattle.definition_laws.proofs.FunctionCode.{functions-length}
 use Rattle.definition_laws.proofs.Limits.{LimitedFunction}
-use Rattle.definition_laws.proofs.Steady.{Longer, same, more, longer-trans, steady-base}
+use Rattle.definition_laws.proofs.StepPreserves.{NotesGrow, same, more, longer-trans, preserves-base}
 use Rattle.definition_laws.proofs.Good.{function-moves}
 use Rattle.definition_laws.proofs.Room.{room, room-limited}
 use Rattle.definition_laws.proofs.Operands.{function-kept}
@@ -27,26 +27,26 @@ use Rattle.building.specs.declared.function_state.FunctionState.{FunctionState}
 use Rattle.building.specs.declared.taking.Taken.{Taken}
 use Rattle.building.specs.Taking.{Took, taken}
 use Rattle.building.specs.Context.{functionStateWords}
-use Rattle.building.specs.Held.{machine, Filled}
+use Rattle.building.specs.RepresentsMachine.{machine, Filled}
 use Rattle.building.proofs.Filling.{capped, over-fits, over-here}
 use Rattle.building.proofs.Notes.{over-longer, back}
 use Rattle.building.proofs.PoolLaws.{entries-more}
 use Rattle.building.proofs.FunctionLaws.{Between, done, between-law}
 use Rattle.building.proofs.ContextLaws.{Grown, grown, over, function-words, add-function-law, took-full}
 use Rattle.compiler_laws.specs.declared.book.Book as struct
-use Rattle.compiler_laws.specs.BookAreas.{Shelf, shelf, Stock, Fitted, Keeping}
+use Rattle.compiler_laws.specs.BookAreas.{BookAreas, bookAreas, BookContents, Fitted, RepresentsAreas}
 use Rattle.compiler_laws.specs.BookSteps.{resumedBook}
 use Rattle.compiler_laws.specs.AddingFunctions.{Bounded, ended, baseOf, Built, AddsFunction}
 use Rattle.compiler_laws.proofs.BookCounts.{withFunctionCount}
-use Rattle.compiler_laws.proofs.UnchangedByBooks.{Calm}
+use Rattle.compiler_laws.proofs.UnchangedByBooks.{BookUnchanged}
 use Rattle.compiler_laws.proofs.FunctionStates.{codeSoFar, held-working, named-same}
 
-pub base-longer : (f : FunctionDefinition) (x : Book) → Longer (x .uses) (baseOf f x .uses)
-base-longer f x = longer-trans (more (more (more same))) (steady-base f (working x) .uses)
+pub base-longer : (f : FunctionDefinition) (x : Book) → NotesGrow (x .uses) (baseOf f x .uses)
+base-longer f x = longer-trans (more (more (more same))) (preserves-base f (working x) .uses)
 
-pub calm-base : (f : FunctionDefinition) (x : Book) → Calm x (compileBase f x .book)
+pub unchanged-base : (f : FunctionDefinition) (x : Book) → BookUnchanged x (compileBase f x .book)
 unfolding compileBase
-calm-base f x = record { uses = base-longer f x; prior = refl; assemblies = refl; filename = refl; index = refl }
+unchanged-base f x = record { uses = base-longer f x; prior = refl; assemblies = refl; filename = refl; index = refl }
 
 -- no break is left
 pub base-breaks : (f : FunctionDefinition) (w : Work) → compileFunctionDefinitionBase (f .parameters) (f .body) w .function .breakScopes ≡ []
@@ -77,14 +77,14 @@ entries-of start (g ∷ fs) f =
     let next : start + (n + codeOf fs) ≡ start + n + codeOf fs = omega arith in
     rw next (ap (λ (es : Entries). functionEntry start g ∷ es) (entries-of (start + n) fs f))
 
-pub functions-count : {ps : List ℕ} {m : Shelf} {x : Book} → Stock ps m x → m .book .functions ≡ functionCount (x .context)
+pub functions-count : {ps : List ℕ} {m : BookAreas} {x : Book} → BookContents ps m x → m .book .functions ≡ functionCount (x .context)
 functions-count {x = x} S =
     let start = length (x .context .prior .code) in
     S .functions .count ∙ length-append (x .context .prior .functions) (functionEntries start (x .context .program .functions))
     ∙ ap (λ (n : ℕ). length (x .context .prior .functions) + n) (functions-length start (x .context .program .functions))
 
 module _ {κ : Limits} {ps : List ℕ} {s : struct.Book} {c₀ k₀ n₀ b₀ e₀ c k n b e g m p t l u : List ℕ} {r : FunctionState} {x : Book} {f : FunctionDefinition}
-    (B : Built κ ps (shelf s c₀ k₀ g m p t l u n₀ b₀ e₀) x f (machine r c k n b e)) where
+    (B : Built κ ps (bookAreas s c₀ k₀ g m p t l u n₀ b₀ e₀) x f (machine r c k n b e)) where
   -- not full after the function, not full before
   pub built-back : r .full ≡ 0 → s .full ≡ 0
   built-back = back (base-longer f x) (held-working (B .book)) (B .function)
@@ -98,7 +98,7 @@ module _ {κ : Limits} {ps : List ℕ} {s : struct.Book} {c₀ k₀ n₀ b₀ e�
   made name = record { state = baseOf f x .function; name = name; file = x .assembly .index }
 
   -- the areas that functions are built in are as long as before
-  pub added-fitted : {s′ : struct.Book} {g′ : List ℕ} → length g′ ≡ length g → Fitted κ (shelf s′ c k g′ m p t l u n b e)
+  pub added-fitted : {s′ : struct.Book} {g′ : List ℕ} → length g′ ≡ length g → Fitted κ (bookAreas s′ c k g′ m p t l u n b e)
   added-fitted long =
       let F = B .book .fitted in
       let K = capped (B .function) in
@@ -122,15 +122,15 @@ module _ {κ : Limits} {ps : List ℕ} {s : struct.Book} {c₀ k₀ n₀ b₀ e�
     added-words : r .full ≡ 0 → functionStateWords r (s .file) name ≡ functionEntry (codeCount (x .context)) (made name)
     added-words z =
         let C = B .function .rest z in
-        let start : length (codeSoFar x) ≡ codeCount (x .context) = sym (C .before) ∙ steady-base f (working x) .before in
+        let start : length (codeSoFar x) ≡ codeCount (x .context) = sym (C .before) ∙ preserves-base f (working x) .before in
         function-words C (few-locals f l′ (working x)) (s .file) name ∙ rw (start, B .book .rest (built-back z) .file)
 
-    added-stock : r .full ≡ 0 → {g′ : List ℕ}
+    added-contents : r .full ≡ 0 → {g′ : List ℕ}
         → Filled 8 g′ (functionTable (x .context) ++ (functionStateWords r (s .file) name ∷ [])) (s .functions + 1)
-        → Stock ps (shelf (withFunctionCount (taken 0 (s .functions + 1)) (resumedBook s r)) c k g′ m p t l u n b e)
+        → BookContents ps (bookAreas (withFunctionCount (taken 0 (s .functions + 1)) (resumedBook s r)) c k g′ m p t l u n b e)
         (addFunction (compileBase f x .state) name (compileBase f x .book))
     unfolding compileBase
-    added-stock z F =
+    added-contents z F =
         let S = B .book .rest (built-back z) in
         let C = B .function .rest z in
         let A = built-between z in
@@ -156,7 +156,7 @@ module _ {κ : Limits} {ps : List ℕ} {s : struct.Book} {c₀ k₀ n₀ b₀ e�
           counted = function-moves (f .parameters) (f .body) (working x) .context ∙ S .counted;
           valued = S .valued;
           first-local = S .first-local;
-          named = named-same (steady-base f (working x) .locals) (S .named);
+          named = named-same (preserves-base f (working x) .locals) (S .named);
           publics = S .publics;
           first-public = S .first-public;
           prior = S .prior;
@@ -172,7 +172,7 @@ module _ {κ : Limits} {ps : List ℕ} {s : struct.Book} {c₀ k₀ n₀ b₀ e�
 
     added-grown : r .full ≡ 0 → {T : Taken} {g′ : List ℕ}
         → Grown functionsArea (s .functions) (functionStateWords r (s .file) name) g (functionTable (x .context)) T g′
-        → Keeping κ ps (shelf (withFunctionCount T (resumedBook s r)) c k g′ m p t l u n b e)
+        → RepresentsAreas κ ps (bookAreas (withFunctionCount T (resumedBook s r)) c k g′ m p t l u n b e)
         (addFunction (compileBase f x .state) name (compileBase f x .book))
     unfolding compileBase
     added-grown z (grown room filled long) =
@@ -180,7 +180,7 @@ module _ {κ : Limits} {ps : List ℕ} {s : struct.Book} {c₀ k₀ n₀ b₀ e�
         record {
           fitted = added-fitted long;
           full = over-fits κ _ _ (rw z at (B .function .full)) refl (omega (arith, room, B .book .fitted .functions, many));
-          rest = λ _. added-stock z filled;
+          rest = λ _. added-contents z filled;
         }
     added-grown z (over none-left) =
         let many : s .functions ≡ functionCount (x .context) = functions-count (B .book .rest (built-back z)) in
@@ -191,12 +191,12 @@ module _ {κ : Limits} {ps : List ℕ} {s : struct.Book} {c₀ k₀ n₀ b₀ e�
         }
 
     added-keeping : {T : Taken} {g′ : List ℕ} → Took functionsArea (r .full) (s .functions) (functionStateWords r (s .file) name) g T g′
-        → Keeping κ ps (shelf (withFunctionCount T (resumedBook s r)) c k g′ m p t l u n b e)
+        → RepresentsAreas κ ps (bookAreas (withFunctionCount T (resumedBook s r)) c k g′ m p t l u n b e)
         (addFunction (compileBase f x .state) name (compileBase f x .book))
     unfolding compileBase
     added-keeping {T} {g′} took = go (eqb (r .full) 0) refl
       where
-        go : (v : Bool) → eqb (r .full) 0 ≡ v → Keeping κ ps (shelf (withFunctionCount T (resumedBook s r)) c k g′ m p t l u n b e)
+        go : (v : Bool) → eqb (r .full) 0 ≡ v → RepresentsAreas κ ps (bookAreas (withFunctionCount T (resumedBook s r)) c k g′ m p t l u n b e)
             (addFunction (compileBase f x .state) name (compileBase f x .book))
         go true q =
             let z = eqb-true (r .full) 0 q in

@@ -18,7 +18,7 @@ use Rattle.definition.specs.Program.{Entries, entriesFrom, constantEntry}
 use Rattle.definition.specs.Within.{nil}
 use Rattle.building.specs.declared.taking.Taken.{Taken}
 use Rattle.building.specs.Taking.{Took, taken}
-use Rattle.building.specs.Held.{Filled, Marks, unmarked, Sized}
+use Rattle.building.specs.RepresentsMachine.{Filled, Marks, unmarked, Sized}
 use Rattle.building.proofs.Filling.{over-fits, over-here, over-stays, drop-zeros}
 use Rattle.compiler_laws.specs.FileSets.{setSize, SetIs, Ascends, Below}
 use Rattle.compiler_laws.specs.SolverSteps.{Bundle, waiting, TakesBooks}

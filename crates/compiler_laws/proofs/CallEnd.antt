@@ -25,7 +25,7 @@ use Rattle.definition.specs.Answer.{Answer, Delivery, Refusal, ringErrors, answ
 use Rattle.definition.specs.Within.{All, nil, _&_, Areas, KeepsWithin}
 use Rattle.definition_laws.proofs.Cells.{single-length, single-at}
 use Rattle.building.proofs.Filling.{flat-append, filled-field}
-use Rattle.building.specs.Held.{Filled, Marks, unmarked, marked}
+use Rattle.building.specs.RepresentsMachine.{Filled, Marks, unmarked, marked}
 use Rattle.compiler_laws.specs.declared.book.Book as book
 use Rattle.compiler_laws.specs.OpenedBooks.{Resting}
 use Rattle.compiler_laws.specs.BooksInOrder.{Zero, Cleared, Lent, Came, came-delivered, came-faulty}
@@ -105,9 +105,9 @@ flat-stood (_&_ {x = e} {xs = es} h hs) = ap (λ (l : List ℕ). e ++ l) (flat-s
     one (x ∷ []) q = refl
     one (x ∷ (y ∷ ys)) q = absurd (omega arith)
 
-shelved-is : (c : Context) → All (λ (e : List ℕ). length e ≡ 1) (c .prior .books) → (rest : List ℕ) {o : List ℕ} → Zero rest → o ≡ loadedOf c ++ rest
+books-named-is : (c : Context) → All (λ (e : List ℕ). length e ≡ 1) (c .prior .books) → (rest : List ℕ) {o : List ℕ} → Zero rest → o ≡ loadedOf c ++ rest
     → o ≡ filled (length o) (bookTable c)
-shelved-is c wide rest {o} z q =
+books-named-is c wide rest {o} z q =
     let words : flat (bookTable c) ≡ loadedOf c =
     flat-append (c .prior .books) (entriesFrom bookEntry 0 (c .assemblies)) ∙ rw (flat-stood wide, flat-files 0 (c .assemblies)) in
     let long : length o ≡ length (loadedOf c) + length rest = ap (λ (l : List ℕ). length l) q ∙ length-append (loadedOf c) rest in
@@ -267,12 +267,12 @@ module _ (strict : Bool) (tree : List ℕ) (before : Areas) where
         by context uses rest zr i R w q =
             let many : place ≡ length (bookTable context) = i ∙ sym (length-append (context .prior .books) (entriesFrom bookEntry 0 (context .assemblies))
             ∙ ap (λ (n : ℕ). length (context .prior .books) + n) (single-length _ 0 (context .assemblies))) in
-            let shelved = shelved-is context (R .ready .rest y .prior .books) rest zr w in
+            let books-named = books-named-is context (R .ready .rest y .prior .books) rest zr w in
             let counted : globals ≡ globalDependencies (context .pool .globals) 0 (context .pool .constants) =
             all-marked (context .pool .globals) (context .pool .constants) (R .ready .rest y .constants) M in
-            answered (Delivery context) thirteen q (delivered-reply R y shelved many counted)
+            answered (Delivery context) thirteen q (delivered-reply R y books-named many counted)
             (subst (λ (ls : List ℕ). areas c′ k′ f′ m′ p′ t′ l′ u′ n′ b′ e′ o′ ≡ areasOf ls (Delivery context)) (sym long′)
-            (delivered-words R y shelved many counted))
+            (delivered-words R y books-named many counted))
 
         go : (rest : List ℕ) → Zero rest → {us : List Use} {x : Ending}
             → Came (limitsOf (lengthsOf before)) s′ c′ k′ f′ m′ p′ t′ l′ u′ n′ b′ e′ o′ rest row place us x

@@ -18,16 +18,16 @@ use Rattle.definition.specs.Uses.{Limits}
 use Rattle.definition.specs.Book.{Method, Book, Context, addMethods, insertMethods, methodsIn, methodsOf, modelOf, getLocalValue, findModelBy}
 use Rattle.definition.specs.Book.{findModelIn, findModelIndexByLocalName, compileApplyDefinition}
 use Rattle.definition.specs.Program.{entriesFrom, methodEntry}
-use Rattle.definition_laws.proofs.Steady.{same, more}
+use Rattle.definition_laws.proofs.StepPreserves.{same, more}
 use Rattle.tree.specs.At.{DefinitionAt}
 use Rattle.building.specs.declared.scopes.Found.{Found}
 use Rattle.building.specs.Found.{foundOf}
-use Rattle.building.specs.Held.{Filled}
+use Rattle.building.specs.RepresentsMachine.{Filled}
 use Rattle.compiler_laws.specs.declared.book.Book as struct
-use Rattle.compiler_laws.specs.BookAreas.{shelf, Keeping}
+use Rattle.compiler_laws.specs.BookAreas.{bookAreas, RepresentsAreas}
 use Rattle.compiler_laws.specs.ModelSteps.{InsertsMethod, FindsModel, noMethod, methodsFrom, CopiesMethod, CopiesMethods, Applies}
-use Rattle.compiler_laws.proofs.UnchangedByModels.{calm-methods, calm-find-model}
-use Rattle.compiler_laws.proofs.BookStepsInOrder.{unfilled, full-deeds}
+use Rattle.compiler_laws.proofs.UnchangedByModels.{unchanged-methods, unchanged-find-model}
+use Rattle.compiler_laws.proofs.BookStepsInOrder.{unfilled, full-simulates}
 use Rattle.compiler_laws.proofs.MapEntries.{filled-past, rows-count, row-word}
 use Rattle.compiler_laws.proofs.InsertedMethods.{methodWords}
 use Rattle.compiler_laws.proofs.MethodsTogether.{inserts-grow, methods-then, methods-none, keeping-marked, methods-step, methods-all}
@@ -35,8 +35,8 @@ use Rattle.compiler_laws.proofs.MethodsTogether.{inserts-grow, methods-
 -- the loop over the first methods
 pub record CopiesFrom (source target i count : ℕ) (s : struct.Book) (t : List ℕ) (s′ : struct.Book) (t′ : List ℕ) : Type 0 where
   pub meets : (c k f m p l u n b e : List ℕ) (κ : Limits) (ps : List ℕ) (w : Book) → (s .full ≡ 0 → count ≤ length (w .context .program .methods))
-      → Keeping κ ps (shelf s c k f m p t l u n b e) w
-      → Keeping κ ps (shelf s′ c k f m p t′ l u n b e) (addMethods (some target) (methodsFrom source i (count - i) (w .context .program .methods)) w)
+      → RepresentsAreas κ ps (bookAreas s c k f m p t l u n b e) w
+      → RepresentsAreas κ ps (bookAreas s′ c k f m p t′ l u n b e) (addMethods (some target) (methodsFrom source i (count - i) (w .context .program .methods)) w)
 
 -- a method's words, also behind the methods
 method-word : {t : List ℕ} {n : ℕ} (xs : List Method) → Filled 3 t (entriesFrom methodEntry 0 xs) n → (i k : ℕ) → k < 3
@@ -62,8 +62,8 @@ method-word {t} {n} xs f i k q = go (decLt i (length xs))
 module _ {source target i : ℕ} {s : struct.Book} {t : List ℕ} where
   pub copy-full : (s .full ≡ 0 → ⊥) → CopiesMethod source target i s t s t
   copy-full ne = record {
-    deeds = λ c k f m p l u n b e. full-deeds
-        (λ w. calm-methods (some target) (methodsFrom source i 1 (w .context .program .methods)) w) ne;
+    deeds = λ c k f m p l u n b e. full-simulates
+        (λ w. unchanged-methods (some target) (methodsFrom source i 1 (w .context .program .methods)) w) ne;
   }
 
   pub copy-other : s .full ≡ 0 → {model : ℕ} → model ≡ entryField 3 i 0 t → (model ≡ source → ⊥) → CopiesMethod source target i s t s t
@@ -108,7 +108,7 @@ module _ (source target count : ℕ) where
         let H₁ = A .deeds c k f m p l u n b e .meets κ ps w H in
         let fs = methodsFrom source (i + 1) (count - (i + 1)) (insertMethods target es ms) in
         let few₁ : s₁ .full ≡ 0 → count ≤ length (insertMethods target es ms) =
-        λ z. less (few (unfilled (calm-methods (some target) es w .uses) H H₁ z)) (inserts-grow target es ms) in
+        λ z. less (few (unfilled (unchanged-methods (some target) es w .uses) H H₁ z)) (inserts-grow target es ms) in
         let H₂ = B .meets c k f m p l u n b e κ ps w₁ few₁ H₁ in
         whole c k f m p l u n b e κ ps w few H (eqb (s .full) 0) refl (methods-then target es fs w H₂);
   }
@@ -117,11 +117,11 @@ module _ (source target count : ℕ) where
       less p q = omega arith
 
       whole : (c k f m p l u n b e : List ℕ) (κ : Limits) (ps : List ℕ) (w : Book) → (s .full ≡ 0 → count ≤ length (w .context .program .methods))
-          → Keeping κ ps (shelf s c k f m p t l u n b e) w → (x : Bool) → eqb (s .full) 0 ≡ x
-          → Keeping κ ps (shelf s′ c k f m p t′ l u n b e) (addMethods (some target) (methodsFrom source i 1 (w .context .program .methods)
+          → RepresentsAreas κ ps (bookAreas s c k f m p t l u n b e) w → (x : Bool) → eqb (s .full) 0 ≡ x
+          → RepresentsAreas κ ps (bookAreas s′ c k f m p t′ l u n b e) (addMethods (some target) (methodsFrom source i 1 (w .context .program .methods)
           ++ methodsFrom source (i + 1) (count - (i + 1))
           (insertMethods target (methodsFrom source i 1 (w .context .program .methods)) (w .context .program .methods))) w)
-          → Keeping κ ps (shelf s′ c k f m p t′ l u n b e) (addMethods (some target) (methodsFrom source i (count - i) (w .context .program .methods)) w)
+          → RepresentsAreas κ ps (bookAreas s′ c k f m p t′ l u n b e) (addMethods (some target) (methodsFrom source i (count - i) (w .context .program .methods)) w)
       whole c k f m p l u n b e κ ps w few H true q H′ =
           let enough = few (eqb-true (s .full) 0 q) in
           let left : count - i ≡ suc (count - (i + 1)) = omega arith in
@@ -139,18 +139,18 @@ module _ (source target count : ℕ) where
     };
   }
     where
-      many : (c k f m p l u n b e : List ℕ) (κ : Limits) (ps : List ℕ) (w : Book) → Keeping κ ps (shelf s c k f m p t l u n b e) w → s .full ≡ 0
+      many : (c k f m p l u n b e : List ℕ) (κ : Limits) (ps : List ℕ) (w : Book) → RepresentsAreas κ ps (bookAreas s c k f m p t l u n b e) w → s .full ≡ 0
           → s .methods ≡ 0 + length (w .context .program .methods)
       many c k f m p l u n b e κ ps w H z = rows-count methodWords [] (w .context .program .methods) noMethod (omega arith) (H .rest z .methods)
 
-      few : (c k f m p l u n b e : List ℕ) (κ : Limits) (ps : List ℕ) (w : Book) → Keeping κ ps (shelf s c k f m p t l u n b e) w → s .full ≡ 0
+      few : (c k f m p l u n b e : List ℕ) (κ : Limits) (ps : List ℕ) (w : Book) → RepresentsAreas κ ps (bookAreas s c k f m p t l u n b e) w → s .full ≡ 0
           → count ≤ length (w .context .program .methods)
       few c k f m p l u n b e κ ps w H z = omega (arith, many c k f m p l u n b e κ ps w H z)
 
-      whole : (c k f m p l u n b e : List ℕ) (κ : Limits) (ps : List ℕ) (w : Book) → Keeping κ ps (shelf s c k f m p t l u n b e) w
+      whole : (c k f m p l u n b e : List ℕ) (κ : Limits) (ps : List ℕ) (w : Book) → RepresentsAreas κ ps (bookAreas s c k f m p t l u n b e) w
           → (x : Bool) → eqb (s .full) 0 ≡ x
-          → Keeping κ ps (shelf s′ c k f m p t′ l u n b e) (addMethods (some target) (methodsFrom source 0 (count - 0) (w .context .program .methods)) w)
-          → Keeping κ ps (shelf s′ c k f m p t′ l u n b e) (addMethods (some target) (methodsIn source (w .context .program .methods)) w)
+          → RepresentsAreas κ ps (bookAreas s′ c k f m p t′ l u n b e) (addMethods (some target) (methodsFrom source 0 (count - 0) (w .context .program .methods)) w)
+          → RepresentsAreas κ ps (bookAreas s′ c k f m p t′ l u n b e) (addMethods (some target) (methodsIn source (w .context .program .methods)) w)
       whole c k f m p l u n b e κ ps w H true q H′ =
           let left : count - 0 ≡ length (w .context .program .methods) = omega (arith, many c k f m p l u n b e κ ps w H (eqb-true (s .full) 0 q)) in
           rw (← methods-all source (w .context .program .methods)) (rw left at H′)
@@ -178,7 +178,7 @@ module _ {tree : List ℕ} {at end : ℕ} {s : struct.Book} {l k t e : List ℕ}
     rest : {s′ : struct.Book} {t′ : List ℕ}
         → ((c f m p u n b : List ℕ) (κ : Limits) (ps : List ℕ) (w : Book) (x y : Option ℕ) (es : List Entry)
         → (s₂ .full ≡ 0 → (from ≡ foundOf x) × (to ≡ foundOf y)) → es ≡ methodsOf x (w .context)
-        → Keeping κ ps (shelf s₂ c k f m p t l u n b e₂) w → Keeping κ ps (shelf s′ c k f m p t′ l u n b e₂) (addMethods y es w))
+        → RepresentsAreas κ ps (bookAreas s₂ c k f m p t l u n b e₂) w → RepresentsAreas κ ps (bookAreas s′ c k f m p t′ l u n b e₂) (addMethods y es w))
         → Applies tree at end s l k t e s′ t′ e₂
     unfolding DefinitionAt compileApplyDefinition
     rest {s′} {t′} C = record {
@@ -193,7 +193,7 @@ module _ {tree : List ℕ} {at end : ℕ} {s : struct.Book} {l k t e : List ℕ}
             let H₁ = P .meets κ ps w H in
             let H₂ = Q .meets κ ps (x .book) H₁ in
             rw (first, second) (C c f m p u n b κ ps (y .book) (x .place) (y .place) (methodsOf (x .place) (x .book .context))
-            (λ z. (P .sought κ ps w H (unfilled (calm-find-model (tokenAt tree (at + 2)) (x .book) .uses) H₁ H₂ z), Q .sought κ ps (x .book) H₁ z))
+            (λ z. (P .sought κ ps w H (unfilled (unchanged-find-model (tokenAt tree (at + 2)) (x .book) .uses) H₁ H₂ z), Q .sought κ ps (x .book) H₁ z))
             (ap (λ (v : Context). methodsOf (x .place) v) (sym (find-context (tokenAt tree (at + 2)) (x .book)))) H₂);
       };
     }

@@ -2,19 +2,19 @@
 use Rattle.words.specs.Ast.{Definition, LocalDefinition, IncludeDefinition, ModelDefinition, PublicModelDefinition, PlainFunction, PublicFunction}
 use Rattle.words.specs.Ast.{ImplementDefinition, ApplyDefinition}
 use Rattle.definition.specs.Book.{compileDefinition, compileModelDefinition, compileFunctionDefinition}
-use Rattle.compiler_laws.proofs.UnchangedByBooks.{Calms, calm-trans, calm-local-definition, calm-include-or-row-11}
-use Rattle.compiler_laws.proofs.UnchangedByModels.{calm-model-definition, calm-publish, calm-apply}
-use Rattle.compiler_laws.proofs.AddedFunctions.{calm-function}
-use Rattle.compiler_laws.proofs.ImplementedMethods.{calm-implement}
+use Rattle.compiler_laws.proofs.UnchangedByBooks.{Unchanged, unchanged-trans, unchanged-local-definition, unchanged-include-or-row-11}
+use Rattle.compiler_laws.proofs.UnchangedByModels.{unchanged-model-definition, unchanged-publish, unchanged-apply}
+use Rattle.compiler_laws.proofs.AddedFunctions.{unchanged-function}
+use Rattle.compiler_laws.proofs.ImplementedMethods.{unchanged-implement}
 
 -- no definition changes the books put away
-pub calm-definition : (d : Definition) → Calms (compileDefinition d)
+pub unchanged-definition : (d : Definition) → Unchanged (compileDefinition d)
 unfolding compileDefinition
-calm-definition (LocalDefinition bs) b = calm-local-definition bs b
-calm-definition (IncludeDefinition index file as′) b = calm-include-or-row-11 index (file .value) as′ b
-calm-definition (ModelDefinition n ps) b = calm-model-definition n ps b
-calm-definition (PublicModelDefinition n ps) b = calm-trans (calm-model-definition n ps b) (calm-publish (n .value) (compileModelDefinition n ps b))
-calm-definition (PlainFunction f) b = calm-function f b
-calm-definition (PublicFunction f) b = calm-trans (calm-function f b) (calm-publish (f .name .value) (compileFunctionDefinition f b))
-calm-definition (ImplementDefinition m fs) b = calm-implement m fs b
-calm-definition (ApplyDefinition s t) b = calm-apply s t b
+unchanged-definition (LocalDefinition bs) b = unchanged-local-definition bs b
+unchanged-definition (IncludeDefinition index file as′) b = unchanged-include-or-row-11 index (file .value) as′ b
+unchanged-definition (ModelDefinition n ps) b = unchanged-model-definition n ps b
+unchanged-definition (PublicModelDefinition n ps) b = unchanged-trans (unchanged-model-definition n ps b) (unchanged-publish (n .value) (compileModelDefinition n ps b))
+unchanged-definition (PlainFunction f) b = unchanged-function f b
+unchanged-definition (PublicFunction f) b = unchanged-trans (unchanged-function f b) (unchanged-publish (f .name .value) (compileFunctionDefinition f b))
+unchanged-definition (ImplementDefinition m fs) b = unchanged-implement m fs b
+unchanged-definition (ApplyDefinition s t) b = unchanged-apply s t b

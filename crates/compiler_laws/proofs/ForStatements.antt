@@ -6,46 +6,46 @@ use Rattle.words.specs.Object.{constantOf, integerKind}
 use Rattle.words.specs.Opcode.{toInstruction, Pop, PushConstant, LocalSet, JumpIf, ForNext}
 use Rattle.definition.specs.FunctionState.{defineLocal}
 use Rattle.definition.specs.Compiler.{emit, emitOpcodeWithoutPosition, emitConstant, getOr}
-use Rattle.definition_laws.proofs.Steady.{Steadily, steady-trans, steady-function, steady-emit-constant, steady-define}
+use Rattle.definition_laws.proofs.StepPreserves.{Steadily, preserves-trans, preserves-function, preserves-emit-constant, preserves-define}
 use Rattle.compiler_laws.specs.ForStatements.{loopStart, loopHead, loopDefined, loopNext, loopName}
-use Rattle.compiler_laws.proofs.ScopesBalanced.{Balancing, balanced-trans, balanced-function, balanced-emit-constant, balanced-define}
+use Rattle.compiler_laws.proofs.ScopesBalanced.{PreservesScopes, scopes-trans, scopes-function, scopes-emit-constant, scopes-define}
 
 -- two emissions, the second at the last position
-twice-steady : (o x p o′ : ℕ) → Steadily (λ w. emitOpcodeWithoutPosition o′ (emit (toInstruction o x) p w))
-twice-steady o x p o′ w =
+twice-preserves : (o x p o′ : ℕ) → Steadily (λ w. emitOpcodeWithoutPosition o′ (emit (toInstruction o x) p w))
+twice-preserves o x p o′ w =
     let u = emit (toInstruction o x) p w in
-    steady-trans {b = u} (steady-function w _ refl) (steady-function u _ refl)
+    preserves-trans {b = u} (preserves-function w _ refl) (preserves-function u _ refl)
 
-twice-balanced : (o x p o′ : ℕ) → Balancing (λ w. emitOpcodeWithoutPosition o′ (emit (toInstruction o x) p w))
-twice-balanced o x p o′ w =
+twice-scopes : (o x p o′ : ℕ) → PreservesScopes (λ w. emitOpcodeWithoutPosition o′ (emit (toInstruction o x) p w))
+twice-scopes o x p o′ w =
     let u = emit (toInstruction o x) p w in
-    balanced-trans {b = u} (balanced-function w _ refl refl refl) (balanced-function u _ refl refl refl)
+    scopes-trans {b = u} (scopes-function w _ refl refl refl) (scopes-function u _ refl refl refl)
 
-pub steady-start : Steadily loopStart
-steady-start w = steady-function w _ refl
+pub preserves-start : Steadily loopStart
+preserves-start w = preserves-function w _ refl
 
-pub steady-head : (x p : ℕ) → Steadily (loopHead x p)
-steady-head x p w =
+pub preserves-head : (x p : ℕ) → Steadily (loopHead x p)
+preserves-head x p w =
     let w₁ = emitOpcodeWithoutPosition Pop (emit (toInstruction LocalSet x) p w) in
     let w₂ = emitConstant PushConstant (constantOf integerKind 0) p w₁ in
-    steady-trans (twice-steady LocalSet x p Pop w) (steady-trans (steady-emit-constant _ _ _ w₁) (twice-steady LocalSet (x + 1) p Pop w₂))
+    preserves-trans (twice-preserves LocalSet x p Pop w) (preserves-trans (preserves-emit-constant _ _ _ w₁) (twice-preserves LocalSet (x + 1) p Pop w₂))
 
-pub balanced-head : (x p : ℕ) → Balancing (loopHead x p)
-balanced-head x p w =
+pub scopes-head : (x p : ℕ) → PreservesScopes (loopHead x p)
+scopes-head x p w =
     let w₁ = emitOpcodeWithoutPosition Pop (emit (toInstruction LocalSet x) p w) in
     let w₂ = emitConstant PushConstant (constantOf integerKind 0) p w₁ in
-    balanced-trans (twice-balanced LocalSet x p Pop w) (balanced-trans (balanced-emit-constant _ _ _ w₁) (twice-balanced LocalSet (x + 1) p Pop w₂))
+    scopes-trans (twice-scopes LocalSet x p Pop w) (scopes-trans (scopes-emit-constant _ _ _ w₁) (twice-scopes LocalSet (x + 1) p Pop w₂))
 
-pub steady-name : (x : ℕ) (t n : Token) → Steadily (loopName x t n)
-steady-name x t n w =
+pub preserves-name : (x : ℕ) (t n : Token) → Steadily (loopName x t n)
+preserves-name x t n w =
     let u = loopDefined n w in
     let w₁ = emitOpcodeWithoutPosition JumpIf (loopNext x t n w) in
-    steady-trans (steady-define (n .value) w) (steady-trans (twice-steady ForNext x (t .position) JumpIf u)
-    (twice-steady LocalSet (getOr 0 (defineLocal (n .value) (w .function) .found)) (n .position) Pop w₁))
+    preserves-trans (preserves-define (n .value) w) (preserves-trans (twice-preserves ForNext x (t .position) JumpIf u)
+    (twice-preserves LocalSet (getOr 0 (defineLocal (n .value) (w .function) .found)) (n .position) Pop w₁))
 
-pub balanced-name : (x : ℕ) (t n : Token) → Balancing (loopName x t n)
-balanced-name x t n w =
+pub scopes-name : (x : ℕ) (t n : Token) → PreservesScopes (loopName x t n)
+scopes-name x t n w =
     let u = loopDefined n w in
     let w₁ = emitOpcodeWithoutPosition JumpIf (loopNext x t n w) in
-    balanced-trans (balanced-define (n .value) w) (balanced-trans (twice-balanced ForNext x (t .position) JumpIf u)
-    (twice-balanced LocalSet (getOr 0 (defineLocal (n .value) (w .function) .found)) (n .position) Pop w₁))
+    scopes-trans (scopes-define (n .value) w) (scopes-trans (twice-scopes ForNext x (t .position) JumpIf u)
+    (twice-scopes LocalSet (getOr 0 (defineLocal (n .value) (w .function) .found)) (n .position) Pop w₁))

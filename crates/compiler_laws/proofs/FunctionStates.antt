@@ -12,15 +12,15 @@ use Rattle.definition.specs.Book.{Function, Context, Book, working, resumed, co
 use Rattle.definition.specs.Program.{Entries, entriesFrom, functionCode, codeTable}
 use Rattle.definition.specs.Within.{All}
 use Rattle.definition_laws.proofs.Cells.{entries-length}
-use Rattle.definition_laws.proofs.Steady.{Longer}
+use Rattle.definition_laws.proofs.StepPreserves.{NotesGrow}
 use Rattle.building.specs.declared.function_state.FunctionState.{FunctionState}
 use Rattle.building.specs.State.{begun}
-use Rattle.building.specs.Held.{machine, Filled, LocalsHeld, Marks, Held}
+use Rattle.building.specs.RepresentsMachine.{machine, Filled, LocalsHeld, Marks, RepresentsMachine}
 use Rattle.building.proofs.Filling.{Capped, capped, code-length}
 use Rattle.building.proofs.FunctionLaws.{Between, begin-law}
 use Rattle.building.proofs.Notes.{back}
 use Rattle.compiler_laws.specs.declared.book.Book as struct
-use Rattle.compiler_laws.specs.BookAreas.{shelf, Keeping}
+use Rattle.compiler_laws.specs.BookAreas.{bookAreas, RepresentsAreas}
 use Rattle.compiler_laws.specs.BookSteps.{resumedBook}
 
 -- the code so far
@@ -45,8 +45,8 @@ nothing-left f = record { zeros = f .zeros; is = f .is; count = refl; wide = f .
 pub named-same : {start count : ℕ} {l : List ℕ} {s s′ : CompilerState} → s′ .locals ≡ s .locals → LocalsHeld start count l s → LocalsHeld start count l s′
 named-same e L = record { up-to = rw e (L .up-to); each = rw e (L .each) }
 
-module _ {κ : Limits} {ps : List ℕ} {s : struct.Book} {c k f m p t l u n b e : List ℕ} {x : Book} (H : Keeping κ ps (shelf s c k f m p t l u n b e) x) where
-  pub held-working : Held κ (codeSoFar x) (machine (begun (s .full) (s .code) (s .constants) (s .errors)) c k n b e) (working x)
+module _ {κ : Limits} {ps : List ℕ} {s : struct.Book} {c k f m p t l u n b e : List ℕ} {x : Book} (H : RepresentsAreas κ ps (bookAreas s c k f m p t l u n b e) x) where
+  pub held-working : RepresentsMachine κ (codeSoFar x) (machine (begun (s .full) (s .code) (s .constants) (s .errors)) c k n b e) (working x)
   held-working =
       begin-law {w = working x} (record {
         code = H .fitted .code;
@@ -71,7 +71,7 @@ module _ {κ : Limits} {ps : List ℕ} {s : struct.Book} {c k f m p t l u n b e 
       (marked-by : Marks (firstOver κ (w .uses)) (r .full)) (back′ : r .full ≡ 0 → s .full ≡ 0) (names : w .compiler .locals ≡ x .compiler .locals)
       (many : w .context .localCount ≡ x .context .pool .localCount)
       (live : r .full ≡ 0 → Between (codeSoFar x) (r .code) (r .constants) (r .errors) c′ k′ n′ b′ e′ w) where
-    pub keeping-resumed : Keeping κ ps (shelf (resumedBook s r) c′ k′ f m p t l u n′ b′ e′) (resumed w x)
+    pub keeping-resumed : RepresentsAreas κ ps (bookAreas (resumedBook s r) c′ k′ f m p t l u n′ b′ e′) (resumed w x)
     keeping-resumed = record {
       fitted = record {
         code = K .code;
@@ -120,9 +120,9 @@ module _ {κ : Limits} {ps : List ℕ} {s : struct.Book} {c k f m p t l u n b e 
     }
 
   -- back from a step that leaves the function new
-  pub keeping-held : {r : FunctionState} {c′ k′ n′ b′ e′ : List ℕ} {w : Work} → Longer (x .uses) (w .uses) → w .function ≡ newFunctionState
+  pub keeping-held : {r : FunctionState} {c′ k′ n′ b′ e′ : List ℕ} {w : Work} → NotesGrow (x .uses) (w .uses) → w .function ≡ newFunctionState
       → w .compiler .locals ≡ x .compiler .locals → w .context .localCount ≡ x .context .pool .localCount
-      → Held κ (codeSoFar x) (machine r c′ k′ n′ b′ e′) w → Keeping κ ps (shelf (resumedBook s r) c′ k′ f m p t l u n′ b′ e′) (resumed w x)
+      → RepresentsMachine κ (codeSoFar x) (machine r c′ k′ n′ b′ e′) w → RepresentsAreas κ ps (bookAreas (resumedBook s r) c′ k′ f m p t l u n′ b′ e′) (resumed w x)
   keeping-held {r} {c′} {k′} {n′} {b′} {e′} {w} longer new names many A =
       keeping-resumed {w = w} (capped A) (A .full) (back longer held-working A) names many (λ z.
       let C = A .rest z in

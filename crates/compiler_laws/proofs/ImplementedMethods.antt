@@ -9,9 +9,9 @@ use Rattle.definition.specs.FunctionState.{Entry}
 use Rattle.definition.specs.Book.{Book, functionCount, Methods, MaybePlaced, insertEntry, addMethods}
 use Rattle.definition.specs.Book.{compileBase, compileMethods, findModelIndexByLocalName, compileImplementDefinition}
 use Rattle.compiler_laws.specs.ImplementSteps.{implementing, implementingAll, numbered}
-use Rattle.compiler_laws.proofs.UnchangedByBooks.{Calms, calm-refl, calm-trans}
-use Rattle.compiler_laws.proofs.UnchangedByModels.{calm-methods, calm-find-model}
-use Rattle.compiler_laws.proofs.AddedFunctions.{calm-added}
+use Rattle.compiler_laws.proofs.UnchangedByBooks.{Unchanged, unchanged-refl, unchanged-trans}
+use Rattle.compiler_laws.proofs.UnchangedByModels.{unchanged-methods, unchanged-find-model}
+use Rattle.compiler_laws.proofs.AddedFunctions.{unchanged-added}
 
 -- the definition, by the functions one by one
 
@@ -46,11 +46,11 @@ methods-are (f ∷ fs) es x =
     methods-are fs es′ (implementing f x)
     ∙ ap (λ (n : ℕ). methodsOf (collected (numbered n fs) es′) (implementingAll fs (implementing f x))) (one-more f x)
 
--- what the deeds leave as it was
+-- what the steps leave as it was
 
-calm-all : (fs : List FunctionDefinition) → Calms (implementingAll fs)
-calm-all [] x = calm-refl x
-calm-all (f ∷ fs) x = calm-trans (calm-added f (f .name .value) x) (calm-all fs (implementing f x))
+unchanged-all : (fs : List FunctionDefinition) → Unchanged (implementingAll fs)
+unchanged-all [] x = unchanged-refl x
+unchanged-all (f ∷ fs) x = unchanged-trans (unchanged-added f (f .name .value) x) (unchanged-all fs (implementing f x))
 
 -- what the definition does, by its parts
 abbrev sought : Token → List FunctionDefinition → Book → MaybePlaced
@@ -63,7 +63,7 @@ unfolding compileImplementDefinition
 by-parts t fs x =
     ap (λ (c : Methods). let d = findModelIndexByLocalName t (c .book) in addMethods (d .place) (c .entries) (d .book)) (methods-are fs [] x)
 
-pub calm-implement : (t : Token) (fs : List FunctionDefinition) → Calms (compileImplementDefinition t fs)
-calm-implement t fs x =
-    rw (by-parts t fs x) (calm-trans (calm-all fs x) (calm-trans (calm-find-model t (implementingAll fs x))
-    (calm-methods (sought t fs x .place) (collected (numbered (functionCount (x .context)) fs) []) (sought t fs x .book))))
+pub unchanged-implement : (t : Token) (fs : List FunctionDefinition) → Unchanged (compileImplementDefinition t fs)
+unchanged-implement t fs x =
+    rw (by-parts t fs x) (unchanged-trans (unchanged-all fs x) (unchanged-trans (unchanged-find-model t (implementingAll fs x))
+    (unchanged-methods (sought t fs x .place) (collected (numbered (functionCount (x .context)) fs) []) (sought t fs x .book))))

@@ -1,4 +1,4 @@
--- One lemma for each way through the routines of an include: what its calls ensure is the definition's deed. Assumes nothing.
+-- One lemma for each way through the routines of an include: what its calls ensure is the definition's step. Assumes nothing.
 use Prim.Native.Nat.{ℕ, _+_, _-_, _≤_, _<_}
 use native.Mathlib.Omega.{arith}
 use mathlib.Core.Path.{_≡_, refl, sym, ap, _∙_}

@@ -18,18 +18,18 @@ use Rattle.building.specs.declared.scopes.Found.the-variants.{At, Nothing}
 use Rattle.building.specs.declared.taking.Taken.{Taken}
 use Rattle.building.specs.Found.{foundOf}
 use Rattle.building.specs.Taking.{Took}
-use Rattle.building.specs.Held.{Filled}
+use Rattle.building.specs.RepresentsMachine.{Filled}
 use Rattle.building.proofs.ContextLaws.{took-law}
 use Rattle.compiler_laws.specs.declared.book.Book as struct
-use Rattle.compiler_laws.specs.BookAreas.{shelf, Stock, Keeping}
+use Rattle.compiler_laws.specs.BookAreas.{bookAreas, BookContents, RepresentsAreas}
 use Rattle.compiler_laws.specs.IncludeSteps.{isPair, findPairC}
 use Rattle.compiler_laws.specs.ModelSteps.{InsertsMethod, noMethod}
 use Rattle.compiler_laws.proofs.BookCounts.{withMethodCount}
-use Rattle.compiler_laws.proofs.UnchangedByModels.{calm-methods}
-use Rattle.compiler_laws.proofs.BookStepsInOrder.{full-deeds}
+use Rattle.compiler_laws.proofs.UnchangedByModels.{unchanged-methods}
+use Rattle.compiler_laws.proofs.BookStepsInOrder.{full-simulates}
 use Rattle.compiler_laws.proofs.MapEntries.{found-at, found-none, insertBy, Inserting, there, new, inserting}
 use Rattle.compiler_laws.proofs.MapEntries.{patch-there, rows-count, rows-more, row-word, row-set}
-use Rattle.compiler_laws.proofs.AreaEntries.{keeping-fits, keeping-grown, stock-methods, fitted-methods}
+use Rattle.compiler_laws.proofs.AreaEntries.{keeping-fits, keeping-grown, contents-methods, fitted-methods}
 
 abbrev pub methodWords : Method → List ℕ
 methodWords x = x .model ∷ x .name ∷ x .function ∷ []
@@ -64,7 +64,7 @@ module _ (model name function : ℕ) where
 
   module _ {s : struct.Book} {t : List ℕ} where
     pub insert-full : (s .full ≡ 0 → ⊥) → InsertsMethod model name function s t s t
-    insert-full ne = record { deeds = λ c k f m p l u n b e. full-deeds (calm-methods (some model) (record { name = name; index = function } ∷ [])) ne }
+    insert-full ne = record { deeds = λ c k f m p l u n b e. full-simulates (unchanged-methods (some model) (record { name = name; index = function } ∷ [])) ne }
 
     pub insert-there : s .full ≡ 0 → {g : Found} {i : ℕ} → g ≡ foundOf (findPairC 3 0 (s .methods) model name t) → g ≡ At i → {t′ : List ℕ} {a : Bool}
         → Patched 3 i 2 function t t′ a → InsertsMethod model name function s t s t′
@@ -75,10 +75,10 @@ module _ (model name function : ℕ) where
       };
     }
       where
-        go : (c k f m p l u n b e : List ℕ) (κ : Limits) (ps : List ℕ) (w : Book) → Keeping κ ps (shelf s c k f m p t l u n b e) w
-            → Stock ps (shelf s c k f m p t l u n b e) w
+        go : (c k f m p l u n b e : List ℕ) (κ : Limits) (ps : List ℕ) (w : Book) → RepresentsAreas κ ps (bookAreas s c k f m p t l u n b e) w
+            → BookContents ps (bookAreas s c k f m p t l u n b e) w
             → Inserting noMethod (λ x. sameMethod x (methodOf model name function)) (methodOf model name function) (w .context .program .methods) 0 (some i)
-            → Keeping κ ps (shelf s c k f m p t′ l u n b e) (addMethods (some model) (record { name = name; index = function } ∷ []) w)
+            → RepresentsAreas κ ps (bookAreas s c k f m p t′ l u n b e) (addMethods (some model) (record { name = name; index = function } ∷ []) w)
         go c k f m p l u n b e κ ps w H S (there j q h r set-is first) =
             let xs = w .context .program .methods in
             let words : t′ ≡ set t (i * 3 + 2) function =
@@ -99,7 +99,7 @@ module _ (model name function : ℕ) where
               ap length words,
               length-set t (i * 3 + 2) function,
               single-length (λ _ x. methodWords x) 0 (insertMethod (methodOf model name function) xs),
-            )) (stock-methods S filled)
+            )) (contents-methods S filled)
 
     pub insert-new : s .full ≡ 0 → {g : Found} → g ≡ foundOf (findPairC 3 0 (s .methods) model name t) → g ≡ Nothing → {r : Taken} {t′ : List ℕ}
         → Took methodsArea (s .full) (s .methods) (model ∷ name ∷ function ∷ []) t r t′ → InsertsMethod model name function s t (withMethodCount r s) t′
@@ -110,10 +110,10 @@ module _ (model name function : ℕ) where
       };
     }
       where
-        go : (c k f m p l u n b e : List ℕ) (κ : Limits) (ps : List ℕ) (w : Book) → Keeping κ ps (shelf s c k f m p t l u n b e) w
-            → Stock ps (shelf s c k f m p t l u n b e) w
+        go : (c k f m p l u n b e : List ℕ) (κ : Limits) (ps : List ℕ) (w : Book) → RepresentsAreas κ ps (bookAreas s c k f m p t l u n b e) w
+            → BookContents ps (bookAreas s c k f m p t l u n b e) w
             → Inserting noMethod (λ x. sameMethod x (methodOf model name function)) (methodOf model name function) (w .context .program .methods) 0 none
-            → Keeping κ ps (shelf (withMethodCount r s) c k f m p t′ l u n b e) (addMethods (some model) (record { name = name; index = function } ∷ []) w)
+            → RepresentsAreas κ ps (bookAreas (withMethodCount r s) c k f m p t′ l u n b e) (addMethods (some model) (record { name = name; index = function } ∷ []) w)
         go c k f m p l u n b e κ ps w H S (new more-is) =
             let xs = w .context .program .methods in
             let is : insertMethod (methodOf model name function) xs ≡ xs ++ (methodOf model name function ∷ []) =
@@ -125,4 +125,4 @@ module _ (model name function : ℕ) where
             (H .fitted .methods)
             (ap length is ∙ length-append xs (methodOf model name function ∷ [])
             ∙ omega (arith, rows-count methodWords [] xs noMethod (omega arith) (S .methods)))
-            refl (λ e. fitted-methods e (H .fitted)) (λ f q. rw q (stock-methods S (rw entries f)))
+            refl (λ e. fitted-methods e (H .fitted)) (λ f q. rw q (contents-methods S (rw entries f)))

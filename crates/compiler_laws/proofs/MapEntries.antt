@@ -18,7 +18,7 @@ use Rattle.definition_laws.proofs.Cells.{single-length, single-at}
 use Rattle.building.specs.declared.scopes.Found.{Found}
 use Rattle.building.specs.declared.scopes.Found.the-variants.{At, Nothing}
 use Rattle.building.specs.Found.{foundOf, firstFrom}
-use Rattle.building.specs.Held.{Filled}
+use Rattle.building.specs.RepresentsMachine.{Filled}
 use Rattle.compiler_laws.specs.IncludeSteps.{isPair}
 use Rattle.building.proofs.Filling.{room-fits, filled-at, set-append-add, filled-set, filled-field}
 

@@ -16,15 +16,15 @@ use Rattle.words.specs.Areas.{methodsArea}
 use Rattle.definition.specs.FunctionState.{Entry, orElse}
 use Rattle.definition.specs.Uses.{Use, using′, Limits, limitOf, overBy, firstOver}
 use Rattle.definition.specs.Book.{Method, Book, sameMethod, insertMethod, insertMethods, addMethods, methodsIn}
-use Rattle.definition_laws.proofs.Steady.{Longer}
+use Rattle.definition_laws.proofs.StepPreserves.{NotesGrow}
 use Rattle.definition_laws.proofs.Cells.{single-length}
 use Rattle.building.proofs.Notes.{marks-same, over-longer}
-use Rattle.compiler_laws.specs.BookAreas.{Shelf, Keeping}
+use Rattle.compiler_laws.specs.BookAreas.{BookAreas, RepresentsAreas}
 use Rattle.compiler_laws.specs.ModelSteps.{noMethod, methodsFrom}
-use Rattle.compiler_laws.proofs.UnchangedByModels.{calm-methods}
+use Rattle.compiler_laws.proofs.UnchangedByModels.{unchanged-methods}
 use Rattle.compiler_laws.proofs.BookStepsInOrder.{keeping-longer}
 use Rattle.compiler_laws.proofs.MapEntries.{Inserting, there, new, inserting}
-use Rattle.compiler_laws.proofs.AreaEntries.{keeping-fits, stock-methods}
+use Rattle.compiler_laws.proofs.AreaEntries.{keeping-fits, contents-methods}
 use Rattle.compiler_laws.proofs.InsertedMethods.{methodOf, methodWords, insert-by}
 
 -- the lists
@@ -59,14 +59,14 @@ over-again κ area m n us h = go (firstOver κ us) (ltb (limitOf κ area) m) ref
     go none true q = rw (lt-ltb (limitOf κ area) n (omega (arith, ltb-true (limitOf κ area) m q)))
     go none false q = refl
 
-module _ {κ : Limits} {ps : List ℕ} {m : Shelf} where
-  keeping-renoted : {w : Book} (us : List Use) → firstOver κ (w .uses) ≡ firstOver κ us → Keeping κ ps m w
-      → Keeping κ ps m (record { compiler = w .compiler; assembly = w .assembly; context = w .context; uses = us })
-  keeping-renoted us q H = record { fitted = H .fitted; full = rw (← q) (H .full); rest = λ z. let S = H .rest z in stock-methods S (S .methods) }
+module _ {κ : Limits} {ps : List ℕ} {m : BookAreas} where
+  keeping-renoted : {w : Book} (us : List Use) → firstOver κ (w .uses) ≡ firstOver κ us → RepresentsAreas κ ps m w
+      → RepresentsAreas κ ps m (record { compiler = w .compiler; assembly = w .assembly; context = w .context; uses = us })
+  keeping-renoted us q H = record { fitted = H .fitted; full = rw (← q) (H .full); rest = λ z. let S = H .rest z in contents-methods S (S .methods) }
 
   -- some methods and then some
-  pub methods-then : (t : ℕ) (es fs : List Entry) (w : Book) → Keeping κ ps m (addMethods (some t) fs (addMethods (some t) es w))
-      → Keeping κ ps m (addMethods (some t) (es ++ fs) w)
+  pub methods-then : (t : ℕ) (es fs : List Entry) (w : Book) → RepresentsAreas κ ps m (addMethods (some t) fs (addMethods (some t) es w))
+      → RepresentsAreas κ ps m (addMethods (some t) (es ++ fs) w)
   methods-then t es fs w H =
       let first = insertMethods t es (w .context .program .methods) in
       let all = insertMethods t fs first in
@@ -75,21 +75,21 @@ module _ {κ : Limits} {ps : List ℕ} {m : Shelf} where
       (over-again κ methodsArea (length first) (length all) (w .uses) (inserts-grow t fs first)) H)
 
   -- no method: only a note, of what is there
-  pub methods-none : (t : ℕ) (w : Book) → Keeping κ ps m w → Keeping κ ps m (addMethods (some t) [] w)
+  pub methods-none : (t : ℕ) (w : Book) → RepresentsAreas κ ps m w → RepresentsAreas κ ps m (addMethods (some t) [] w)
   methods-none t w H = go (eqb (m .book .full) 0) refl
     where
-      go : (b : Bool) → eqb (m .book .full) 0 ≡ b → Keeping κ ps m (addMethods (some t) [] w)
+      go : (b : Bool) → eqb (m .book .full) 0 ≡ b → RepresentsAreas κ ps m (addMethods (some t) [] w)
       go true q =
           let z = eqb-true (m .book .full) 0 q in
           let S = H .rest z in
           keeping-fits H z methodsArea (length (w .context .program .methods)) _ refl (H .fitted) z
           (omega (arith, H .fitted .methods, S .methods .count, S .methods .room, single-length (λ _ x. methodWords x) 0 (w .context .program .methods)))
-          (stock-methods S (S .methods))
-      go false q = keeping-longer (calm-methods (some t) [] w .uses) (eqb-false (m .book .full) 0 q) H
+          (contents-methods S (S .methods))
+      go false q = keeping-longer (unchanged-methods (some t) [] w .uses) (eqb-false (m .book .full) 0 q) H
 
 -- with the mark set before, whatever is noted
-pub keeping-marked : {κ : Limits} {ps ps₁ ps₂ : List ℕ} {m m′ : Shelf} {w w₁ w₂ : Book} → Longer (w .uses) (w₁ .uses) → Longer (w .uses) (w₂ .uses)
-    → (m .book .full ≡ 0 → ⊥) → Keeping κ ps m w → Keeping κ ps₁ m′ w₁ → Keeping κ ps₂ m′ w₂
+pub keeping-marked : {κ : Limits} {ps ps₁ ps₂ : List ℕ} {m m′ : BookAreas} {w w₁ w₂ : Book} → NotesGrow (w .uses) (w₁ .uses) → NotesGrow (w .uses) (w₂ .uses)
+    → (m .book .full ≡ 0 → ⊥) → RepresentsAreas κ ps m w → RepresentsAreas κ ps₁ m′ w₁ → RepresentsAreas κ ps₂ m′ w₂
 keeping-marked {κ} {m = m} {m′ = m′} a b ne H H₁ =
     let same : m .book .full ≡ m′ .book .full = marks-same (over-longer κ a (H .full) ne) (H₁ .full) in
     record { fitted = H₁ .fitted; full = rw (← same) (over-longer κ b (H .full) ne); rest = λ z. absurd (ne (same ∙ z)) }

@@ -22,11 +22,11 @@ use Rattle.definition_laws.proofs.Cells.{single-length, single-at}
 use Rattle.building.specs.declared.scopes.Found.{Found}
 use Rattle.building.specs.declared.scopes.Found.the-variants.{At, Nothing}
 use Rattle.building.specs.Found.{foundOf, firstFrom, findContextLocalC}
-use Rattle.building.specs.Held.{Filled}
+use Rattle.building.specs.RepresentsMachine.{Filled}
 use Rattle.building.proofs.Filling.{filled-field}
 use Rattle.building.proofs.ContextLaws.{find-context-law}
 use Rattle.compiler_laws.specs.declared.book.Book as struct
-use Rattle.compiler_laws.specs.BookAreas.{Shelf, Stock}
+use Rattle.compiler_laws.specs.BookAreas.{BookAreas, BookContents}
 use Rattle.compiler_laws.specs.BookSteps.{ErrorsDo}
 use Rattle.compiler_laws.specs.ModelSteps.{modelAtC, FindsModel}
 use Rattle.compiler_laws.proofs.MapEntries.{found-at, found-none, filled-past}
@@ -116,7 +116,7 @@ first-past test (suc n) from i q = go (test from) (λ r. omega (arith, first-pas
     go true r q = let z : from ≡ i = cc in omega arith
     go false r q = r q
 
-pub model-law : {ps : List ℕ} {m : Shelf} {w : Book} (name : ℕ) → Stock ps m w → (i : ℕ)
+pub model-law : {ps : List ℕ} {m : BookAreas} {w : Book} (name : ℕ) → BookContents ps m w → (i : ℕ)
     → findContextLocalC (m .book .«first_local») (m .book .locals) name (m .locals) ≡ some i
     → modelAtC i (m .locals) (m .constants) ≡ modelOf (getLocalValue i (w .context))
 model-law {ps} {m} {w} name S i found =
@@ -145,7 +145,7 @@ model-law {ps} {m} {w} name S i found =
     go (some c) = constant-model (w .context .pool .globals) (w .context .pool .constants) (S .constants) c
 
 -- the context local of a name
-local-is : {ps : List ℕ} {m : Shelf} {w : Book} {name v : ℕ} → name ≡ v → Stock ps m w → {o : Option ℕ}
+local-is : {ps : List ℕ} {m : BookAreas} {w : Book} {name v : ℕ} → name ≡ v → BookContents ps m w → {o : Option ℕ}
     → findContextLocalC (m .book .«first_local») (m .book .locals) name (m .locals) ≡ o → findName v (w .compiler .locals) ≡ o
 local-is {name = name} value S q = rw (← value) (sym (find-context-law name (S .named)) ∙ q)
 

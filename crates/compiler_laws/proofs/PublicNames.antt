@@ -20,7 +20,7 @@ use Rattle.definition.specs.Prior.{bookIndex, hasKey, findPublic}
 use Rattle.definition.specs.Within.{All, nil, _&_}
 use Rattle.building.specs.Found.{firstFrom}
 use Rattle.building.proofs.Filling.{filled-field}
-use Rattle.compiler_laws.specs.BookAreas.{Shelf, Stock, Shelved}
+use Rattle.compiler_laws.specs.BookAreas.{BookAreas, BookContents, NamesBooks}
 use Rattle.compiler_laws.specs.IncludeSteps.{isBook, findBookC, isPair, findPairC, publicConstant, includedBy, includedC, isSome, allNamesC}
 
 abbrev nobody : Assembly
@@ -171,7 +171,7 @@ index-below file i j (e ∷ es) q = go (eqb (getD e 0 0) file) (λ r. omega (ari
     go false r q = r q
 
 -- `included_name`
-pub included-law : {ps : List ℕ} {m : Shelf} {x : Book} {books : List ℕ} (file name : ℕ) → Stock ps m x → Shelved books (x .context)
+pub included-law : {ps : List ℕ} {m : BookAreas} {x : Book} {books : List ℕ} (file name : ℕ) → BookContents ps m x → NamesBooks books (x .context)
     → includedC (m .book .file) (m .book .publics) file name books (m .publics) ≡ includedName file name (x .context)
 included-law {m = m} {x = x} {books = books} file name S B =
     ap (λ (o : Option ℕ). includedBy o (m .book .publics) name (m .publics)) found ∙ go (bookIndex file 0 stood) refl ∙ sym (one-name file name (x .context))
@@ -225,7 +225,7 @@ included-law {m = m} {x = x} {books = books} file name S B =
         public j (omega arith) ∙ rw (names-past j name 0 n as′ (S .indexed) h) (or-none _)
 
 -- `all_public`, of the book that is found: the rule of the list
-pub names-law : {ps : List ℕ} {m : Shelf} {x : Book} {books : List ℕ} (file : ℕ) (names : List ℕ) → Stock ps m x → Shelved books (x .context)
+pub names-law : {ps : List ℕ} {m : BookAreas} {x : Book} {books : List ℕ} (file : ℕ) (names : List ℕ) → BookContents ps m x → NamesBooks books (x .context)
     → allNamesC (findBookC (m .book .file) file books) (m .book .publics) names (m .publics) ≡ isThere (includedNames file names (x .context))
 names-law file [] S B = refl
 names-law {x = x} file (n ∷ ns) S B =

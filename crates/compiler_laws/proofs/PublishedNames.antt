@@ -19,18 +19,18 @@ use Rattle.building.specs.declared.scopes.Found.the-variants.{At, Nothing}
 use Rattle.building.specs.declared.taking.Taken.{Taken}
 use Rattle.building.specs.Found.{foundOf}
 use Rattle.building.specs.Taking.{Took}
-use Rattle.building.specs.Held.{Filled}
+use Rattle.building.specs.RepresentsMachine.{Filled}
 use Rattle.building.proofs.ContextLaws.{took-law}
 use Rattle.compiler_laws.specs.declared.book.Book as struct
-use Rattle.compiler_laws.specs.BookAreas.{shelf, Stock, Keeping}
+use Rattle.compiler_laws.specs.BookAreas.{bookAreas, BookContents, RepresentsAreas}
 use Rattle.compiler_laws.specs.IncludeSteps.{isPair, findPairC}
 use Rattle.compiler_laws.specs.ModelSteps.{Publishes}
 use Rattle.compiler_laws.proofs.BookCounts.{withPublicCount}
-use Rattle.compiler_laws.proofs.UnchangedByModels.{calm-publish}
+use Rattle.compiler_laws.proofs.UnchangedByModels.{unchanged-publish}
 use Rattle.compiler_laws.proofs.BookStepsInOrder.{keeping-longer}
 use Rattle.compiler_laws.proofs.MapEntries.{found-at, found-none, insertBy, Inserting, there, new, inserting, patch-there, rowsFrom, rows-count, rows-more}
 use Rattle.compiler_laws.proofs.MapEntries.{row-word, row-set}
-use Rattle.compiler_laws.proofs.AreaEntries.{keeping-fits, keeping-grown, stock-publics, fitted-publics}
+use Rattle.compiler_laws.proofs.AreaEntries.{keeping-fits, keeping-grown, contents-publics, fitted-publics}
 
 abbrev publicWords : ℕ → Entry → List ℕ
 publicWords file e = file ∷ e .name ∷ e .index ∷ []
@@ -98,7 +98,7 @@ more-in file e front xs is =
 -- `publish`
 module _ {place name : ℕ} {s : struct.Book} {u : List ℕ} where
   pub publish-full : (s .full ≡ 0 → ⊥) → Publishes place name s u s u
-  publish-full ne = record { meets = λ c k f m p t l n b e κ ps q H same. keeping-longer (calm-publish name q .uses) ne H }
+  publish-full ne = record { meets = λ c k f m p t l n b e κ ps q H same. keeping-longer (unchanged-publish name q .uses) ne H }
 
   pub publish-there : s .full ≡ 0 → {g : Found} {i : ℕ} → g ≡ foundOf (findPairC 3 (s .«first_public») (s .publics) (s .file) name u) → g ≡ At i
       → {u′ : List ℕ} {a : Bool} → Patched 3 i 2 place u u′ a → Publishes place name s u s u′
@@ -115,11 +115,11 @@ module _ {place name : ℕ} {s : struct.Book} {u : List ℕ} where
         (q .book .assembly .publics) (S .publics) from));
   }
     where
-      go : (c k f m p t l n b e : List ℕ) (κ : Limits) (ps : List ℕ) (q : Placed) → Keeping κ ps (shelf s c k f m p t l u n b e) (q .book)
-          → place ≡ q .place → Stock ps (shelf s c k f m p t l u n b e) (q .book)
+      go : (c k f m p t l n b e : List ℕ) (κ : Limits) (ps : List ℕ) (q : Placed) → RepresentsAreas κ ps (bookAreas s c k f m p t l u n b e) (q .book)
+          → place ≡ q .place → BookContents ps (bookAreas s c k f m p t l u n b e) (q .book)
           → s .«first_public» ≡ length (publicTable (q .book .context))
           → Inserting noEntry (λ x. eqb (x .name) name) (entryOf name (q .place)) (q .book .assembly .publics) (s .«first_public») (some i)
-          → Keeping κ ps (shelf s c k f m p t l u′ n b e) (publish name q)
+          → RepresentsAreas κ ps (bookAreas s c k f m p t l u′ n b e) (publish name q)
       go c k f m p t l n b e κ ps q H same S from (there j at h r set-is first) =
           let xs = q .book .assembly .publics in
           let file = q .book .assembly .index in
@@ -138,7 +138,7 @@ module _ {place name : ℕ} {s : struct.Book} {u : List ℕ} where
             length-set u (i * 3 + 2) place,
             S .first-public,
             public-count file name (q .place) front (insertEntry (entryOf name (q .place)) xs) filled,
-          )) (stock-publics S filled)
+          )) (contents-publics S filled)
 
   pub publish-new : s .full ≡ 0 → {g : Found} → g ≡ foundOf (findPairC 3 (s .«first_public») (s .publics) (s .file) name u) → g ≡ Nothing
       → {r : Taken} {u′ : List ℕ} → Took publicNamesArea (s .full) (s .publics) (s .file ∷ name ∷ place ∷ []) u r u′
@@ -156,11 +156,11 @@ module _ {place name : ℕ} {s : struct.Book} {u : List ℕ} where
         (q .book .assembly .publics) (S .publics) from));
   }
     where
-      go : (c k f m p t l n b e : List ℕ) (κ : Limits) (ps : List ℕ) (q : Placed) → Keeping κ ps (shelf s c k f m p t l u n b e) (q .book)
-          → place ≡ q .place → Stock ps (shelf s c k f m p t l u n b e) (q .book)
+      go : (c k f m p t l n b e : List ℕ) (κ : Limits) (ps : List ℕ) (q : Placed) → RepresentsAreas κ ps (bookAreas s c k f m p t l u n b e) (q .book)
+          → place ≡ q .place → BookContents ps (bookAreas s c k f m p t l u n b e) (q .book)
           → s .«first_public» ≡ length (publicTable (q .book .context))
           → Inserting noEntry (λ x. eqb (x .name) name) (entryOf name (q .place)) (q .book .assembly .publics) (s .«first_public») none
-          → Keeping κ ps (shelf (withPublicCount r s) c k f m p t l u′ n b e) (publish name q)
+          → RepresentsAreas κ ps (bookAreas (withPublicCount r s) c k f m p t l u′ n b e) (publish name q)
       go c k f m p t l n b e κ ps q H same S from (new more-is) =
           let xs = q .book .assembly .publics in
           let index = q .book .assembly .index in
@@ -175,4 +175,4 @@ module _ {place name : ℕ} {s : struct.Book} {u : List ℕ} where
           keeping-grown H z publicNamesArea (publicCount (q .book .context) + length (insertEntry (entryOf name (q .place)) xs)) _ refl
           (took-law T z (S .publics)) (omega arith) refl (H .fitted .publics)
           (omega (arith, ap length is, length-append xs (entryOf name (q .place) ∷ []), S .first-public)) refl (λ e. fitted-publics e (H .fitted))
-          (λ f q. rw q (stock-publics S (rw (← entries) f)))
+          (λ f q. rw q (contents-publics S (rw (← entries) f)))

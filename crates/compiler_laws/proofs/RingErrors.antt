@@ -12,11 +12,11 @@ use Rattle.definition.specs.Answer.{ringErrors}
 use Rattle.definition_laws.proofs.Cells.{single-length}
 use Rattle.building.specs.declared.taking.Taken.{Taken}
 use Rattle.building.specs.Taking.{Took}
-use Rattle.building.specs.Held.{Filled}
+use Rattle.building.specs.RepresentsMachine.{Filled}
 use Rattle.building.proofs.ContextLaws.{Grown, grown, over, took-law, took-full}
 use Rattle.building.proofs.PoolLaws.{entries-more}
 use Rattle.compiler_laws.specs.SolverSteps.{bookUnit}
-use Rattle.compiler_laws.specs.BooksInOrder.{Leaves, Rung, Rings}
+use Rattle.compiler_laws.specs.BooksInOrder.{Leaves, Rung, PushesRingErrors}
 
 errors-length : (es : List Error) → length (entriesFrom errorEntry 0 es) ≡ length es
 errors-length es = single-length _ 0 es
@@ -25,7 +25,7 @@ abbrev ringError : ℕ → Error
 ringError n = record { number = 11; token = record { position = 0; kind = 0; value = n } }
 
 module _ {i count : ℕ} {o : List ℕ} {t : Taken} {e : List ℕ} where
-  pub ring-end : count ≤ i → Rings i count o t e t e
+  pub ring-end : count ≤ i → PushesRingErrors i count o t e t e
   ring-end past = record { rings = go; stays = λ ne. (refl, refl) }
     where
       go : (es : List Error) (left : List ℕ) → Leaves o i left → i + length left ≡ count → t .full ≡ 0 → Filled 4 e (entriesFrom errorEntry 0 es) (t .count)
@@ -38,7 +38,7 @@ module _ {i count : ℕ} {o : List ℕ} {t : Taken} {e : List ℕ} where
       go es (n ∷ left) h q z f = absurd (omega arith)
 
   pub ring-more : {file : ℕ} {t₁ r : Taken} {e₁ e′ : List ℕ} → i < count → file ≡ entryField 1 i 0 o
-      → Took errorsArea (t .full) (t .count) (11 ∷ 0 ∷ 0 ∷ file / bookUnit ∷ []) e t₁ e₁ → Rings (i + 1) count o t₁ e₁ r e′ → Rings i count o t e r e′
+      → Took errorsArea (t .full) (t .count) (11 ∷ 0 ∷ 0 ∷ file / bookUnit ∷ []) e t₁ e₁ → PushesRingErrors (i + 1) count o t₁ e₁ r e′ → PushesRingErrors i count o t e r e′
   ring-more {file} {t₁} {r} {e₁} {e′} inside file-is T R = record { rings = go; stays = kept }
     where
       kept : (t .full ≡ 0 → ⊥) → (r .full ≡ t .full) × (length e′ ≡ length e)
@@ -60,7 +60,7 @@ module _ {i count : ℕ} {o : List ℕ} {t : Taken} {e : List ℕ} where
           more = rw number (sym (entries-more errorEntry 0 es (ringError n)))
 
           by : {t₂ : Taken} {e₂ : List ℕ} → Grown errorsArea (t .count) (11 ∷ 0 ∷ 0 ∷ file / bookUnit ∷ []) e (entriesFrom errorEntry 0 es) t₂ e₂
-              → Rings (i + 1) count o t₂ e₂ r e′ → Rung es (n ∷ left) e r e′
+              → PushesRingErrors (i + 1) count o t₂ e₂ r e′ → Rung es (n ∷ left) e r e′
           by (grown room f′ long) R₂ =
               let one : length (es ++ (ringError n ∷ [])) ≡ length es + 1 = length-append es (ringError n ∷ []) in
               let G = R₂ .rings (es ++ (ringError n ∷ [])) left (h .1) (omega arith) refl (rw (← more) f′) in

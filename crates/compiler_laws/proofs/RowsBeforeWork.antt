@@ -21,7 +21,7 @@ use Rattle.building.specs.declared.scopes.Found.the-variants.{At, Nothing}
 use Rattle.building.specs.Found.{foundOf}
 use Rattle.compiler_laws.specs.FileSets.{SetIs}
 use Rattle.compiler_laws.specs.SolverSteps.{InSets, Bundle, Room, Distinct, Twice, FindsTwice, Needs, Misses}
-use Rattle.compiler_laws.specs.BooksInOrder.{Fresh, Accepted, FrontRows, Fronts}
+use Rattle.compiler_laws.specs.BooksInOrder.{Fresh, Accepted, FrontRows, ChecksRows}
 use Rattle.definition_laws.proofs.Answer.{ShapeRow, fine, refused, shape-row}
 use Rattle.compiler_laws.proofs.BundleRange.{fine-bundle, fine-root}
 use Rattle.compiler_laws.proofs.BooksNeeded.{set-empty, needed-ascends, needed-below}
@@ -40,7 +40,7 @@ shape-number : {x : Shape} → ShapeRow x → (row place : ℕ) → x ≡ Refuse
 shape-number fine row place h z = absurd (let y : _≡_ {A = ℕ} 0 1 = cc in omega arith)
 shape-number (refused {r = r} p x) row place h z = let same : row ≡ r = cc in no-row x (sym same ∙ z)
 
-pub front-shape : (tree standing set : List ℕ) {row place : ℕ} {x : Shape} → x ≡ shapeOf tree → x ≡ Refused row place → Fronts tree standing row place set
+pub front-shape : (tree standing set : List ℕ) {row place : ℕ} {x : Shape} → x ≡ shapeOf tree → x ≡ Refused row place → ChecksRows tree standing row place set
 unfolding answerFrom
 front-shape tree standing set {row} {place} q h = record {
   rows = λ files s. record {
@@ -84,7 +84,7 @@ module _ (tree : List ℕ) {x : Shape} (shape-is : x ≡ shapeOf tree) (fine-is 
   finds : (ds : List Document) → Bundle ds tree 0 end → Twice tree end ds r present′
   finds ds b = F .finds ds b (rw same (room ds b)) (rw same empty)
 
-  pub front-twice : (standing set : List ℕ) {i : ℕ} → r ≡ At i → Fronts tree standing 5 i set
+  pub front-twice : (standing set : List ℕ) {i : ℕ} → r ≡ At i → ChecksRows tree standing 5 i set
   unfolding answerFrom
   front-twice standing set {i} at = record {
     rows = λ files s. record {
@@ -164,8 +164,8 @@ module _ (tree : List ℕ) {x : Shape} (shape-is : x ≡ shapeOf tree) (fine-is 
             );
           }
 
-    pub front-missing : {y : ℕ} → m ≡ At y → Fronts tree standing 6 y set
+    pub front-missing : {y : ℕ} → m ≡ At y → ChecksRows tree standing 6 y set
     front-missing at = let d = fine-root tree is-fine in record { rows = λ files s. no-root files s (d .0) (d .1) (d .2) at }
 
-    pub front-ready : m ≡ Nothing → Fronts tree standing 0 0 set
+    pub front-ready : m ≡ Nothing → ChecksRows tree standing 0 0 set
     front-ready nothing = let d = fine-root tree is-fine in record { rows = λ files s. all-there files s (d .0) (d .1) (d .2) nothing }

@@ -25,32 +25,32 @@ use Rattle.definition.specs.Compiler.{compileNullExpression, compileBooleanExpr
 use Rattle.definition.specs.Compiler.{compileIntegerExpression}
 use Rattle.definition_laws.proofs.Defining.{define-cases}
 use Rattle.definition_laws.proofs.Lists.{cond-case}
-use Rattle.building.specs.Held.{isOpen}
+use Rattle.building.specs.RepresentsMachine.{isOpen}
 
-pub record Balanced (w w′ : Work) : Type 0 where
+pub record ScopesPreserved (w w′ : Work) : Type 0 where
   pub is-open : isOpen (w′ .function .scopes) ≡ isOpen (w .function .scopes)
   pub scopes : tail (w′ .function .scopes) ≡ tail (w .function .scopes)
   pub breaks : tail (w′ .function .breakScopes) ≡ tail (w .function .breakScopes)
 
-abbrev pub Balancing : Step → Type 0
-Balancing s = (w : Work) → Balanced w (s w)
+abbrev pub PreservesScopes : Step → Type 0
+PreservesScopes s = (w : Work) → ScopesPreserved w (s w)
 
-pub balanced-refl : (w : Work) → Balanced w w
-balanced-refl w = record { is-open = refl; scopes = refl; breaks = refl }
+pub scopes-refl : (w : Work) → ScopesPreserved w w
+scopes-refl w = record { is-open = refl; scopes = refl; breaks = refl }
 
-pub balanced-trans : {a b c : Work} → Balanced a b → Balanced b c → Balanced a c
-balanced-trans m n = record { is-open = n .is-open ∙ m .is-open; scopes = n .scopes ∙ m .scopes; breaks = n .breaks ∙ m .breaks }
+pub scopes-trans : {a b c : Work} → ScopesPreserved a b → ScopesPreserved b c → ScopesPreserved a c
+scopes-trans m n = record { is-open = n .is-open ∙ m .is-open; scopes = n .scopes ∙ m .scopes; breaks = n .breaks ∙ m .breaks }
 
 -- a change of the function state alone
-pub balanced-function : (w : Work) (f : FunctionState) → isOpen (f .scopes) ≡ isOpen (w .function .scopes) → tail (f .scopes) ≡ tail (w .function .scopes)
-    → tail (f .breakScopes) ≡ tail (w .function .breakScopes) → Balanced w (withFunction f w)
-balanced-function w f o s b = record { is-open = o; scopes = s; breaks = b }
+pub scopes-function : (w : Work) (f : FunctionState) → isOpen (f .scopes) ≡ isOpen (w .function .scopes) → tail (f .scopes) ≡ tail (w .function .scopes)
+    → tail (f .breakScopes) ≡ tail (w .function .breakScopes) → ScopesPreserved w (withFunction f w)
+scopes-function w f o s b = record { is-open = o; scopes = s; breaks = b }
 
-pub balanced-emit : (i : Instruction) (p : ℕ) → Balancing (emit i p)
-balanced-emit i p w = balanced-function w _ refl refl refl
+pub scopes-emit : (i : Instruction) (p : ℕ) → PreservesScopes (emit i p)
+scopes-emit i p w = scopes-function w _ refl refl refl
 
-pub balanced-error : (n : ℕ) (t : Token) → Balancing (pushError n t)
-balanced-error n t w = record { is-open = refl; scopes = refl; breaks = refl }
+pub scopes-error : (n : ℕ) (t : Token) → PreservesScopes (pushError n t)
+scopes-error n t w = record { is-open = refl; scopes = refl; breaks = refl }
 
 -- function_state.rs
 
@@ -62,36 +62,36 @@ record Level (f g : FunctionState) : Type 0 where
 level : (f : FunctionState) → Level f f
 level f = record { is-open = refl; scopes = refl; breaks = refl }
 
-close-balanced : (f : FunctionState) → Level f (removePopOrPushNull f)
+close-scopes : (f : FunctionState) → Level f (removePopOrPushNull f)
 unfolding removePopOrPushNull
-close-balanced f = cond-case (Level f) (eqb (lastOpcode f) Pop) (λ t. record { is-open = refl; scopes = refl; breaks = refl })
+close-scopes f = cond-case (Level f) (eqb (lastOpcode f) Pop) (λ t. record { is-open = refl; scopes = refl; breaks = refl })
     (λ t. cond-case (Level f) (eqb (lastOpcode f) ReturnOp) (λ s. level f) (λ s. record { is-open = refl; scopes = refl; breaks = refl }))
 
-return-balanced : (p : ℕ) (f : FunctionState) → Level f (emitReturn p f)
+return-scopes : (p : ℕ) (f : FunctionState) → Level f (emitReturn p f)
 unfolding emitReturn
-return-balanced p f = cond-case (Level f) (eqb (lastOpcode (removePopOrPushNull f)) ReturnOp) (λ t. close-balanced f)
-    (λ t. record { is-open = close-balanced f .is-open; scopes = close-balanced f .scopes; breaks = close-balanced f .breaks })
+return-scopes p f = cond-case (Level f) (eqb (lastOpcode (removePopOrPushNull f)) ReturnOp) (λ t. close-scopes f)
+    (λ t. record { is-open = close-scopes f .is-open; scopes = close-scopes f .scopes; breaks = close-scopes f .breaks })
 
-pub balanced-close : Balancing (doing removePopOrPushNull)
-balanced-close w = let b = close-balanced (w .function) in balanced-function w _ (b .is-open) (b .scopes) (b .breaks)
+pub scopes-close : PreservesScopes (doing removePopOrPushNull)
+scopes-close w = let b = close-scopes (w .function) in scopes-function w _ (b .is-open) (b .scopes) (b .breaks)
 
-pub balanced-return : (p : ℕ) → Balancing (doing (emitReturn p))
-balanced-return p w = let b = return-balanced p (w .function) in balanced-function w _ (b .is-open) (b .scopes) (b .breaks)
+pub scopes-return : (p : ℕ) → PreservesScopes (doing (emitReturn p))
+scopes-return p w = let b = return-scopes p (w .function) in scopes-function w _ (b .is-open) (b .scopes) (b .breaks)
 
-pub balanced-break : (p : ℕ) → Balancing (doing (emitBreak p))
+pub scopes-break : (p : ℕ) → PreservesScopes (doing (emitBreak p))
 unfolding emitBreak
-balanced-break p w = go (w .function .breakScopes) refl
+scopes-break p w = go (w .function .breakScopes) refl
   where
     pushed : (bs : List (List ℕ)) → tail (Emission.pushBreaks (Compiler.next w ∷ []) bs) ≡ tail bs
     pushed [] = refl
     pushed (s ∷ ss) = refl
 
-    go : (bs : List (List ℕ)) → bs ≡ w .function .breakScopes → Balanced w (withFunction (Emission.emitBreakIn bs p (w .function)) w)
-    go [] e = balanced-function w _ refl refl refl
-    go (s ∷ ss) e = balanced-function w _ refl refl (pushed (w .function .breakScopes))
+    go : (bs : List (List ℕ)) → bs ≡ w .function .breakScopes → ScopesPreserved w (withFunction (Emission.emitBreakIn bs p (w .function)) w)
+    go [] e = scopes-function w _ refl refl refl
+    go (s ∷ ss) e = scopes-function w _ refl refl (pushed (w .function .breakScopes))
 
-pub balanced-define : (n : ℕ) (w : Work) → Balanced w (withFunction (defineLocal n (w .function) .state) w)
-balanced-define n w = define-cases (λ d. Balanced w (withFunction (d .state) w)) n (w .function) go
+pub scopes-define : (n : ℕ) (w : Work) → ScopesPreserved w (withFunction (defineLocal n (w .function) .state) w)
+scopes-define n w = define-cases (λ d. ScopesPreserved w (withFunction (d .state) w)) n (w .function) go
   where
     opened : (e : Entry) (ss : List (List Entry)) → isOpen (Emission.insertName e ss) ≡ isOpen ss
     opened e [] = refl
@@ -101,130 +101,130 @@ balanced-define n w = define-cases (λ d. Balanced w (withFunction (d .state) w)
     inserted e [] = refl
     inserted e (s ∷ ss) = refl
 
-    go : (o : Option ℕ) → Balanced w (withFunction (Emission.defineLocalBy o n (w .function) .state) w)
-    go none = balanced-function w _ (opened _ (w .function .scopes)) (inserted _ (w .function .scopes)) refl
-    go (some i) = balanced-function w _ refl refl refl
+    go : (o : Option ℕ) → ScopesPreserved w (withFunction (Emission.defineLocalBy o n (w .function) .state) w)
+    go none = scopes-function w _ (opened _ (w .function .scopes)) (inserted _ (w .function .scopes)) refl
+    go (some i) = scopes-function w _ refl refl refl
 
 -- compiler.rs: leaves
 
-pub balanced-constant : (c : Constant) (w : Work) → Balanced w (addConstant c w .work)
+pub scopes-constant : (c : Constant) (w : Work) → ScopesPreserved w (addConstant c w .work)
 unfolding addConstant
-balanced-constant c w = cond-case (λ (a : Added). Balanced w (a .work)) (isShared (c .kind)) (λ t. go (findConstant c (w .context .constants) 0)) (λ t. plain)
+scopes-constant c w = cond-case (λ (a : Added). ScopesPreserved w (a .work)) (isShared (c .kind)) (λ t. go (findConstant c (w .context .constants) 0)) (λ t. plain)
   where
-    plain : Balanced w (addConstantNoCheck c w .work)
+    plain : ScopesPreserved w (addConstantNoCheck c w .work)
     plain = record { is-open = refl; scopes = refl; breaks = refl }
 
-    go : (o : Option ℕ) → Balanced w (Compiler.addConstantBy o c w .work)
+    go : (o : Option ℕ) → ScopesPreserved w (Compiler.addConstantBy o c w .work)
     go none = plain
-    go (some i) = balanced-refl w
+    go (some i) = scopes-refl w
 
-pub balanced-mark : (i : ℕ) → Balancing (Compiler.markGlobal i)
-balanced-mark i w = record { is-open = refl; scopes = refl; breaks = refl }
+pub scopes-mark : (i : ℕ) → PreservesScopes (Compiler.markGlobal i)
+scopes-mark i w = record { is-open = refl; scopes = refl; breaks = refl }
 
-pub balanced-emit-constant : (o : ℕ) (c : Constant) (p : ℕ) → Balancing (emitConstant o c p)
+pub scopes-emit-constant : (o : ℕ) (c : Constant) (p : ℕ) → PreservesScopes (emitConstant o c p)
 unfolding emitConstant
-balanced-emit-constant o c p w = balanced-trans (balanced-constant c w) (balanced-emit _ p _)
+scopes-emit-constant o c p w = scopes-trans (scopes-constant c w) (scopes-emit _ p _)
 
-pub balanced-global : (o n p : ℕ) → Balancing (emitGlobal o n p)
+pub scopes-global : (o n p : ℕ) → PreservesScopes (emitGlobal o n p)
 unfolding emitGlobal
-balanced-global o n p w = balanced-trans (balanced-constant _ w) (balanced-trans (balanced-mark _ _) (balanced-emit _ p _))
+scopes-global o n p w = scopes-trans (scopes-constant _ w) (scopes-trans (scopes-mark _ _) (scopes-emit _ p _))
 
-pub balanced-name : (l c g n p : ℕ) → Balancing (emitName l c g n p)
+pub scopes-name : (l c g n p : ℕ) → PreservesScopes (emitName l c g n p)
 unfolding emitName
-balanced-name l c g n p w = go (Emission.findLocal n (w .function))
+scopes-name l c g n p w = go (Emission.findLocal n (w .function))
   where
-    inner : (o : Option ℕ) → Balanced w (Compiler.emitNameInContext o c g n p w)
-    inner none = balanced-global g n p w
-    inner (some i) = balanced-emit _ p w
+    inner : (o : Option ℕ) → ScopesPreserved w (Compiler.emitNameInContext o c g n p w)
+    inner none = scopes-global g n p w
+    inner (some i) = scopes-emit _ p w
 
-    go : (o : Option ℕ) → Balanced w (Compiler.emitNameBy o l c g n p w)
+    go : (o : Option ℕ) → ScopesPreserved w (Compiler.emitNameBy o l c g n p w)
     go none = inner (findName n (w .compiler .locals))
-    go (some i) = balanced-emit _ p w
+    go (some i) = scopes-emit _ p w
 
-pub balanced-this : (t : Token) → Balancing (compileThisExpression t)
+pub scopes-this : (t : Token) → PreservesScopes (compileThisExpression t)
 unfolding compileThisExpression
-balanced-this t w = balanced-function w _ refl refl refl
+scopes-this t w = scopes-function w _ refl refl refl
 
 -- compiler.rs: compounds
 
-module _ {a b : Step} (A : Balancing a) (B : Balancing b) where
-  pub balanced-then : Balancing (andThen a b)
+module _ {a b : Step} (A : PreservesScopes a) (B : PreservesScopes b) where
+  pub scopes-then : PreservesScopes (andThen a b)
   unfolding andThen
-  balanced-then w = balanced-trans (A w) (B _)
+  scopes-then w = scopes-trans (A w) (B _)
 
-  pub balanced-pair : (o : ℕ) (t : Token) → Balancing (compilePair o t a b)
+  pub scopes-pair : (o : ℕ) (t : Token) → PreservesScopes (compilePair o t a b)
   unfolding compilePair
-  balanced-pair o t w = balanced-trans (A w) (balanced-trans (B _) (balanced-emit _ _ _))
+  scopes-pair o t w = scopes-trans (A w) (scopes-trans (B _) (scopes-emit _ _ _))
 
-  pub balanced-assign : Balancing (compileAssignExpression a b)
+  pub scopes-assign : PreservesScopes (compileAssignExpression a b)
   unfolding compileAssignExpression
-  balanced-assign w = balanced-trans (A w) (B _)
+  scopes-assign w = scopes-trans (A w) (B _)
 
-  pub balanced-operation : (n : ℕ) (t : Token) → Balancing (compileOperation n t a b)
+  pub scopes-operation : (n : ℕ) (t : Token) → PreservesScopes (compileOperation n t a b)
   unfolding compileOperation
-  balanced-operation n t w = balanced-trans (A w) (balanced-trans (B _) (balanced-emit _ _ _))
+  scopes-operation n t w = scopes-trans (A w) (scopes-trans (B _) (scopes-emit _ _ _))
 
-  pub balanced-call : (t : Token) (n : ℕ) → Balancing (compileCallExpression t n a b)
+  pub scopes-call : (t : Token) (n : ℕ) → PreservesScopes (compileCallExpression t n a b)
   unfolding compileCallExpression
-  balanced-call t n w = balanced-trans (A w) (balanced-trans (B _) (balanced-emit _ _ _))
+  scopes-call t n w = scopes-trans (A w) (scopes-trans (B _) (scopes-emit _ _ _))
 
-pub balanced-array : {a : Step} → Balancing a → (t : Token) (n : ℕ) → Balancing (compileArrayExpression t n a)
+pub scopes-array : {a : Step} → PreservesScopes a → (t : Token) (n : ℕ) → PreservesScopes (compileArrayExpression t n a)
 unfolding compileArrayExpression
-balanced-array A t n w = balanced-trans (A w) (balanced-emit _ _ _)
+scopes-array A t n w = scopes-trans (A w) (scopes-emit _ _ _)
 
-pub balanced-prefix : {a : Step} → Balancing a → (t : Token) → Balancing (compilePrefixExpression t a)
+pub scopes-prefix : {a : Step} → PreservesScopes a → (t : Token) → PreservesScopes (compilePrefixExpression t a)
 unfolding compilePrefixExpression
-balanced-prefix {a} A t w = balanced-trans (A w)
-    (cond-case (Balanced (a w)) (eqb (t .value) 0) (λ h. balanced-emit _ _ _)
-    (λ h. cond-case (Balanced (a w)) (eqb (t .value) 1) (λ k. balanced-emit _ _ _) (λ k. balanced-error 3 t _)))
+scopes-prefix {a} A t w = scopes-trans (A w)
+    (cond-case (ScopesPreserved (a w)) (eqb (t .value) 0) (λ h. scopes-emit _ _ _)
+    (λ h. cond-case (ScopesPreserved (a w)) (eqb (t .value) 1) (λ k. scopes-emit _ _ _) (λ k. scopes-error 3 t _)))
 
-pub balanced-infix : {l r g : Step} → Balancing l → Balancing r → Balancing g → (t : Token) → Balancing (compileInfixExpression t l r g)
+pub scopes-infix : {l r g : Step} → PreservesScopes l → PreservesScopes r → PreservesScopes g → (t : Token) → PreservesScopes (compileInfixExpression t l r g)
 unfolding compileInfixExpression
-balanced-infix {l} {r} {g} L R G t w = go (infixKind (t .value))
+scopes-infix {l} {r} {g} L R G t w = go (infixKind (t .value))
   where
-    go : (k : InfixKind) → Balanced w (compileInfixBy k t l r g w)
-    go Assigning = balanced-assign R G w
-    go (Plain n) = balanced-operation L R n t w
-    go (Negated n) = balanced-trans (balanced-operation L R n t w) (balanced-emit _ _ _)
-    go (Compound n) = balanced-trans (balanced-operation L R n t w) (G _)
-    go Unknown = balanced-error 3 t w
+    go : (k : InfixKind) → ScopesPreserved w (compileInfixBy k t l r g w)
+    go Assigning = scopes-assign R G w
+    go (Plain n) = scopes-operation L R n t w
+    go (Negated n) = scopes-trans (scopes-operation L R n t w) (scopes-emit _ _ _)
+    go (Compound n) = scopes-trans (scopes-operation L R n t w) (G _)
+    go Unknown = scopes-error 3 t w
 
-pub balanced-skip : Balancing skip
+pub scopes-skip : PreservesScopes skip
 unfolding skip
-balanced-skip w = balanced-refl w
+scopes-skip w = scopes-refl w
 
-pub balanced-part : {a : Step} → Balancing a → Balancing (compilePart a)
+pub scopes-part : {a : Step} → PreservesScopes a → PreservesScopes (compilePart a)
 unfolding compilePart
-balanced-part {a} A w =
+scopes-part {a} A w =
     let w₁ = doing Emission.enterScope w in
     let w₂ = a w₁ in
     let w₃ = doing Emission.exitScope w₂ in
-    let s : Balanced w₁ w₂ = A w₁ in
-    let r : Balanced w w₃ = record { is-open = ap isOpen (s .scopes); scopes = ap tail (s .scopes); breaks = s .breaks } in
-    balanced-trans r (balanced-close w₃)
+    let s : ScopesPreserved w₁ w₂ = A w₁ in
+    let r : ScopesPreserved w w₃ = record { is-open = ap isOpen (s .scopes); scopes = ap tail (s .scopes); breaks = s .breaks } in
+    scopes-trans r (scopes-close w₃)
 
-pub balanced-no-part : Balancing compileNoPart
+pub scopes-no-part : PreservesScopes compileNoPart
 unfolding compileNoPart
-balanced-no-part w = balanced-function w _ refl refl refl
+scopes-no-part w = scopes-function w _ refl refl refl
 
-pub balanced-if : {c t f : Step} → Balancing c → Balancing t → Balancing f → Balancing (compileIfExpression c t f)
+pub scopes-if : {c t f : Step} → PreservesScopes c → PreservesScopes t → PreservesScopes f → PreservesScopes (compileIfExpression c t f)
 unfolding compileIfExpression
-balanced-if {c} {t} {f} C R F w =
+scopes-if {c} {t} {f} C R F w =
     let w₁ = c w in
     let w₂ = Compiler.emitOpcodeWithoutPosition JumpIf w₁ in
     let w₃ = f w₂ in
     let w₄ = Compiler.emitOpcodeWithoutPosition Jump w₃ in
     let w₅ = Compiler.replaceInstruction (Compiler.next w₁) (toInstruction JumpIf (Compiler.next w₄)) w₄ in
     let w₆ = t w₅ in
-    let s₂ : Balanced w₁ w₂ = balanced-function w₁ _ refl refl refl in
-    let s₄ : Balanced w₃ w₄ = balanced-function w₃ _ refl refl refl in
-    let s₅ : Balanced w₄ w₅ = balanced-function w₄ _ refl refl refl in
-    let s₇ : Balanced w₆ (Compiler.replaceInstruction (Compiler.next w₃) (toInstruction Jump (Compiler.next w₆)) w₆) = balanced-function w₆ _ refl refl refl in
-    balanced-trans (C w) (balanced-trans s₂ (balanced-trans (F w₂) (balanced-trans s₄ (balanced-trans s₅ (balanced-trans (R w₅) s₇)))))
+    let s₂ : ScopesPreserved w₁ w₂ = scopes-function w₁ _ refl refl refl in
+    let s₄ : ScopesPreserved w₃ w₄ = scopes-function w₃ _ refl refl refl in
+    let s₅ : ScopesPreserved w₄ w₅ = scopes-function w₄ _ refl refl refl in
+    let s₇ : ScopesPreserved w₆ (Compiler.replaceInstruction (Compiler.next w₃) (toInstruction Jump (Compiler.next w₆)) w₆) = scopes-function w₆ _ refl refl refl in
+    scopes-trans (C w) (scopes-trans s₂ (scopes-trans (F w₂) (scopes-trans s₄ (scopes-trans s₅ (scopes-trans (R w₅) s₇)))))
 
-pub balanced-for : {a b : Step} → Balancing a → Balancing b → (t i : Token) → Balancing (compileForStatement t i a b)
+pub scopes-for : {a b : Step} → PreservesScopes a → PreservesScopes b → (t i : Token) → PreservesScopes (compileForStatement t i a b)
 unfolding compileForStatement exitBreakScope
-balanced-for {a} {b} A B t i w =
+scopes-for {a} {b} A B t i w =
     let x = w .function .header .localCount in
     let p = t .position in
     let w₁ = doing (λ f. Emission.enterBreakScope (Emission.enterScope (Emission.defineAnonymousLocal (Emission.defineAnonymousLocal f)))) w in
@@ -244,53 +244,53 @@ balanced-for {a} {b} A B t i w =
     let v₂ = emit (toInstruction Iterate (x + 1)) (Emission.getLastPosition (v₁ .function)) v₁ in
     let v₃ = emit (toInstruction Jump (Compiler.next w₆)) (Emission.getLastPosition (v₂ .function)) v₂ in
     let v₄ = Compiler.replaceInstruction (Compiler.next w₇) (toInstruction JumpIf (Compiler.next v₃)) v₃ in
-    let s₃ : Balanced w₂ w₃ = balanced-trans {b = u₃} (balanced-function w₂ _ refl refl refl) (balanced-function u₃ _ refl refl refl) in
-    let s₄ : Balanced w₃ w₄ = balanced-emit-constant _ _ _ w₃ in
-    let s₅ : Balanced w₄ w₅ = balanced-trans {b = u₅} (balanced-function w₄ _ refl refl refl) (balanced-function u₅ _ refl refl refl) in
-    let s₆ : Balanced w₅ w₆ = balanced-define (i .value) w₅ in
-    let s₈ : Balanced w₆ w₈ = balanced-trans {b = w₇} (balanced-function w₆ _ refl refl refl) (balanced-function w₇ _ refl refl refl) in
-    let s₉ : Balanced w₈ w₉ = balanced-trans {b = u₉} (balanced-function w₈ _ refl refl refl) (balanced-function u₉ _ refl refl refl) in
-    let r₃ : Balanced v₁ v₃ = balanced-trans {b = v₂} (balanced-function v₁ _ refl refl refl) (balanced-function v₂ _ refl refl refl) in
-    let r₄ : Balanced v₃ v₄ = balanced-function v₃ _ refl refl refl in
-    let inner : Balanced w₁ v₄ = balanced-trans (A w₁) (balanced-trans s₃ (balanced-trans s₄ (balanced-trans s₅ (balanced-trans s₆ (balanced-trans s₈
-    (balanced-trans s₉
-    (balanced-trans (B w₉) (balanced-trans r₃ r₄)))))))) in
+    let s₃ : ScopesPreserved w₂ w₃ = scopes-trans {b = u₃} (scopes-function w₂ _ refl refl refl) (scopes-function u₃ _ refl refl refl) in
+    let s₄ : ScopesPreserved w₃ w₄ = scopes-emit-constant _ _ _ w₃ in
+    let s₅ : ScopesPreserved w₄ w₅ = scopes-trans {b = u₅} (scopes-function w₄ _ refl refl refl) (scopes-function u₅ _ refl refl refl) in
+    let s₆ : ScopesPreserved w₅ w₆ = scopes-define (i .value) w₅ in
+    let s₈ : ScopesPreserved w₆ w₈ = scopes-trans {b = w₇} (scopes-function w₆ _ refl refl refl) (scopes-function w₇ _ refl refl refl) in
+    let s₉ : ScopesPreserved w₈ w₉ = scopes-trans {b = u₉} (scopes-function w₈ _ refl refl refl) (scopes-function u₉ _ refl refl refl) in
+    let r₃ : ScopesPreserved v₁ v₃ = scopes-trans {b = v₂} (scopes-function v₁ _ refl refl refl) (scopes-function v₂ _ refl refl refl) in
+    let r₄ : ScopesPreserved v₃ v₄ = scopes-function v₃ _ refl refl refl in
+    let inner : ScopesPreserved w₁ v₄ = scopes-trans (A w₁) (scopes-trans s₃ (scopes-trans s₄ (scopes-trans s₅ (scopes-trans s₆ (scopes-trans s₈
+    (scopes-trans s₉
+    (scopes-trans (B w₉) (scopes-trans r₃ r₄)))))))) in
     record { is-open = ap isOpen (inner .scopes); scopes = ap tail (inner .scopes); breaks = ap tail (inner .breaks) }
 
-pub balanced-expression-statement : {a : Step} → Balancing a → Balancing (compileExpressionStatement a)
+pub scopes-expression-statement : {a : Step} → PreservesScopes a → PreservesScopes (compileExpressionStatement a)
 unfolding compileExpressionStatement
-balanced-expression-statement A w = balanced-trans (A w) (balanced-emit _ _ _)
+scopes-expression-statement A w = scopes-trans (A w) (scopes-emit _ _ _)
 
-pub balanced-valued : {a : Step} → Balancing a → (t : Token) → Balancing (compileValued t a)
+pub scopes-valued : {a : Step} → PreservesScopes a → (t : Token) → PreservesScopes (compileValued t a)
 unfolding compileValued
-balanced-valued {a} A t w = balanced-trans (balanced-define (t .value) w) (go (defineLocal (t .value) (w .function) .found))
+scopes-valued {a} A t w = scopes-trans (scopes-define (t .value) w) (go (defineLocal (t .value) (w .function) .found))
   where
     v : Work
     v = withFunction (defineLocal (t .value) (w .function) .state) w
 
-    go : (o : Option ℕ) → Balanced v (Compiler.valuedBy o t a v)
-    go none = balanced-error 1 t v
-    go (some i) = balanced-trans (A v) (balanced-emit _ _ _)
+    go : (o : Option ℕ) → ScopesPreserved v (Compiler.valuedBy o t a v)
+    go none = scopes-error 1 t v
+    go (some i) = scopes-trans (A v) (scopes-emit _ _ _)
 
-pub balanced-bare : (n : ℕ) (t : Token) → Balancing (compileBare n t)
+pub scopes-bare : (n : ℕ) (t : Token) → PreservesScopes (compileBare n t)
 unfolding compileBare
-balanced-bare n t w = balanced-trans (balanced-define (t .value) w) (go (defineLocal (t .value) (w .function) .found))
+scopes-bare n t w = scopes-trans (scopes-define (t .value) w) (go (defineLocal (t .value) (w .function) .found))
   where
     v : Work
     v = withFunction (defineLocal (t .value) (w .function) .state) w
 
-    go : (o : Option ℕ) → Balanced v (Compiler.bareBy o n t v)
-    go none = balanced-error n t v
-    go (some i) = balanced-refl v
+    go : (o : Option ℕ) → ScopesPreserved v (Compiler.bareBy o n t v)
+    go none = scopes-error n t v
+    go (some i) = scopes-refl v
 
-pub balanced-rescue : (t : Token) → Balancing (compileRescue t)
+pub scopes-rescue : (t : Token) → PreservesScopes (compileRescue t)
 unfolding compileRescue
-balanced-rescue t w = cond-case (Balanced w) (ltb 1 (w .function .depth)) (λ h. balanced-error 4 t w)
-    (λ h. let b = return-balanced (t .position) (w .function) in balanced-function w _ (b .is-open) (b .scopes) (b .breaks))
+scopes-rescue t w = cond-case (ScopesPreserved w) (ltb 1 (w .function .depth)) (λ h. scopes-error 4 t w)
+    (λ h. let b = return-scopes (t .position) (w .function) in scopes-function w _ (b .is-open) (b .scopes) (b .breaks))
 
-pub balanced-deeper : {a : Step} → Balancing a → Balancing (deeper a)
+pub scopes-deeper : {a : Step} → PreservesScopes a → PreservesScopes (deeper a)
 unfolding deeper
-balanced-deeper {a} A w =
+scopes-deeper {a} A w =
     let s = A (doing (λ f. Emission.withDepth (f .depth + 1) f) w) in
     record { is-open = s .is-open; scopes = s .scopes; breaks = s .breaks }
 
@@ -300,58 +300,58 @@ mutual
   unfolding compileExpression compileIntegerExpression compileFloatExpression compileStringExpression compileBooleanExpression compileNullExpression
       compileIdentifierExpression compileAssignName
 
-  pub balanced-expression : (e : Expression) → Balancing (compileExpression e)
-  balanced-expression (Identifier t) = balanced-name _ _ _ _ _
-  balanced-expression (This t) = balanced-this t
-  balanced-expression (Null t) = balanced-emit _ _
-  balanced-expression (Integer t) = balanced-emit-constant _ _ _
-  balanced-expression (Float t) = balanced-emit-constant _ _ _
-  balanced-expression (Text t) = balanced-emit-constant _ _ _
-  balanced-expression (Boolean t) = balanced-emit _ _
-  balanced-expression (Array t values) = balanced-array (balanced-expressions values) _ _
-  balanced-expression (Prefix t right) = balanced-prefix (balanced-expression right) t
-  balanced-expression (Infix left t right) = balanced-infix (balanced-expression left) (balanced-expression right) (balanced-target left t) t
-  balanced-expression (If condition truePart) = balanced-if (balanced-expression condition) (balanced-part (balanced-statements truePart)) balanced-no-part
-  balanced-expression (IfElse condition truePart falsePart) =
-      balanced-if (balanced-expression condition) (balanced-part (balanced-statements truePart)) (balanced-part (balanced-statements falsePart))
-  balanced-expression (Call t function parameters) = balanced-call (balanced-expression function) (balanced-expressions parameters) _ _
-  balanced-expression (InstanceGet t instance index) = balanced-pair (balanced-expression instance) (balanced-expression index) _ t
-  balanced-expression (IndexGet t instance index) = balanced-pair (balanced-expression instance) (balanced-expression index) _ t
+  pub scopes-expression : (e : Expression) → PreservesScopes (compileExpression e)
+  scopes-expression (Identifier t) = scopes-name _ _ _ _ _
+  scopes-expression (This t) = scopes-this t
+  scopes-expression (Null t) = scopes-emit _ _
+  scopes-expression (Integer t) = scopes-emit-constant _ _ _
+  scopes-expression (Float t) = scopes-emit-constant _ _ _
+  scopes-expression (Text t) = scopes-emit-constant _ _ _
+  scopes-expression (Boolean t) = scopes-emit _ _
+  scopes-expression (Array t values) = scopes-array (scopes-expressions values) _ _
+  scopes-expression (Prefix t right) = scopes-prefix (scopes-expression right) t
+  scopes-expression (Infix left t right) = scopes-infix (scopes-expression left) (scopes-expression right) (scopes-target left t) t
+  scopes-expression (If condition truePart) = scopes-if (scopes-expression condition) (scopes-part (scopes-statements truePart)) scopes-no-part
+  scopes-expression (IfElse condition truePart falsePart) =
+      scopes-if (scopes-expression condition) (scopes-part (scopes-statements truePart)) (scopes-part (scopes-statements falsePart))
+  scopes-expression (Call t function parameters) = scopes-call (scopes-expression function) (scopes-expressions parameters) _ _
+  scopes-expression (InstanceGet t instance index) = scopes-pair (scopes-expression instance) (scopes-expression index) _ t
+  scopes-expression (IndexGet t instance index) = scopes-pair (scopes-expression instance) (scopes-expression index) _ t
 
-  pub balanced-target : (e : Expression) (a : Token) → Balancing (compileAssignExpressionLeftPart e a)
-  balanced-target (Identifier t) a = balanced-name _ _ _ _ _
-  balanced-target (This t) a = balanced-error _ _
-  balanced-target (Null t) a = balanced-error _ _
-  balanced-target (Integer t) a = balanced-error _ _
-  balanced-target (Float t) a = balanced-error _ _
-  balanced-target (Text t) a = balanced-error _ _
-  balanced-target (Boolean t) a = balanced-error _ _
-  balanced-target (Array t values) a = balanced-error _ _
-  balanced-target (Prefix t right) a = balanced-error _ _
-  balanced-target (Infix left t right) a = balanced-error _ _
-  balanced-target (If condition truePart) a = balanced-error _ _
-  balanced-target (IfElse condition truePart falsePart) a = balanced-error _ _
-  balanced-target (Call t function parameters) a = balanced-error _ _
-  balanced-target (InstanceGet t instance index) a = balanced-pair (balanced-expression instance) (balanced-expression index) _ t
-  balanced-target (IndexGet t instance index) a = balanced-pair (balanced-expression instance) (balanced-expression index) _ t
+  pub scopes-target : (e : Expression) (a : Token) → PreservesScopes (compileAssignExpressionLeftPart e a)
+  scopes-target (Identifier t) a = scopes-name _ _ _ _ _
+  scopes-target (This t) a = scopes-error _ _
+  scopes-target (Null t) a = scopes-error _ _
+  scopes-target (Integer t) a = scopes-error _ _
+  scopes-target (Float t) a = scopes-error _ _
+  scopes-target (Text t) a = scopes-error _ _
+  scopes-target (Boolean t) a = scopes-error _ _
+  scopes-target (Array t values) a = scopes-error _ _
+  scopes-target (Prefix t right) a = scopes-error _ _
+  scopes-target (Infix left t right) a = scopes-error _ _
+  scopes-target (If condition truePart) a = scopes-error _ _
+  scopes-target (IfElse condition truePart falsePart) a = scopes-error _ _
+  scopes-target (Call t function parameters) a = scopes-error _ _
+  scopes-target (InstanceGet t instance index) a = scopes-pair (scopes-expression instance) (scopes-expression index) _ t
+  scopes-target (IndexGet t instance index) a = scopes-pair (scopes-expression instance) (scopes-expression index) _ t
 
-  pub balanced-expressions : (es : Expressions) → Balancing (compileExpressions es)
-  balanced-expressions ∅ₑ = balanced-skip
-  balanced-expressions (e ∷ₑ es) = balanced-then (balanced-expression e) (balanced-expressions es)
+  pub scopes-expressions : (es : Expressions) → PreservesScopes (compileExpressions es)
+  scopes-expressions ∅ₑ = scopes-skip
+  scopes-expressions (e ∷ₑ es) = scopes-then (scopes-expression e) (scopes-expressions es)
 
-  pub balanced-variables : (vs : Variables) → Balancing (compileVariables vs)
-  balanced-variables ∅ᵥ = balanced-skip
-  balanced-variables (Bare t vs) = balanced-then (balanced-bare 1 t) (balanced-variables vs)
-  balanced-variables (Valued t e vs) = balanced-then (balanced-valued (balanced-expression e) t) (balanced-variables vs)
+  pub scopes-variables : (vs : Variables) → PreservesScopes (compileVariables vs)
+  scopes-variables ∅ᵥ = scopes-skip
+  scopes-variables (Bare t vs) = scopes-then (scopes-bare 1 t) (scopes-variables vs)
+  scopes-variables (Valued t e vs) = scopes-then (scopes-valued (scopes-expression e) t) (scopes-variables vs)
 
-  pub balanced-statement : (s : Statement) → Balancing (compileStatement s)
-  balanced-statement (Local vs) = balanced-deeper (balanced-variables vs)
-  balanced-statement (Return t) = balanced-deeper (balanced-return _)
-  balanced-statement (For t i e ss) = balanced-deeper (balanced-for (balanced-expression e) (balanced-statements ss) t i)
-  balanced-statement (Break t) = balanced-deeper (balanced-break _)
-  balanced-statement (Rescue t) = balanced-deeper (balanced-rescue t)
-  balanced-statement (Expr e) = balanced-deeper (balanced-expression-statement (balanced-expression e))
+  pub scopes-statement : (s : Statement) → PreservesScopes (compileStatement s)
+  scopes-statement (Local vs) = scopes-deeper (scopes-variables vs)
+  scopes-statement (Return t) = scopes-deeper (scopes-return _)
+  scopes-statement (For t i e ss) = scopes-deeper (scopes-for (scopes-expression e) (scopes-statements ss) t i)
+  scopes-statement (Break t) = scopes-deeper (scopes-break _)
+  scopes-statement (Rescue t) = scopes-deeper (scopes-rescue t)
+  scopes-statement (Expr e) = scopes-deeper (scopes-expression-statement (scopes-expression e))
 
-  pub balanced-statements : (ss : Statements) → Balancing (compileStatements ss)
-  balanced-statements ∅ₛ = balanced-skip
-  balanced-statements (s ∷ₛ ss) = balanced-then (balanced-statement s) (balanced-statements ss)
+  pub scopes-statements : (ss : Statements) → PreservesScopes (compileStatements ss)
+  scopes-statements ∅ₛ = scopes-skip
+  scopes-statements (s ∷ₛ ss) = scopes-then (scopes-statement s) (scopes-statements ss)

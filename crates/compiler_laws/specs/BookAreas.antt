@@ -9,17 +9,17 @@ use Rattle.words.specs.Areas.{scopeNamesArea, breaksArea, errorsArea, entryWord
 use Rattle.definition.specs.FunctionState.{Entry}
 use Rattle.definition.specs.Prior.{Prior}
 use Rattle.definition.specs.Uses.{Limits, limitOf, firstNotPublic, firstOver}
-use Rattle.definition.specs.Book.{Function, Context, Book, Deed, Placed, MaybePlaced, modelCount, publicCount, bookCount}
+use Rattle.definition.specs.Book.{Function, Context, Book, BookStep, Placed, MaybePlaced, modelCount, publicCount, bookCount}
 use Rattle.definition.specs.Program.{entriesFrom, propertyEntries, publicEntries, errorEntry, codeTable, constantTable, functionTable, modelTable}
 use Rattle.definition.specs.Program.{propertyTable, methodTable, localTable, publicTable}
 use Rattle.definition.specs.Within.{All}
 use Rattle.building.specs.declared.scopes.Found.{Found}
 use Rattle.building.specs.Found.{foundOf}
-use Rattle.building.specs.Held.{Filled, LocalsHeld, Marks, Sized}
+use Rattle.building.specs.RepresentsMachine.{Filled, LocalsHeld, Marks, Sized}
 use Rattle.compiler_laws.specs.declared.book.Book as struct
 
 -- the counts, and the areas that a book is compiled into (area 12 apart)
-pub record Shelf : Type 0 where
+pub record BookAreas : Type 0 where
   pub book : struct.Book
   pub code : List ℕ
   pub constants : List ℕ
@@ -33,8 +33,8 @@ pub record Shelf : Type 0 where
   pub breaks : List ℕ
   pub errors : List ℕ
 
-abbrev pub shelf : struct.Book → (c k f m p t l u n b e : List ℕ) → Shelf
-shelf s c k f m p t l u n b e = record {
+abbrev pub bookAreas : struct.Book → (c k f m p t l u n b e : List ℕ) → BookAreas
+bookAreas s c k f m p t l u n b e = record {
   book = s;
   code = c;
   constants = k;
@@ -55,7 +55,7 @@ pub record PriorBooks (p : Prior) : Type 0 where
   pub publics : All (λ (e : List ℕ). getD e 0 0 < length (p .books)) (p .publics)
 
 -- where nothing is full; `ps`: the properties of a model that is not there yet
-pub record Stock (ps : List ℕ) (m : Shelf) (b : Book) : Type 0 where
+pub record BookContents (ps : List ℕ) (m : BookAreas) (b : Book) : Type 0 where
   pub code : Filled (widthOf codeArea) (m .code) (codeTable (b .context)) (m .book .code)
   -- one position for each instruction
   pub sized : All (λ (f : Function). length (f .state .code .positions) ≡ length (f .state .code .instructions)) (b .context .program .functions)
@@ -89,7 +89,7 @@ pub record Stock (ps : List ℕ) (m : Shelf) (b : Book) : Type 0 where
   pub errors : Filled (widthOf errorsArea) (m .errors) (entriesFrom errorEntry 0 (b .compiler .errors)) (m .book .errors)
 
 -- the areas' lengths are the limits
-pub record Fitted (κ : Limits) (m : Shelf) : Type 0 where
+pub record Fitted (κ : Limits) (m : BookAreas) : Type 0 where
   pub code : Sized κ codeArea (m .code)
   pub constants : Sized κ constantsArea (m .constants)
   pub functions : Sized κ functionsArea (m .functions)
@@ -105,27 +105,27 @@ pub record Fitted (κ : Limits) (m : Shelf) : Type 0 where
   pub others : (area : ℕ) → firstNotPublic ≤ area → limitOf κ area ≡ 0
 
 -- within the limits κ, the counts and areas stand for the book b
-pub record Keeping (κ : Limits) (ps : List ℕ) (m : Shelf) (b : Book) : Type 0 where
+pub record RepresentsAreas (κ : Limits) (ps : List ℕ) (m : BookAreas) (b : Book) : Type 0 where
   pub fitted : Fitted κ m
   pub full : Marks (firstOver κ (b .uses)) (m .book .full)
-  pub rest : m .book .full ≡ 0 → Stock ps m b
+  pub rest : m .book .full ≡ 0 → BookContents ps m b
 
 -- area 12 names the books that stood before and those compiled so far, in their order
-pub record Shelved (books : List ℕ) (c : Context) : Type 0 where
+pub record NamesBooks (books : List ℕ) (c : Context) : Type 0 where
   pub stood : (i : ℕ) → i < length (c .prior .books) → entryWord 1 i 0 books ≡ getD (getD (c .prior .books) i []) 0 0
   pub each : (i : ℕ) → i < length (c .assemblies)
       → entryWord 1 (length (c .prior .books) + i) 0 books ≡ getD (c .assemblies) i (record { filename = 0; index = 0; publics = [] }) .filename
 
--- whatever book they stand for before, they stand for the deed's book after
-pub record Deeds (m m′ : Shelf) (deed : Deed) : Type 0 where
-  pub meets : (κ : Limits) (ps : List ℕ) (b : Book) → Keeping κ ps m b → Keeping κ ps m′ (deed b)
+-- whatever book they stand for before, they stand for the step's book after
+pub record SimulatesAreas (m m′ : BookAreas) (step : BookStep) : Type 0 where
+  pub meets : (κ : Limits) (ps : List ℕ) (b : Book) → RepresentsAreas κ ps m b → RepresentsAreas κ ps m′ (step b)
 
 -- and the number is the definition's, where nothing is full
-pub record Places (m m′ : Shelf) (place : ℕ) (deed : Book → Placed) : Type 0 where
-  pub meets : (κ : Limits) (ps : List ℕ) (b : Book) → Keeping κ ps m b → Keeping κ ps m′ (deed b .book)
-  pub placed : (κ : Limits) (ps : List ℕ) (b : Book) → Keeping κ ps m b → m′ .book .full ≡ 0 → place ≡ deed b .place
+pub record Places (m m′ : BookAreas) (place : ℕ) (step : Book → Placed) : Type 0 where
+  pub meets : (κ : Limits) (ps : List ℕ) (b : Book) → RepresentsAreas κ ps m b → RepresentsAreas κ ps m′ (step b .book)
+  pub placed : (κ : Limits) (ps : List ℕ) (b : Book) → RepresentsAreas κ ps m b → m′ .book .full ≡ 0 → place ≡ step b .place
 
 -- the same of what may be found
-pub record Seeks (m m′ : Shelf) (found : Found) (deed : Book → MaybePlaced) : Type 0 where
-  pub meets : (κ : Limits) (ps : List ℕ) (b : Book) → Keeping κ ps m b → Keeping κ ps m′ (deed b .book)
-  pub sought : (κ : Limits) (ps : List ℕ) (b : Book) → Keeping κ ps m b → m′ .book .full ≡ 0 → found ≡ foundOf (deed b .place)
+pub record Seeks (m m′ : BookAreas) (found : Found) (step : Book → MaybePlaced) : Type 0 where
+  pub meets : (κ : Limits) (ps : List ℕ) (b : Book) → RepresentsAreas κ ps m b → RepresentsAreas κ ps m′ (step b .book)
+  pub sought : (κ : Limits) (ps : List ℕ) (b : Book) → RepresentsAreas κ ps m b → m′ .book .full ≡ 0 → found ≡ foundOf (step b .place)

@@ -1,5 +1,5 @@
 -- What the routines of a book's errors, constants and context locals promise on their area: whatever the other areas hold, counts and areas
--- then stand for the deed's book
+-- then stand for the step's book
 -- Private contracts alone cite this file: whoever reads the promises need not believe it
 use Prim.Native.Nat.{ℕ, _+_, _≤_, _<_}
 use mathlib.Core.Path.{_≡_}
@@ -7,12 +7,12 @@ use mathlib.Core.Option.{Option, none, some}
 use mathlib.Core.List.{List}
 use lib.ListN.{length}
 use Rattle.definition.specs.Uses.{Limits}
-use Rattle.definition.specs.Book.{Context, Book, Deed, Placed, MaybePlaced, setLocalValue}
+use Rattle.definition.specs.Book.{Context, Book, BookStep, Placed, MaybePlaced, setLocalValue}
 use Rattle.building.specs.declared.function_state.FunctionState.{FunctionState}
 use Rattle.building.specs.declared.scopes.Found.{Found}
 use Rattle.building.specs.Found.{foundOf}
 use Rattle.compiler_laws.specs.declared.book.Book as struct
-use Rattle.compiler_laws.specs.BookAreas.{shelf, Keeping, Deeds, Places, Seeks}
+use Rattle.compiler_laws.specs.BookAreas.{bookAreas, RepresentsAreas, SimulatesAreas, Places, Seeks}
 
 -- `resumed`: the counts after a function, a constant or an error
 abbrev pub resumedBook : struct.Book → FunctionState → struct.Book
@@ -35,16 +35,16 @@ resumedBook s r = record {
 }
 
 -- `fault`: the errors
-pub record ErrorsDo (s : struct.Book) (e : List ℕ) (s′ : struct.Book) (e′ : List ℕ) (deed : Deed) : Type 0 where
-  pub deeds : (c k f m p t l u n b : List ℕ) → Deeds (shelf s c k f m p t l u n b e) (shelf s′ c k f m p t l u n b e′) deed
+pub record ErrorsDo (s : struct.Book) (e : List ℕ) (s′ : struct.Book) (e′ : List ℕ) (step : BookStep) : Type 0 where
+  pub deeds : (c k f m p t l u n b : List ℕ) → SimulatesAreas (bookAreas s c k f m p t l u n b e) (bookAreas s′ c k f m p t l u n b e′) step
 
 -- `add_constant`: the constants
-pub record ConstantsPlace (s : struct.Book) (k : List ℕ) (s′ : struct.Book) (k′ : List ℕ) (place : ℕ) (deed : Book → Placed) : Type 0 where
-  pub places : (c f m p t l u n b e : List ℕ) → Places (shelf s c k f m p t l u n b e) (shelf s′ c k′ f m p t l u n b e) place deed
+pub record ConstantsPlace (s : struct.Book) (k : List ℕ) (s′ : struct.Book) (k′ : List ℕ) (place : ℕ) (step : Book → Placed) : Type 0 where
+  pub places : (c f m p t l u n b e : List ℕ) → Places (bookAreas s c k f m p t l u n b e) (bookAreas s′ c k′ f m p t l u n b e) place step
 
 -- `define_local`: the context locals
-pub record LocalsSeek (s : struct.Book) (l : List ℕ) (s′ : struct.Book) (l′ : List ℕ) (found : Found) (deed : Book → MaybePlaced) : Type 0 where
-  pub seeks : (c k f m p t u n b e : List ℕ) → Seeks (shelf s c k f m p t l u n b e) (shelf s′ c k f m p t l′ u n b e) found deed
+pub record LocalsSeek (s : struct.Book) (l : List ℕ) (s′ : struct.Book) (l′ : List ℕ) (found : Found) (step : Book → MaybePlaced) : Type 0 where
+  pub seeks : (c k f m p t u n b e : List ℕ) → Seeks (bookAreas s c k f m p t l u n b e) (bookAreas s′ c k f m p t l′ u n b e) found step
 
 -- a number that may be there is one of n from the first on
 abbrev pub OneOf : Option ℕ → ℕ → ℕ → Type 0
@@ -62,7 +62,7 @@ pub record Valuable (s : struct.Book) (found : Found) (constant : ℕ) (o : Opti
 -- `set_value`: the context locals, of a local and a constant as above
 pub record LocalsValue (s : struct.Book) (l l′ : List ℕ) (found : Found) (constant : ℕ) : Type 0 where
   pub values : (c k f m p t u n b e : List ℕ) (κ : Limits) (ps : List ℕ) (x : Book) (o : Option ℕ) (v : ℕ) → Valuable s found constant o v x
-      → Keeping κ ps (shelf s c k f m p t l u n b e) x → Keeping κ ps (shelf s c k f m p t l′ u n b e) (setLocalValue o v x)
+      → RepresentsAreas κ ps (bookAreas s c k f m p t l u n b e) x → RepresentsAreas κ ps (bookAreas s c k f m p t l′ u n b e) (setLocalValue o v x)
 
 -- the local is the definition's, where nothing is full, and one of the book's context
 pub record Located (s : struct.Book) (found : Found) (o : Option ℕ) (x : Book) : Type 0 where

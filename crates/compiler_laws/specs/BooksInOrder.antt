@@ -20,12 +20,12 @@ use Rattle.tree.specs.Reading.{documentsOf}
 use Rattle.tree.specs.declared.Shape.the-variants.{Fine}
 use Rattle.definition.specs.Book.{hasText, newContext, Context, Book, bookCount}
 use Rattle.building.specs.declared.taking.Taken.{Taken}
-use Rattle.building.specs.Held.{Filled, Marks, Sized}
+use Rattle.building.specs.RepresentsMachine.{Filled, Marks, Sized}
 use Rattle.compiler_laws.specs.declared.book.Book as struct
 use Rattle.compiler_laws.specs.FileSets.{SetIs}
 use Rattle.compiler_laws.specs.SolverSteps.{bookUnit, Bundle, Room, Distinct}
 use Rattle.compiler_laws.specs.OpenedBooks.{Resting}
-use Rattle.compiler_laws.specs.BookAreas.{shelf, Fitted}
+use Rattle.compiler_laws.specs.BookAreas.{bookAreas, Fitted}
 
 -- nothing but zeros
 abbrev pub Zero : List ℕ → Type 0
@@ -44,7 +44,7 @@ pub record Rung (es : List Error) (left e : List ℕ) (r : Taken) (e′ : List �
   pub over : entriesIn 4 (length e) < length es + length left → r .full ≡ errorsArea
 
 -- `ring`
-pub record Rings (i count : ℕ) (o : List ℕ) (t : Taken) (e : List ℕ) (r : Taken) (e′ : List ℕ) : Type 0 where
+pub record PushesRingErrors (i count : ℕ) (o : List ℕ) (t : Taken) (e : List ℕ) (r : Taken) (e′ : List ℕ) : Type 0 where
   pub rings : (es : List Error) (left : List ℕ) → Leaves o i left → i + length left ≡ count → t .full ≡ 0
       → Filled 4 e (entriesFrom errorEntry 0 es) (t .count) → Rung es left e r e′
   pub stays : (t .full ≡ 0 → ⊥) → (r .full ≡ t .full) × (length e′ ≡ length e)
@@ -72,7 +72,7 @@ pub record FrontRows (tree : List ℕ) (row place : ℕ) (set files : List ℕ) 
   pub accepted : row ≡ 0 → (root : Document) × ((others : List Document) × Accepted tree set files root others)
 
 -- whichever books are those of the set that stand
-pub record Fronts (tree standing : List ℕ) (row place : ℕ) (set : List ℕ) : Type 0 where
+pub record ChecksRows (tree standing : List ℕ) (row place : ℕ) (set : List ℕ) : Type 0 where
   pub rows : (files : List ℕ) → SetIs standing files → FrontRows tree row place set files
 
 -- how the books end, where nothing is full: `rest` is what stands in area 12 behind the books; of a delivery `place` is the number of books
@@ -97,7 +97,7 @@ pub record FirstConstants (k : List ℕ) (r : Taken) (k′ : List ℕ) : Type 0 
 
 -- the areas are as long as the limits say, area 12 too
 pub record Lent (κ : Limits) (s : struct.Book) (c k f m p t l u n b e o : List ℕ) : Type 0 where
-  pub fitted : Fitted κ (shelf s c k f m p t l u n b e)
+  pub fitted : Fitted κ (bookAreas s c k f m p t l u n b e)
   pub books : Sized κ booksArea o
 
 -- `clear_program`: zeros in every area but that of the errors

@@ -13,7 +13,7 @@ use Rattle.definition.specs.Compiler.{Work, Step, withFunction, doing, emit, em
 use Rattle.building.specs.declared.function_state.FunctionState.{FunctionState}
 use Rattle.building.specs.declared.scopes.Found.{Found}
 use Rattle.building.specs.declared.scopes.Found.the-variants.{At, Nothing}
-use Rattle.building.specs.Held.{isOpen}
+use Rattle.building.specs.RepresentsMachine.{isOpen}
 
 -- two anonymous locals, a scope and a break scope
 abbrev pub loopStart : Step

@@ -4,13 +4,13 @@ use Prim.Native.Nat.{ℕ, _+_}
 use mathlib.Core.List.{List, [], _∷_}
 use Rattle.words.specs.Ast.{FunctionDefinition}
 use Rattle.definition.specs.FunctionState.{Entry}
-use Rattle.definition.specs.Book.{Deed, compileBase, addFunction}
+use Rattle.definition.specs.Book.{BookStep, compileBase, addFunction}
 
 -- a function compiled and added
-abbrev pub implementing : FunctionDefinition → Deed
+abbrev pub implementing : FunctionDefinition → BookStep
 implementing f x = addFunction (compileBase f x .state) (f .name .value) (compileBase f x .book)
 
-abbrev pub implementingAll : List FunctionDefinition → Deed
+abbrev pub implementingAll : List FunctionDefinition → BookStep
 implementingAll [] x = x
 implementingAll (f ∷ fs) x = implementingAll fs (implementing f x)
 

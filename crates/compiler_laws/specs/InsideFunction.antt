@@ -16,11 +16,11 @@ use Rattle.definition.specs.Compiler.{emitOpcode, skip, count}
 use Rattle.definition.specs.Program.{Entries}
 use Rattle.tree.specs.At.{ExpressionsAt, sizeEs}
 use Rattle.building.specs.declared.function_state.FunctionState.{FunctionState}
-use Rattle.building.specs.Held.{Machine, machine, Held, LocalsHeld, isOpen}
+use Rattle.building.specs.RepresentsMachine.{Machine, machine, RepresentsMachine, LocalsHeld, isOpen}
 
 -- any state and areas
-pub record Acts (m m′ : Machine) (step : Step) : Type 0 where
-  pub meets : (κ : Limits) (E : Entries) (w : Work) → Held κ E m w → Held κ E m′ (step w)
+pub record Simulates (m m′ : Machine) (step : Step) : Type 0 where
+  pub meets : (κ : Limits) (E : Entries) (w : Work) → RepresentsMachine κ E m w → RepresentsMachine κ E m′ (step w)
 
 -- inside a function: a scope is open, and area 7 names the book's context locals
 pub record Inside (start count : ℕ) (locals : List ℕ) (w : Work) : Type 0 where
@@ -29,7 +29,7 @@ pub record Inside (start count : ℕ) (locals : List ℕ) (w : Work) : Type 0 wh
 
 -- the errors (`fault`, whose contract says more)
 pub record OnErrors (s : FunctionState) (e : List ℕ) (s′ : FunctionState) (e′ : List ℕ) (step : Step) : Type 0 where
-  pub acts : (c k n b : List ℕ) → Acts (machine s c k n b e) (machine s′ c k n b e′) step
+  pub acts : (c k n b : List ℕ) → Simulates (machine s c k n b e) (machine s′ c k n b e′) step
 
 -- what an infix expression does when both sides are there
 abbrev pub operated : InfixKind → Token → Step

@@ -1,5 +1,5 @@
 -- What the routines of methods, models and public names promise: whatever the areas that they do not have hold, counts and areas then stand for
--- the deed's book
+-- the step's book
 -- Private contracts alone cite this file: whoever reads the promises need not believe it
 use Prim.Native.Nat.{ℕ, zero, suc, _+_}
 use mathlib.Core.Path.{_≡_}
@@ -21,23 +21,23 @@ use Rattle.definition.specs.Book.{addBookConstant, addModel, defineContextLocal
 use Rattle.tree.specs.At.{DefinitionAt}
 use Rattle.building.specs.declared.scopes.Found.{Found}
 use Rattle.compiler_laws.specs.declared.book.Book.{Book}
-use Rattle.compiler_laws.specs.BookAreas.{shelf, Keeping, Deeds, Seeks}
+use Rattle.compiler_laws.specs.BookAreas.{bookAreas, RepresentsAreas, SimulatesAreas, Seeks}
 
 -- `insert_entry`: area 6
 pub record InsertsMethod (model name function : ℕ) (s : Book) (t : List ℕ) (s′ : Book) (t′ : List ℕ) : Type 0 where
-  pub deeds : (c k f m p l u n b e : List ℕ) → Deeds (shelf s c k f m p t l u n b e) (shelf s′ c k f m p t′ l u n b e)
+  pub deeds : (c k f m p l u n b e : List ℕ) → SimulatesAreas (bookAreas s c k f m p t l u n b e) (bookAreas s′ c k f m p t′ l u n b e)
       (addMethods (some model) (record { name = name; index = function } ∷ []))
 
 -- `publish_entry`: area 8, of a constant whose number is the definition's where nothing is full
 pub record Publishes (place name : ℕ) (s : Book) (u : List ℕ) (s′ : Book) (u′ : List ℕ) : Type 0 where
-  pub meets : (c k f m p t l n b e : List ℕ) (κ : Limits) (ps : List ℕ) (q : Placed) → Keeping κ ps (shelf s c k f m p t l u n b e) (q .book)
-      → (s .full ≡ 0 → place ≡ q .place) → Keeping κ ps (shelf s′ c k f m p t l u′ n b e) (publish name q)
+  pub meets : (c k f m p t l n b e : List ℕ) (κ : Limits) (ps : List ℕ) (q : Placed) → RepresentsAreas κ ps (bookAreas s c k f m p t l u n b e) (q .book)
+      → (s .full ≡ 0 → place ≡ q .place) → RepresentsAreas κ ps (bookAreas s′ c k f m p t l u′ n b e) (publish name q)
 
 -- `add_property`: areas 5 and 11; the properties of the model that is not there yet start at entry `first`
 pub record AddsProperty (tree : List ℕ) (at first : ℕ) (s : Book) (p e : List ℕ) (s′ : Book) (p′ e′ : List ℕ) : Type 0 where
   pub meets : (c k f m t l u n b : List ℕ) (κ : Limits) (ps : List ℕ) (w : book.Book) → (s .full ≡ 0 → first ≡ propertyCount (w .context))
-      → Keeping κ ps (shelf s c k f m p t l u n b e) w
-      → Keeping κ (addProperty (tokenAt tree at) ps w .texts) (shelf s′ c k f m p′ t l u n b e′) (addProperty (tokenAt tree at) ps w .book)
+      → RepresentsAreas κ ps (bookAreas s c k f m p t l u n b e) w
+      → RepresentsAreas κ (addProperty (tokenAt tree at) ps w .texts) (bookAreas s′ c k f m p′ t l u n b e′) (addProperty (tokenAt tree at) ps w .book)
 
 -- `model_of`: the model that a context local is, by areas 7 and 2: none without a value or with another constant
 abbrev pub modelAtC : ℕ → List ℕ → List ℕ → Option ℕ
@@ -47,7 +47,7 @@ modelAtC i l k =
 
 -- `find_model_index_by_local_name`: areas 7, 2 and 11
 pub record FindsModel (tree : List ℕ) (at : ℕ) (s : Book) (l k e : List ℕ) (found : Found) (s′ : Book) (e′ : List ℕ) : Type 0 where
-  pub seeks : (c f m p t u n b : List ℕ) → Seeks (shelf s c k f m p t l u n b e) (shelf s′ c k f m p t l u n b e′) found
+  pub seeks : (c f m p t u n b : List ℕ) → Seeks (bookAreas s c k f m p t l u n b e) (bookAreas s′ c k f m p t l u n b e′) found
       (findModelIndexByLocalName (tokenAt tree at))
 
 -- what stands for a method beyond the last
@@ -64,18 +64,18 @@ methodsFrom model i (suc n) l =
 
 -- `copy_entry`: area 6, one method of the source under the target, if it is one
 pub record CopiesMethod (source target i : ℕ) (s : Book) (t : List ℕ) (s′ : Book) (t′ : List ℕ) : Type 0 where
-  pub deeds : (c k f m p l u n b e : List ℕ) → Deeds (shelf s c k f m p t l u n b e) (shelf s′ c k f m p t′ l u n b e)
+  pub deeds : (c k f m p l u n b e : List ℕ) → SimulatesAreas (bookAreas s c k f m p t l u n b e) (bookAreas s′ c k f m p t′ l u n b e)
       (λ w. addMethods (some target) (methodsFrom source i 1 (w .context .program .methods)) w)
 
 -- `copy_entries`: all methods of the source
 pub record CopiesMethods (source target : ℕ) (s : Book) (t : List ℕ) (s′ : Book) (t′ : List ℕ) : Type 0 where
-  pub deeds : (c k f m p l u n b e : List ℕ) → Deeds (shelf s c k f m p t l u n b e) (shelf s′ c k f m p t′ l u n b e)
+  pub deeds : (c k f m p l u n b e : List ℕ) → SimulatesAreas (bookAreas s c k f m p t l u n b e) (bookAreas s′ c k f m p t′ l u n b e)
       (λ w. addMethods (some target) (methodsIn source (w .context .program .methods)) w)
 
 -- `compile_apply_definition`: areas 6 and 11, over areas 7 and 2
 pub record Applies (tree : List ℕ) (at end : ℕ) (s : Book) (l k t e : List ℕ) (s′ : Book) (t′ e′ : List ℕ) : Type 0 where
   pub deeds : (c f m p u n b : List ℕ) (source target : Token) → DefinitionAt (ApplyDefinition source target) tree at → at + 3 ≡ end
-      → Deeds (shelf s c k f m p t l u n b e) (shelf s′ c k f m p t′ l u n b e′) (compileApplyDefinition source target)
+      → SimulatesAreas (bookAreas s c k f m p t l u n b e) (bookAreas s′ c k f m p t′ l u n b e′) (compileApplyDefinition source target)
 
 -- the rest of `compile_model_definition`, after the properties
 abbrev pub placeModel : List ℕ → ℕ → book.Book → Placed

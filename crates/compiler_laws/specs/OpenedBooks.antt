@@ -6,7 +6,7 @@ use Rattle.words.specs.Ast.{Document}
 use Rattle.definition.specs.Uses.{Use, Limits}
 use Rattle.definition.specs.Book.{Context, Book, bookCount, opened}
 use Rattle.compiler_laws.specs.declared.book.Book as struct
-use Rattle.compiler_laws.specs.BookAreas.{shelf, Keeping}
+use Rattle.compiler_laws.specs.BookAreas.{bookAreas, RepresentsAreas}
 
 -- the counts as a book finds them that is the next to be compiled
 abbrev pub openedBook : struct.Book → ℕ → struct.Book
@@ -34,4 +34,4 @@ nobody = record { filename = 0; definitions = [] }
 
 -- between two books the areas stand for a context: they are ready for the next book, whichever it is
 pub record Resting (κ : Limits) (s : struct.Book) (c k f m p t l u n b e : List ℕ) (context : Context) (uses : List Use) : Type 0 where
-  pub ready : Keeping κ [] (shelf (openedBook s (bookCount context)) c k f m p t l u n b e) (opened nobody context uses)
+  pub ready : RepresentsAreas κ [] (bookAreas (openedBook s (bookCount context)) c k f m p t l u n b e) (opened nobody context uses)

@@ -1,4 +1,4 @@
--- `backend/compiler.rs`: definitions and documents. A deed takes a book under compilation and gives it back
+-- `backend/compiler.rs`: definitions and documents. A step takes a book under compilation and gives it back
 use Prim.Native.Nat.{ℕ, zero, suc, _+_}
 use mathlib.Core.Bool.{Bool, true, false, cond}
 use mathlib.Core.Option.{Option, none, some}
@@ -53,7 +53,7 @@ pub record ContextLocals : Type 0 where
 
 -- the Rust's `CompilerContext`; `pool` is what functions need of it. prior: what stood before a bundle (2026-01). Constants, marks and methods are whole
 -- lists, those that stood first; models, functions, context locals' names and values, and assemblies are those added, and their indices go on from
--- what stood. strict: the mode, 'chosen for the whole bundle' (2026-07); no deed changes it
+-- what stood. strict: the mode, 'chosen for the whole bundle' (2026-07); no step changes it
 pub record Context : Type 0 where
   pub pool : CompilerContext
   pub prior : Prior
@@ -69,8 +69,8 @@ pub record Book : Type 0 where
   pub context : Context
   pub uses : List Use
 
-abbrev pub Deed : Type 0
-Deed = Book → Book
+abbrev pub BookStep : Type 0
+BookStep = Book → Book
 
 -- `CompilerContext::new`, in a mode
 abbrev pub newContext : Bool → Context
@@ -127,15 +127,15 @@ abbrev pub inMode : Bool → Context → Context
 inMode strict c =
     record { pool = c .pool; prior = c .prior; strict = strict; program = c .program; locals = c .locals; assemblies = c .assemblies }
 
-abbrev pub withContext : Context → Deed
+abbrev pub withContext : Context → BookStep
 withContext c b = record { compiler = b .compiler; assembly = b .assembly; context = c; uses = b .uses }
 
 -- n entries of an area are in use
-abbrev pub noted : ℕ → ℕ → Deed
+abbrev pub noted : ℕ → ℕ → BookStep
 noted area n b = record { compiler = b .compiler; assembly = b .assembly; context = b .context; uses = using′ area n ∷ b .uses }
 
 -- `push_error`
-abbrev pub pushBookError : ℕ → Token → Deed
+abbrev pub pushBookError : ℕ → Token → BookStep
 pushBookError n t b =
     noted errorsArea (length (b .compiler .errors) + 1)
     (record { compiler = withError n t (b .compiler); assembly = b .assembly; context = b .context; uses = b .uses })
@@ -225,7 +225,7 @@ insertEntry e [] = e ∷ []
 insertEntry e (x ∷ xs) = cond (eqb (x .name) (e .name)) (e ∷ xs) (x ∷ insertEntry e xs)
 
 -- `local_values.insert`
-abbrev pub setLocalValue : Option ℕ → ℕ → Deed
+abbrev pub setLocalValue : Option ℕ → ℕ → BookStep
 setLocalValue none constant b = b
 setLocalValue (some i) constant b =
     let values = insertEntry (record { name = i; index = constant }) (b .context .locals .values) in
@@ -268,18 +268,18 @@ onlyOne (some (c ∷ cs)) = some c
 abbrev pub includedName : ℕ → ℕ → Context → Option ℕ
 includedName file name c = onlyOne (includedNames file (name ∷ []) c)
 
-abbrev pub giveValue : Option ℕ → Option ℕ → Deed
+abbrev pub giveValue : Option ℕ → Option ℕ → BookStep
 giveValue local none b = b
 giveValue local (some c) b = setLocalValue local c b
 
 -- a pair of an include: an unfound public name leaves its local without value
-unfoldable pub compileAlias : ℕ → Alias → Deed
+unfoldable pub compileAlias : ℕ → Alias → BookStep
 compileAlias file a b =
     let d = defineContextLocal (a .alias .value) b in
     giveValue (d .place) (includedName file (a .publicName .value) (b .context)) (d .book)
 
 -- `compile_include_definition`
-unfoldable pub compileIncludeDefinition : ℕ → List Alias → Deed
+unfoldable pub compileIncludeDefinition : ℕ → List Alias → BookStep
 compileIncludeDefinition file [] b = b
 compileIncludeDefinition file (a ∷ as′) b = compileIncludeDefinition file as′ (compileAlias file a b)
 
@@ -298,7 +298,7 @@ givesValues file as′ c = cond (c .strict) (isThere (includedNames file (public
 
 -- 'otherwise no alias gets one and the bundle is refused': row 11 'as that include is reached', ahead of what the include itself would take. It is noted in
 -- its place among the steps of row 9, as an entry of an area that is not there and so has room for none (Uses.antt, `notPublicArea`)
-unfoldable pub compileInclude : ℕ → ℕ → List Alias → Deed
+unfoldable pub compileInclude : ℕ → ℕ → List Alias → BookStep
 compileInclude index file as′ b =
     cond (givesValues file as′ (b .context)) (compileIncludeDefinition file as′ b) (noted (notPublicArea index) 1 b)
 
@@ -318,22 +318,22 @@ valueOf t =
     (cond (eqb (t .kind) 33) (Adding (constantOf integerKind (t .value)))
     (cond (eqb (t .kind) 34) (Adding (constantOf floatKind (t .value))) NoConstant)))
 
-abbrev pub compileValue : Value → Token → Option ℕ → Deed
+abbrev pub compileValue : Value → Token → Option ℕ → BookStep
 compileValue (Standing c) t local b = setLocalValue local c b
 compileValue (Adding c) t local b = let a = addBookConstant c b in setLocalValue local (a .place) (a .book)
 compileValue NoConstant t local b = pushBookError 5 t b
 
 -- a repeated name is passed over before its value is looked at
-abbrev pub compileBindingBy : Option ℕ → Option Token → Deed
+abbrev pub compileBindingBy : Option ℕ → Option Token → BookStep
 compileBindingBy none value b = b
 compileBindingBy (some i) none b = b
 compileBindingBy (some i) (some t) b = compileValue (valueOf t) t (some i) b
 
-unfoldable pub compileBinding : Binding → Deed
+unfoldable pub compileBinding : Binding → BookStep
 compileBinding x b = let d = defineContextLocal (x .variable .value) b in compileBindingBy (d .place) (x .value) (d .book)
 
 -- `compile_local_definition`
-unfoldable pub compileLocalDefinition : List Binding → Deed
+unfoldable pub compileLocalDefinition : List Binding → BookStep
 compileLocalDefinition [] b = b
 compileLocalDefinition (x ∷ xs) b = compileLocalDefinition xs (compileBinding x b)
 
@@ -360,7 +360,7 @@ compileProperties [] ps b = record { texts = ps; book = b }
 compileProperties (t ∷ ts) ps b = let a = addProperty t ps b in compileProperties ts (a .texts) (a .book)
 
 -- `add_model`
-abbrev pub addModel : List ℕ → ℕ → Deed
+abbrev pub addModel : List ℕ → ℕ → BookStep
 addModel properties name b =
     noted modelsArea (modelCount (b .context) + 1)
     (withContext (withModels (b .context .program .models ++ (record { properties = properties; name = name; file = b .assembly .index } ∷ [])) (b .context)) b)
@@ -376,7 +376,7 @@ compileModelDefinition name properties b =
     let d = defineContextLocal (name .value) (a .book) in
     record { place = a .place; book = setLocalValue (d .place) (a .place) (d .book) }
 
-abbrev pub withPublics : List Entry → Deed
+abbrev pub withPublics : List Entry → BookStep
 withPublics ps b = record {
   compiler = b .compiler;
   assembly = record { filename = b .assembly .filename; index = b .assembly .index; publics = ps };
@@ -402,7 +402,7 @@ unfoldable pub compileBase : FunctionDefinition → Book → Made
 compileBase f b = let w = compileFunctionDefinitionBase (f .parameters) (f .body) (working b) in record { state = w .function; book = resumed w b }
 
 -- `add_function`
-abbrev pub addFunction : FunctionState → ℕ → Deed
+abbrev pub addFunction : FunctionState → ℕ → BookStep
 addFunction s name b =
     noted functionsArea (functionCount (b .context) + 1)
     (withContext (withFunctions (b .context .program .functions ++ (record { state = s; name = name; file = b .assembly .index } ∷ [])) (b .context)) b)
@@ -467,7 +467,7 @@ abbrev pub insertMethods : ℕ → List Entry → List Method → List Method
 insertMethods m [] l = l
 insertMethods m (e ∷ es) l = insertMethods m es (insertMethod (record { model = m; name = e .name; function = e .index }) l)
 
-abbrev pub addMethods : Option ℕ → List Entry → Deed
+abbrev pub addMethods : Option ℕ → List Entry → BookStep
 addMethods none es b = b
 addMethods (some m) es b =
     let methods = insertMethods m es (b .context .program .methods) in
@@ -486,7 +486,7 @@ compileMethods (f ∷ fs) es b =
     (addFunction (m .state) (f .name .value) (m .book))
 
 -- `compile_implement_definition`
-unfoldable pub compileImplementDefinition : Token → List FunctionDefinition → Deed
+unfoldable pub compileImplementDefinition : Token → List FunctionDefinition → BookStep
 compileImplementDefinition model fs b =
     let c = compileMethods fs [] b in
     let d = findModelIndexByLocalName model (c .book) in
@@ -502,7 +502,7 @@ methodsOf none c = []
 methodsOf (some m) c = methodsIn m (c .program .methods)
 
 -- `compile_apply_definition`: with an unknown source the target is still looked at
-unfoldable pub compileApplyDefinition : Token → Token → Deed
+unfoldable pub compileApplyDefinition : Token → Token → BookStep
 compileApplyDefinition source target b =
     let d = findModelIndexByLocalName source b in
     let es = methodsOf (d .place) (d .book .context) in
@@ -512,7 +512,7 @@ compileApplyDefinition source target b =
 -- documents
 
 -- `compile_definition`
-unfoldable pub compileDefinition : Definition → Deed
+unfoldable pub compileDefinition : Definition → BookStep
 compileDefinition (LocalDefinition bs) b = compileLocalDefinition bs b
 compileDefinition (IncludeDefinition index file as′) b = compileInclude index (file .value) as′ b
 compileDefinition (ModelDefinition n ps) b = compileModelDefinition n ps b .book
@@ -523,7 +523,7 @@ compileDefinition (ImplementDefinition m fs) b = compileImplementDefinition m fs
 compileDefinition (ApplyDefinition s t) b = compileApplyDefinition s t b
 
 -- `compile`
-unfoldable pub compileDefinitions : List Definition → Deed
+unfoldable pub compileDefinitions : List Definition → BookStep
 compileDefinitions [] b = b
 compileDefinitions (d ∷ ds) b = compileDefinitions ds (compileDefinition d b)
 

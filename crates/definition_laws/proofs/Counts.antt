@@ -1,5 +1,5 @@
 -- The entries in use are noted: all through a book, and so in what is delivered, the count of each area is at most its greatest note (or what stood before),
--- and each function's locals and small operands are within their bounds. By the invariant `BookKept` over the deeds of a book. Assumes nothing.
+-- and each function's locals and small operands are within their bounds. By the invariant `BookKept` over the steps of a book. Assumes nothing.
 use Prim.Native.Nat.{ℕ, zero, suc, _+_, _^_, _≤_, _<_}
 use native.Mathlib.Nat.{le-refl}
 use native.Mathlib.Omega.{arith}
@@ -28,7 +28,7 @@ use Rattle.definition.specs.Book.{hasText, Properties, addProperty, compileProp
 use Rattle.definition.specs.Book.{publish, Made, compileBase, addFunction, addPlainFunction, compileFunctionDefinition, modelOf}
 use Rattle.definition.specs.Book.{getLocalValue, findModelBy, findModelIn, findModelIndexByLocalName, addMethods, compileMethods}
 use Rattle.definition.specs.Book.{compileImplementDefinition, methodsOf, compileApplyDefinition, compileDefinition, compileDefinitions, opened}
-use Rattle.definition.specs.Book.{compileDocument, pushBookError, newContext, Deed}
+use Rattle.definition.specs.Book.{compileDocument, pushBookError, newContext, BookStep}
 use Rattle.definition.specs.DependencySolver.{Worked, Delivered, dependencies, allIn, findDocument, readyBy, ready, without, afterBook, driveBy}
 use Rattle.definition.specs.DependencySolver.{drive, filesOf, loadedOf, compileNeeded}
 use Rattle.definition.specs.Within.{All, nil, _&_}
@@ -73,7 +73,7 @@ record BookKept (S : ℕ → ℕ) (P : Prior) (left : ℕ) (b : Book.Book) : Typ
   functions : KeptFunctions (b .context .program .functions)
   counted : Counted S (b .uses) (countsOf (b .context) (length (b .assembly .publics)) left)
 
-record Keeping (S : ℕ → ℕ) (P : Prior) (left : ℕ) (d : Deed) : Type 0 where
+record Keeping (S : ℕ → ℕ) (P : Prior) (left : ℕ) (d : BookStep) : Type 0 where
   keeps : (b : Book.Book) → BookKept S P left b → BookKept S P left (d b)
 
 -- a function that is compiled and not yet added
@@ -120,7 +120,7 @@ module _ {S : ℕ → ℕ} {P : Prior} {left : ℕ} where
       go p none b k = k
       go p (some c) b k = kept-value p c b k
 
-  kept-then : {d e : Deed} → Keeping S P left d → Keeping S P left e → Keeping S P left (λ b. e (d b))
+  kept-then : {d e : BookStep} → Keeping S P left d → Keeping S P left e → Keeping S P left (λ b. e (d b))
   kept-then D E = record { keeps = λ b k. E .keeps _ (D .keeps b k) }
 
   kept-include : (file : ℕ) (l : List Alias) → Keeping S P left (compileIncludeDefinition file l)

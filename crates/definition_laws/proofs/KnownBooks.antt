@@ -1,5 +1,5 @@
 -- What a book adds is known to 2026-01's check (`document-known`): its functions' code, every name and text, every constant; a book's methods and public names
--- have distinct keys. By the invariant `KnownBook` over the deeds of a book. Assumes nothing.
+-- have distinct keys. By the invariant `KnownBook` over the steps of a book. Assumes nothing.
 use Prim.Native.Nat.{ℕ, _+_, _<_}
 use native.Mathlib.Omega.{arith}
 use mathlib.Core.Path.{_≡_, refl, sym, subst}

@@ -33,7 +33,7 @@ use Rattle.definition_laws.proofs.Safe.{ProgramSafe}
 use Rattle.definition_laws.proofs.Lists.{all-map, all-append, cond-case}
 use Rattle.definition_laws.proofs.Tests.{Test, passes}
 use Rattle.definition_laws.proofs.Cells.{entries-all}
-use Rattle.definition_laws.proofs.Steady.{PoolGrows, same-pool, not-shared, not-found}
+use Rattle.definition_laws.proofs.StepPreserves.{PoolGrows, same-pool, not-shared, not-found}
 use Rattle.definition_laws.proofs.SharedOnce.{standing-grows}
 use Rattle.definition_laws.proofs.Strict.{stays-definitions}
 use Rattle.definition_laws.proofs.Counts.{ready-among}

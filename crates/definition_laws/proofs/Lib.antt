@@ -21,7 +21,7 @@ pub mod Tables
 pub mod Delivery
 pub mod Promise
 pub mod Scopes
-pub mod Steady
+pub mod StepPreserves
 pub mod SharedOnce
 pub mod Modes
 pub mod Strict

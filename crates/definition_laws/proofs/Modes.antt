@@ -1,5 +1,5 @@
--- What no deed changes of a book, in either mode: what stood before, the books put away and the mode; and notes are only added (`Stays`). And what each deed
--- but an include does to a book in the present mode, it does in strict mode (`alike-…`): nothing else reads the mode. By cases over each deed. Assumes nothing.
+-- What no step changes of a book, in either mode: what stood before, the books put away and the mode; and notes are only added (`Stays`). And what each step
+-- but an include does to a book in the present mode, it does in strict mode (`alike-…`): nothing else reads the mode. By cases over each step. Assumes nothing.
 use Prim.Native.Nat.{ℕ, _+_}
 use mathlib.Core.Path.{_≡_, refl, sym, ap, _∙_}
 use mathlib.Core.Bool.{Bool, true, false, cond}
@@ -13,7 +13,7 @@ use Rattle.words.specs.Object.{Constant, constantOf, modelKind, functionKind}
 use Rattle.definition.specs.FunctionState.{Entry, FunctionState, findName}
 use Rattle.definition.specs.Prior.{bookIndex}
 use Rattle.definition.specs.Book
-use Rattle.definition.specs.Book.{functionCount, modelCount, Context, Deed, Placed, MaybePlaced, working, addBookConstant, defineContextLocal, noted}
+use Rattle.definition.specs.Book.{functionCount, modelCount, Context, BookStep, Placed, MaybePlaced, working, addBookConstant, defineContextLocal, noted}
 use Rattle.definition.specs.Book.{defineContextLocalBy, setLocalValue, inMode, withConstant}
 use Rattle.definition.specs.Book.{includedFrom, includedNames, onlyOne, withContext, propertyCount}
 use Rattle.definition.specs.Book.{includedName, giveValue, compileAlias, compileIncludeDefinition, Value, Standing, Adding, NoConstant, valueOf}
@@ -22,18 +22,18 @@ use Rattle.definition.specs.Book.{compileProperties, addModel, compileModelDefi
 use Rattle.definition.specs.Book.{compileFunctionDefinition, modelOf, getLocalValue, findModelBy, findModelIn, findModelIndexByLocalName, publish}
 use Rattle.definition.specs.Book.{addMethods, compileMethods, compileImplementDefinition, methodsOf, compileApplyDefinition, withEntryPoint}
 use Rattle.definition_laws.proofs.Lists.{cond-case}
-use Rattle.definition_laws.proofs.Steady.{Longer, same, more, longer-trans, steady-constant, steady-base}
+use Rattle.definition_laws.proofs.StepPreserves.{NotesGrow, same, more, longer-trans, preserves-constant, preserves-base}
 
 -- what stays
 
 pub record Stays (b b′ : Book.Book) : Type 0 where
-  pub uses : Longer (b .uses) (b′ .uses)
+  pub uses : NotesGrow (b .uses) (b′ .uses)
   pub prior : b′ .context .prior ≡ b .context .prior
   pub assemblies : b′ .context .assemblies ≡ b .context .assemblies
   pub filename : b′ .assembly .filename ≡ b .assembly .filename
   pub strict : b′ .context .strict ≡ b .context .strict
 
-abbrev pub Staying : Deed → Type 0
+abbrev pub Staying : BookStep → Type 0
 Staying d = (b : Book.Book) → Stays b (d b)
 
 pub stays-refl : (b : Book.Book) → Stays b b
@@ -49,7 +49,7 @@ stays-trans x y = record {
 }
 
 -- by one note more
-abbrev one-more : {b b′ : Book.Book} → Longer (b .uses) (b′ .uses) → b′ .context .prior ≡ b .context .prior → b′ .context .assemblies ≡ b .context .assemblies
+abbrev one-more : {b b′ : Book.Book} → NotesGrow (b .uses) (b′ .uses) → b′ .context .prior ≡ b .context .prior → b′ .context .assemblies ≡ b .context .assemblies
     → b′ .assembly .filename ≡ b .assembly .filename → b′ .context .strict ≡ b .context .strict → Stays b b′
 one-more u p a f s = record { uses = u; prior = p; assemblies = a; filename = f; strict = s }
 
@@ -60,7 +60,7 @@ stays-error : (n : ℕ) (t : Token) → Staying (pushBookError n t)
 stays-error n t b = one-more (more same) refl refl refl refl
 
 stays-constant : (c : Constant) → Staying (λ b. addBookConstant c b .book)
-stays-constant c b = one-more (steady-constant c (working b) .uses) refl refl refl refl
+stays-constant c b = one-more (preserves-constant c (working b) .uses) refl refl refl refl
 
 stays-define : (n : ℕ) → Staying (λ b. defineContextLocal n b .book)
 unfolding defineContextLocal
@@ -138,7 +138,7 @@ stays-base : (f : FunctionDefinition) → Staying (λ b. compileBase f b .book)
 unfolding compileBase
 stays-base f b = record {
   uses = longer-trans (more (more (more same)))
-      (steady-base f (working b) .uses);
+      (preserves-base f (working b) .uses);
   prior = refl;
   assemblies = refl;
   filename = refl;

@@ -1,5 +1,5 @@
 -- A delivery of laying on begins with what stood, in every area (`onto-grows`): code, functions, models, properties, context locals, public names and books
--- entry by entry the same; constants with their kinds and values, and no mark taken back; methods with their keys in their order. By the deeds of a book:
+-- entry by entry the same; constants with their kinds and values, and no mark taken back; methods with their keys in their order. By the steps of a book:
 -- marks are added in front, a method's key is never moved, and nothing else of a standing program is written. Assumes nothing.
 use Prim.Native.Nat.{ℕ, zero, suc, _+_, _≤_}
 use native.Mathlib.Nat.{le-refl}
@@ -36,8 +36,8 @@ use Rattle.definition.specs.Answer.{Delivery, answerFrom}
 use Rattle.definition.specs.Within.{Program, lengthsOf}
 use Rattle.definition.specs.Onto.{lentEntries, constantsOf, marksFrom, priorOf, contextOf, Checked, layOn}
 use Rattle.definition_laws.proofs.Lists.{cond-case}
-use Rattle.definition_laws.proofs.Steady.{PoolGrows, same-pool, not-shared, not-found, MarksGrow, same-marks, mark-more, marks-trans}
-use Rattle.definition_laws.proofs.Steady.{steady-constant, steady-base}
+use Rattle.definition_laws.proofs.StepPreserves.{PoolGrows, same-pool, not-shared, not-found, MarksGrow, same-marks, mark-more, marks-trans}
+use Rattle.definition_laws.proofs.StepPreserves.{preserves-constant, preserves-base}
 use Rattle.definition_laws.proofs.SharedOnce.{standing-grows}
 use Rattle.definition_laws.proofs.Answer.{delivering}
 use Rattle.definition_laws.proofs.Delivery.{standing-prior}
@@ -93,7 +93,7 @@ abbrev Adds : Book.Book → Book.Book → Type 0
 Adds b b′ = BookGrows (b .context .pool .globals) (b′ .context .pool .globals) (b .context .program .methods) (b′ .context .program .methods)
 
 adds-constant : (c : Constant) (b : Book.Book) → Adds b (addBookConstant c b .book)
-adds-constant c b = record { marks = steady-constant c (working b) .marks; methods = methods-same (b .context .program .methods) }
+adds-constant c b = record { marks = preserves-constant c (working b) .marks; methods = methods-same (b .context .program .methods) }
 
 adds-define : (n : ℕ) (b : Book.Book) → Adds b (defineContextLocal n b .book)
 unfolding defineContextLocal
@@ -176,7 +176,7 @@ adds-model n ts b =
 
 adds-base : (f : FunctionDefinition) (b : Book.Book) → Adds b (compileBase f b .book)
 unfolding compileBase
-adds-base f b = record { marks = steady-base f (working b) .marks; methods = methods-same (b .context .program .methods) }
+adds-base f b = record { marks = preserves-base f (working b) .marks; methods = methods-same (b .context .program .methods) }
 
 adds-plain : (o : Option ℕ) (s : FunctionState) (n : ℕ) (b : Book.Book) → Adds b (addPlainFunction o s n b .book)
 unfolding addPlainFunction

@@ -24,7 +24,7 @@ use Rattle.words.specs.Ast.{Binding, Alias, FunctionDefinition, Definition, Loc
 use Rattle.words.specs.Ast.{PlainFunction, PublicFunction, ImplementDefinition, ApplyDefinition, Document}
 use Rattle.definition.specs.Prior.{Entries, Prior, bookIndex, hasKey, findPublic}
 use Rattle.definition.specs.Book.{Function, Model, Method, Assembly, Context, functionCount, modelCount, bookCount, includedFrom, includedName}
-use Rattle.definition.specs.Book.{Deed, working, resumed, Placed, addBookConstant, MaybePlaced, defineContextLocal, defineContextLocalBy}
+use Rattle.definition.specs.Book.{BookStep, working, resumed, Placed, addBookConstant, MaybePlaced, defineContextLocal, defineContextLocalBy}
 use Rattle.definition.specs.Book.{withConstant, onlyOne, givesValues, compileInclude}
 use Rattle.definition.specs.Book.{setLocalValue, findAssembly, publicOf, giveValue, compileAlias, compileIncludeDefinition, Value, Standing, Adding}
 use Rattle.definition.specs.Book.{NoConstant, valueOf, compileValue, compileBindingBy, compileBinding, compileLocalDefinition}
@@ -296,15 +296,15 @@ value-pool : (o : Option ℕ) (c : ℕ) (b : Book.Book) → setLocalValue o c b 
 value-pool none c b = refl
 value-pool (some i) c b = refl
 
--- a deed that keeps the context within itself
-record Fine (d : Deed) : Type 0 where
+-- a step that keeps the context within itself
+record Fine (d : BookStep) : Type 0 where
   before : (b : Book.Book) → faults (d b) ≡ [] → faults b ≡ []
   keeps : (b : Book.Book) → BookGood b → faults (d b) ≡ [] → BookGood (d b)
 
 faulty : {A : Type 0} (n : ℕ) (t : Token) (b : Book.Book) → faults (pushBookError n t b) ≡ [] → A
 faulty n t b e = absurd (no-snoc (faults b) _ e)
 
-fine-then : {d e : Deed} → Fine d → Fine e → Fine (λ b. e (d b))
+fine-then : {d e : BookStep} → Fine d → Fine e → Fine (λ b. e (d b))
 fine-then D E = record { before = λ b h. D .before b (E .before _ h); keeps = λ b g h. E .keeps _ (D .keeps b g (E .before _ h)) h }
 
 -- includes
@@ -868,7 +868,7 @@ methods-good (f ∷ fs) es b g h e =
     methods-good fs _ _ (function-added _ _ _ (m .good) (m .safe)) (all-insert _ here (all-map (λ x q. omega (arith, n)) h)) e
 
 -- to a model found by its name
-abbrev toModel : Token → List Entry → Deed
+abbrev toModel : Token → List Entry → BookStep
 toModel t es b = addMethods (findModelIndexByLocalName t b .place) es (findModelIndexByLocalName t b .book)
 
 to-model-before : (t : Token) (es : List Entry) (b : Book.Book) → faults (toModel t es b) ≡ [] → faults b ≡ []

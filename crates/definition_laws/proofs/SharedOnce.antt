@@ -1,5 +1,5 @@
 -- Each shared constant has one entry (2026-05): a delivery's pool has no two shared constants that are the same. All through a book constants are added to the
--- pool as `addConstant` does (`PoolGrows`; for a function's pieces by `Steady`), and such adding keeps shared constants apart. Assumes nothing.
+-- pool as `addConstant` does (`PoolGrows`; for a function's pieces by `StepPreserves`), and such adding keeps shared constants apart. Assumes nothing.
 use Prim.Native.Nat.{ℕ, zero, suc, _+_, _<_}
 use native.Mathlib.Omega.{arith}
 use native.Mathlib.Decide.{decLt}
@@ -18,7 +18,7 @@ use Rattle.definition.specs.FunctionState.{Entry, FunctionState, findName}
 use Rattle.definition.specs.Uses.{Use}
 use Rattle.definition.specs.Compiler.{Error, findConstant}
 use Rattle.definition.specs.Book
-use Rattle.definition.specs.Book.{functionCount, modelCount, Context, newContext, Deed, Placed, working, addBookConstant, defineContextLocal}
+use Rattle.definition.specs.Book.{functionCount, modelCount, Context, newContext, BookStep, Placed, working, addBookConstant, defineContextLocal}
 use Rattle.definition.specs.Book.{defineContextLocalBy, setLocalValue, givesValues, compileInclude}
 use Rattle.definition.specs.Book.{includedName, giveValue, compileAlias, compileIncludeDefinition, Value, Standing, Adding, NoConstant, valueOf}
 use Rattle.definition.specs.Book.{compileValue, compileBindingBy, compileBinding, compileLocalDefinition, hasText, Properties, addProperty}
@@ -30,7 +30,7 @@ use Rattle.definition.specs.DependencySolver.{Worked, Delivered, ready, without
 use Rattle.definition.specs.Answer.{Delivery, answerFrom, answer}
 use Rattle.definition.specs.SharedOnce.{numbered, SharedOnce}
 use Rattle.definition_laws.proofs.Lists.{cond-case}
-use Rattle.definition_laws.proofs.Steady.{PoolGrows, same-pool, not-shared, not-found, grows-trans, steady-constant, steady-base}
+use Rattle.definition_laws.proofs.StepPreserves.{PoolGrows, same-pool, not-shared, not-found, grows-trans, preserves-constant, preserves-base}
 use Rattle.definition_laws.proofs.Answer.{delivering}
 
 -- a list of constants that grows keeps shared ones apart
@@ -72,11 +72,11 @@ grows-apart a (not-found ds d g e) = apart-more ds d (grows-apart a g) (λ s i h
 abbrev poolOf : Book.Book → List Constant
 poolOf b = b .context .pool .constants
 
-abbrev Grows : Deed → Type 0
+abbrev Grows : BookStep → Type 0
 Grows d = (b : Book.Book) → PoolGrows (poolOf b) (poolOf (d b))
 
 grows-constant : (c : Constant) (b : Book.Book) → PoolGrows (poolOf b) (poolOf (addBookConstant c b .book))
-grows-constant c b = steady-constant c (working b) .pool
+grows-constant c b = preserves-constant c (working b) .pool
 
 grows-define : (n : ℕ) (b : Book.Book) → PoolGrows (poolOf b) (poolOf (defineContextLocal n b .book))
 unfolding defineContextLocal
@@ -158,7 +158,7 @@ grows-model n ts b =
 
 grows-base : (f : FunctionDefinition) (b : Book.Book) → PoolGrows (poolOf b) (poolOf (compileBase f b .book))
 unfolding compileBase
-grows-base f b = steady-base f (working b) .pool
+grows-base f b = preserves-base f (working b) .pool
 
 grows-plain : (o : Option ℕ) (s : FunctionState) (n : ℕ) (b : Book.Book) → PoolGrows (poolOf b) (poolOf (addPlainFunction o s n b .book))
 unfolding addPlainFunction

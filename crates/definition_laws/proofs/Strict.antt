@@ -21,7 +21,7 @@ use Rattle.definition.specs.FunctionState.{orElse}
 use Rattle.definition.specs.Uses.{Use, Limits, using′, limitOf, firstOver, overBy, firstNotPublic, notPublicArea}
 use Rattle.definition.specs.Compiler.{Error}
 use Rattle.definition.specs.Book
-use Rattle.definition.specs.Book.{Context, inMode, Deed, newContext, noted}
+use Rattle.definition.specs.Book.{Context, inMode, BookStep, newContext, noted}
 use Rattle.definition.specs.Book.{givesValues, compileInclude, compileIncludeDefinition, compileDefinition, compileDefinitions}
 use Rattle.definition.specs.Book.{opened, compileDocument, publish, compileModelDefinition, compileFunctionDefinition, withContext, withAssemblies}
 use Rattle.definition.specs.DependencySolver.{Worked, Ending, Delivered, Faulty, Ring, ready, without, afterBook, driveBy, drive, loadedOf, needed}
@@ -31,7 +31,7 @@ use Rattle.definition.specs.Answer.{Answer, Delivery, Refusal, answerOver, answ
 use Rattle.definition.specs.Answer.{answerEnding, answerWorked, answerNeeded, answerBundle, answerDocuments}
 use Rattle.definition.specs.Answer.{answerTwice, answerShape, answerFrom, answer, twice, documentPlaces, limitsBy, limitsOf, replyOf, areasOf}
 use Rattle.definition.specs.Strict.{inPresent}
-use Rattle.definition_laws.proofs.Steady.{Longer, same, more, longer-trans}
+use Rattle.definition_laws.proofs.StepPreserves.{NotesGrow, same, more, longer-trans}
 use Rattle.definition_laws.proofs.Modes.{Stays, Staying, stays-refl, stays-trans, stays-noted, stays-include, stays-locals, stays-model, stays-publish}
 use Rattle.definition_laws.proofs.Modes.{stays-function, stays-implement, stays-apply, present, alike-include, alike-locals, alike-model, alike-function}
 use Rattle.definition_laws.proofs.Modes.{alike-implement, alike-apply}
@@ -39,7 +39,7 @@ use Rattle.definition_laws.proofs.Lists.{cond-case}
 
 -- notes
 
-pub first-longer : (l : Limits) {us vs : List Use} {a : ℕ} → Longer us vs → firstOver l us ≡ some a → firstOver l vs ≡ some a
+pub first-longer : (l : Limits) {us vs : List Use} {a : ℕ} → NotesGrow us vs → firstOver l us ≡ some a → firstOver l vs ≡ some a
 unfolding firstOver
 first-longer l same h = h
 first-longer l (more {v = v} m) h = ap (λ (o : Option ℕ). orElse o (overBy l v)) (first-longer l m h)
@@ -75,7 +75,7 @@ row-11 index =
 -- a work in strict mode and the same in the present mode: alike, or parted at an include from the same notes on
 pub data Beside (b b′ : Book.Book) : Type 0 where
   agree : b′ ≡ present b → Beside b b′
-  parted : (us : List Use) (index : ℕ) → Longer (refusing index ∷ us) (b .uses) → Longer us (b′ .uses) → Beside b b′
+  parted : (us : List Use) (index : ℕ) → NotesGrow (refusing index ∷ us) (b .uses) → NotesGrow us (b′ .uses) → Beside b b′
 
 pub stays-definition : (d : Definition) → Staying (compileDefinition d)
 unfolding compileDefinition compileInclude
@@ -133,16 +133,16 @@ beside-document d c us = go (beside-definitions (d .definitions) (opened d c us)
 
 -- the books in their order
 
-pub document-longer : (d : Document) (c : Context) (us : List Use) → Longer us (compileDocument d c us .uses)
+pub document-longer : (d : Document) (c : Context) (us : List Use) → NotesGrow us (compileDocument d c us .uses)
 unfolding compileDocument
 document-longer d c us = stays-definitions (d .definitions) (opened d c us) .uses
 
 after-longer : (es : List Error) (file : ℕ) (c : Context) (us : List Use) (go : Context → List Use → Worked)
-    → ((c : Context) (us : List Use) → Longer us (go c us .uses)) → Longer us (afterBook es file c us go .uses)
+    → ((c : Context) (us : List Use) → NotesGrow us (go c us .uses)) → NotesGrow us (afterBook es file c us go .uses)
 after-longer [] file c us go h = h c us
 after-longer (e ∷ es) file c us go h = same
 
-pub drive-longer : (k : ℕ) (ds : List Document) (done left : List ℕ) (c : Context) (us : List Use) → Longer us (drive k ds done left c us .uses)
+pub drive-longer : (k : ℕ) (ds : List Document) (done left : List ℕ) (c : Context) (us : List Use) → NotesGrow us (drive k ds done left c us .uses)
 unfolding drive
 drive-longer zero ds done left c us = same
 drive-longer (suc k) ds done left c us = go (ready ds done left) (λ d c′ us′. drive-longer k ds _ _ c′ us′)
@@ -150,8 +150,8 @@ drive-longer (suc k) ds done left c us = go (ready ds done left) (λ d c′ us�
     next : Document → Context → List Use → Worked
     next d c′ us′ = drive k ds (d .filename ∷ done) (without (d .filename) left) c′ us′
 
-    go : (o : Option Document) → ((d : Document) (c′ : Context) (us′ : List Use) → Longer us′ (next d c′ us′ .uses))
-        → Longer us (driveBy o left c us next .uses)
+    go : (o : Option Document) → ((d : Document) (c′ : Context) (us′ : List Use) → NotesGrow us′ (next d c′ us′ .uses))
+        → NotesGrow us (driveBy o left c us next .uses)
     go none h = more same
     go (some d) h =
         let b = compileDocument d c us in
@@ -164,7 +164,7 @@ presently (Ring l) = Ring l
 
 data Together (w w′ : Worked) : Type 0 where
   agree : w′ .uses ≡ w .uses → w′ .ending ≡ presently (w .ending) → Together w w′
-  parted : (us : List Use) (index : ℕ) → Longer (refusing index ∷ us) (w .uses) → Longer us (w′ .uses) → Together w w′
+  parted : (us : List Use) (index : ℕ) → NotesGrow (refusing index ∷ us) (w .uses) → NotesGrow us (w′ .uses) → Together w w′
 
 together-drive : (k : ℕ) (ds : List Document) (done left : List ℕ) (c : Context) (us : List Use)
     → Together (drive k ds done left c us) (drive k ds done left (inMode false c) us)
@@ -175,7 +175,7 @@ together-drive (suc k) ds done left c us = go (ready ds done left) (λ d c′ us
     next : Document → Context → List Use → Worked
     next d c′ us′ = drive k ds (d .filename ∷ done) (without (d .filename) left) c′ us′
 
-    longer : (d : Document) (b : Book.Book) → Longer (b .uses) (afterBook (b .compiler .errors) (d .filename) (b .context) (b .uses) (next d) .uses)
+    longer : (d : Document) (b : Book.Book) → NotesGrow (b .uses) (afterBook (b .compiler .errors) (d .filename) (b .context) (b .uses) (next d) .uses)
     longer d b = after-longer (b .compiler .errors) (d .filename) (b .context) (b .uses) (next d) (λ c′ us′. drive-longer k ds _ _ c′ us′)
 
     after : (d : Document) (es : List Error) (c′ : Context) (us′ : List Use) → Together (next d c′ us′) (next d (inMode false c′) us′)

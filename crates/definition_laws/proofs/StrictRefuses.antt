@@ -31,7 +31,7 @@ use Rattle.definition.specs.Answer.{answerEnding, answerWorked, answerNeeded, a
 use Rattle.definition.specs.Answer.{answerTwice, answerShape, answerFrom, twice, documentPlaces, limitsOf}
 use Rattle.definition.specs.Strict.{NamesPublic, BookPublic, BooksPublic, AllPublic}
 use Rattle.definition.specs.Within.{All, nil, _&_}
-use Rattle.definition_laws.proofs.Steady.{Longer, same, more, longer-trans}
+use Rattle.definition_laws.proofs.StepPreserves.{NotesGrow, same, more, longer-trans}
 use Rattle.definition_laws.proofs.Modes.{Stays}
 use Rattle.definition_laws.proofs.Strict.{stays-definition, stays-definitions, document-longer, drive-longer, first-longer, noted-first, refusing}
 use Rattle.definition_laws.proofs.Lists.{cond-case, all-map}
@@ -105,7 +105,7 @@ public-later (ApplyDefinition x y) L h = tt
 
 -- notes that fit
 
-none-before : (l : Limits) {us vs : List Use} → Longer us vs → firstOver l vs ≡ none → firstOver l us ≡ none
+none-before : (l : Limits) {us vs : List Use} → NotesGrow us vs → firstOver l vs ≡ none → firstOver l us ≡ none
 none-before l {us} m h = go (firstOver l us) refl
   where
     go : (o : Option ℕ) → firstOver l us ≡ o → firstOver l us ≡ none
@@ -116,7 +116,7 @@ module _ (lengths : List ℕ) where
   abbrev κ : Limits
   κ = limitsOf lengths
 
-  no-refusal : (index : ℕ) {us vs : List Use} → Longer (refusing index ∷ us) vs → firstOver κ vs ≡ none → ⊥
+  no-refusal : (index : ℕ) {us vs : List Use} → NotesGrow (refusing index ∷ us) vs → firstOver κ vs ≡ none → ⊥
   no-refusal index {us} m h =
       let before : firstOver κ us ≡ none = none-before κ (longer-trans (more same) m) h in
       let z : some (notPublicArea index) ≡ none = sym (first-longer κ m (noted-first lengths index us before)) ∙ h in
@@ -124,7 +124,7 @@ module _ (lengths : List ℕ) where
 
   -- an include that is no refusal, in strict mode
   include-public : (index : ℕ) (file : Token) (l : List Alias) (b : Book.Book) {vs : List Use} → b .context .strict ≡ true
-      → Longer (compileInclude index (file .value) l b .uses) vs → firstOver κ vs ≡ none
+      → NotesGrow (compileInclude index (file .value) l b .uses) vs → firstOver κ vs ≡ none
       → isThere (includedNames (file .value) (publicNames l) (b .context)) ≡ true
   unfolding compileInclude
   include-public index file l b {vs} strict m h = go (givesValues (file .value) l (b .context)) refl m
@@ -133,11 +133,11 @@ module _ (lengths : List ℕ) where
       names = includedNames (file .value) (publicNames l) (b .context)
 
       go : (t : Bool) → givesValues (file .value) l (b .context) ≡ t
-          → Longer (cond t (compileIncludeDefinition (file .value) l b) (noted (notPublicArea index) 1 b) .uses) vs → isThere names ≡ true
+          → NotesGrow (cond t (compileIncludeDefinition (file .value) l b) (noted (notPublicArea index) 1 b) .uses) vs → isThere names ≡ true
       go true q n = sym (ap (λ (s : Bool). cond s (isThere names) true) strict) ∙ q
       go false q n = absurd (no-refusal index n h)
 
-  definition-public : (d : Definition) (b : Book.Book) {vs : List Use} → b .context .strict ≡ true → Longer (compileDefinition d b .uses) vs
+  definition-public : (d : Definition) (b : Book.Book) {vs : List Use} → b .context .strict ≡ true → NotesGrow (compileDefinition d b .uses) vs
       → firstOver κ vs ≡ none → NamesPublic (b .context) d
   unfolding compileDefinition
   definition-public (IncludeDefinition index file l) b strict m h = include-public index file l b strict m h

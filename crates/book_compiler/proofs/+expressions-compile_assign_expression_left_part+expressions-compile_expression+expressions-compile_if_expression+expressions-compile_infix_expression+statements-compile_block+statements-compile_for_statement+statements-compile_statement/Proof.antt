@@ -7,7 +7,7 @@ use lib.ListN.{length}
 use Rattle.compiler_laws.specs.Cells.{stateOf}
 use Rattle.compiler_laws.proofs.Tokens.{skip-more, skip-inside}
 use Rattle.book_compiler.specs.Represents.{Memory, laid}
-use Rattle.book_compiler.specs.Members.{MeetsEs, MeetsList, MeetsSs, MeetsVariables}
+use Rattle.book_compiler.specs.Members.{CompilesExpressions, CompilesList, CompilesStatements, CompilesVariables}
 use Rattle.book_compiler.proofs.ExpressionKinds as e
 use Rattle.book_compiler.proofs.Infix as i
 use Rattle.book_compiler.proofs.Ifs as f
@@ -218,8 +218,8 @@ statements·compile-statement-below t = and
 abbrev expressions·compile-assign-expression-left-part-Inv-loop :
     expressions·compile-assign-expression-left-part-lts.InvT-loop
 expressions·compile-assign-expression-left-part-Inv-loop tree at end starts memory₀ cells₀ start count position value full kind place text i₀ memory cells i =
-    (at < i) × (length memory ≡ length memory₀) × ((m : Memory) → MeetsEs tree i end start count
-    (laid (stateOf cells) starts memory) m → MeetsEs tree (at + 1) end start count (laid (stateOf cells₀) starts memory₀) m)
+    (at < i) × (length memory ≡ length memory₀) × ((m : Memory) → CompilesExpressions tree i end start count
+    (laid (stateOf cells) starts memory) m → CompilesExpressions tree (at + 1) end start count (laid (stateOf cells₀) starts memory₀) m)
 
 abbrev expressions·compile-assign-expression-left-part-μ-loop :
     expressions·compile-assign-expression-left-part-lts.MeasureT-loop
@@ -227,32 +227,32 @@ expressions·compile-assign-expression-left-part-μ-loop tree at end starts memo
 
 abbrev expressions·compile-expression-Inv-loop : expressions·compile-expression-lts.InvT-loop
 expressions·compile-expression-Inv-loop tree at end starts memory₀ cells₀ start count full kind position value i₀ n₀ memory cells i n = (at + n < i) ×
-    (length memory ≡ length memory₀) × ((m : Memory) (r : ℕ) → MeetsList tree i end start count
-    (laid (stateOf cells) starts memory) m n r → MeetsList tree (at + 1) end start count (laid (stateOf cells₀) starts memory₀) m 0 r)
+    (length memory ≡ length memory₀) × ((m : Memory) (r : ℕ) → CompilesList tree i end start count
+    (laid (stateOf cells) starts memory) m n r → CompilesList tree (at + 1) end start count (laid (stateOf cells₀) starts memory₀) m 0 r)
 
 abbrev expressions·compile-expression-μ-loop : expressions·compile-expression-lts.MeasureT-loop
 expressions·compile-expression-μ-loop tree at end starts memory₀ cells₀ start count full kind position value i₀ n₀ memory cells i n = end - i
 
 abbrev statements·compile-block-Inv-loop : statements·compile-block-lts.InvT-loop
 statements·compile-block-Inv-loop tree at end starts memory₀ cells₀ start count around i₀ memory cells i = (at < i) × (length memory ≡ length memory₀) ×
-    ((m : Memory) → MeetsSs tree i end start count (laid (stateOf cells) starts memory) m
-    → MeetsSs tree (at + 1) end start count (laid (stateOf cells₀) starts memory₀) m)
+    ((m : Memory) → CompilesStatements tree i end start count (laid (stateOf cells) starts memory) m
+    → CompilesStatements tree (at + 1) end start count (laid (stateOf cells₀) starts memory₀) m)
 
 abbrev statements·compile-block-μ-loop : statements·compile-block-lts.MeasureT-loop
 statements·compile-block-μ-loop tree at end starts memory₀ cells₀ start count around i₀ memory cells i = end - i
 
 abbrev statements·compile-for-statement-Inv-loop : statements·compile-for-statement-lts.InvT-loop
 statements·compile-for-statement-Inv-loop tree at end starts memory₀ cells₀ start count position text text-position body around first exit i₀ memory cells i =
-    (at < i) × (length memory ≡ length memory₀) × ((m : Memory) → MeetsSs tree i end start count
-    (laid (stateOf cells) starts memory) m → MeetsSs tree body end start count (laid (stateOf cells₀) starts memory₀) m)
+    (at < i) × (length memory ≡ length memory₀) × ((m : Memory) → CompilesStatements tree i end start count
+    (laid (stateOf cells) starts memory) m → CompilesStatements tree body end start count (laid (stateOf cells₀) starts memory₀) m)
 
 abbrev statements·compile-for-statement-μ-loop : statements·compile-for-statement-lts.MeasureT-loop
 statements·compile-for-statement-μ-loop tree at end starts memory₀ cells₀ start count position text text-position body around first exit i₀ memory cells i = end - i
 
 abbrev statements·compile-statement-Inv-loop : statements·compile-statement-lts.InvT-loop
 statements·compile-statement-Inv-loop tree at end starts memory₀ cells₀ start count full kind position depth i₀ memory cells i = (at < i) ×
-    (length memory ≡ length memory₀) × ((m : Memory) → MeetsVariables tree i end start count
-    (laid (stateOf cells) starts memory) m → MeetsVariables tree (at + 1) end start count (laid (stateOf cells₀) starts memory₀) m)
+    (length memory ≡ length memory₀) × ((m : Memory) → CompilesVariables tree i end start count
+    (laid (stateOf cells) starts memory) m → CompilesVariables tree (at + 1) end start count (laid (stateOf cells₀) starts memory₀) m)
 
 abbrev statements·compile-statement-μ-loop : statements·compile-statement-lts.MeasureT-loop
 statements·compile-statement-μ-loop tree at end starts memory₀ cells₀ start count full kind position depth i₀ memory cells i = end - i

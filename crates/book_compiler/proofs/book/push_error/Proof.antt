@@ -5,7 +5,7 @@ use Rattle.memory.specs.Layout.{part, withPart}
 use Rattle.book_compiler.proofs.BookParts.{area-part, area-wide, area-back}
 use Rattle.book_compiler.proofs.ConstantCount.{fault-constants}
 use Rattle.compiler_laws.proofs.ConstantLeaves.{faults}
-use Rattle.compiler_laws.proofs.BookLeaves.{fault-deeds}
+use Rattle.compiler_laws.proofs.BookLeaves.{fault-simulates}
 use Rattle.words.specs.Record.{tokenAt, positionAt, kindAt, valueAt}
 use Rattle.book_compiler.proofs.book.push_error.Statement.{statement}
 use Rattle.book_compiler.proofs.book.push_error.Tie as tie
@@ -22,7 +22,7 @@ returns c =
           (valueAt (c12 .args .tree .now) (c12 .args .at)) (part (c12 .args .starts .now) 11 (c12 .args .memory .now)) (c5 .working .ensures)
           (c .before .before .before .fault .ensures) (c .resumed .ensures);
       acts = area-part {i = 11} (c12 .args .starts .now) (c12 .args .memory .now) (c .before .before .before .fault .last .1 .1 .0)
-          (fault-deeds (c12 .args .number) (tokenAt (c12 .args .tree .now) (c12 .args .at)) (c5 .working .ensures) (faults (c12 .args .tree .now) (c12 .args .at)
+          (fault-simulates (c12 .args .number) (tokenAt (c12 .args .tree .now) (c12 .args .at)) (c5 .working .ensures) (faults (c12 .args .tree .now) (c12 .args .at)
           (c12 .args .number) (c .before .before .before .fault .ensures))
           (c .resumed .ensures)) (c .before .before .before .fault .kept .1 .1 .0);
     }

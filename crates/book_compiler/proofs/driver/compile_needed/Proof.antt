@@ -1,6 +1,6 @@
 -- `book_compiler::driver::compile_needed` meets its contract: too many records, no room for the books, and the books. Assumes nothing.
 -- Made from Proof.answers by `answers make`: edit that file, and not this one.
-use Rattle.compiler_laws.proofs.DefinitionKinds.{calm-definition}
+use Rattle.compiler_laws.proofs.DefinitionKinds.{unchanged-definition}
 use Rattle.book_compiler.proofs.BookBeginning.{needed-huge, needed-full, needed-on}
 use mathlib.Core.Path.{refl, _∙_}
 use Rattle.book_compiler.proofs.driver.compile_needed.Statement.{statement}
@@ -16,7 +16,7 @@ same-length : tie.Need-same-length
 same-length c = (c .before .before .before .before .begin-books .kept .1 .1 .1 .1 .1 .1 .0)
 
 returns-2 : tie.Need-returns-2
-returns-2 c = needed-full (c .before .before .before .before .begin-books .ensures) calm-definition refl (c .if2 .taken) 0 0
+returns-2 c = needed-full (c .before .before .before .before .begin-books .ensures) unchanged-definition refl (c .if2 .taken) 0 0
 
 drive-requires : tie.Need-drive-requires
 drive-requires c κs = c .before .before .if2 .left

@@ -1,6 +1,6 @@
 -- `book_compiler::driver::drive` meets its contract. The invariant: what finishes from here finishes the whole. Assumes nothing.
 -- Made from Proof.answers by `answers make`: edit that file, and not this one.
-use Rattle.compiler_laws.proofs.DefinitionKinds.{calm-definition}
+use Rattle.compiler_laws.proofs.DefinitionKinds.{unchanged-definition}
 use Rattle.book_compiler.proofs.BookRounds.{drive-end, drive-ring, round-full, round-faulty, round-more}
 use Rattle.book_compiler.specs.RepresentsBook.{BookMemory, bookLaid}
 use Rattle.book_compiler.specs.BookOrder.{Drives}
@@ -62,7 +62,7 @@ returns-2 c =
     let c11 = c7 .before .before .before .before in
     let c15 = c11 .before .before .before .before in
     c15 .loop .inv .3 _ 0 0 (round-full (c11 .next-book .ensures) (c7 .if1 .left) (c6 .skip .ensures)
-    (c .before .before .before .before .compile-document .ensures) calm-definition (c .if2 .taken) 0 0)
+    (c .before .before .before .before .compile-document .ensures) unchanged-definition (c .if2 .taken) 0 0)
 
 same-length-5 : tie.Need-same-length-5 Inv-loop μ-loop
 same-length-5 c =
@@ -83,7 +83,7 @@ returns-3 c =
     let c9 = c8 .before in
     let c13 = c9 .before .before .before .before in
     let c17 = c13 .before .before .before .before in
-    c17 .loop .inv .3 _ 7 _ (round-faulty (c13 .next-book .ensures) (c9 .if1 .left) (c8 .skip .ensures) (c6 .compile-document .ensures) calm-definition
+    c17 .loop .inv .3 _ 7 _ (round-faulty (c13 .next-book .ensures) (c9 .if1 .left) (c8 .skip .ensures) (c6 .compile-document .ensures) unchanged-definition
     (c .before .before .if2 .left) (c .if3 .taken))
 
 add-done : tie.Need-add-done Inv-loop μ-loop
@@ -109,7 +109,7 @@ loop-again c =
       c10 .compile-document .kept .1 .1 .1 .1 .0 ∙ c17 .next-book .kept .1 .1 .1 .1 .1 .1 .0 ∙ c21 .loop .inv .1,
       c .before .before .add .kept .0 ∙ c21 .loop .inv .2,
       λ m′ row place h. c21 .loop .inv .3 m′ row place
-          (round-more (c17 .next-book .ensures) (c13 .if1 .left) (c12 .skip .ensures) (c10 .compile-document .ensures) calm-definition (c6 .if2 .left)
+          (round-more (c17 .next-book .ensures) (c13 .if1 .left) (c12 .skip .ensures) (c10 .compile-document .ensures) unchanged-definition (c6 .if2 .left)
           (c .before .before .before .before .if3 .left) (c .before .before .add .ensures .words) h),
     )
 
@@ -120,7 +120,7 @@ same-length-8 : tie.Need-same-length-8 Inv-loop μ-loop
 same-length-8 c = (c .before .loop .inv .2)
 
 returns-4 : tie.Need-returns-4 Inv-loop μ-loop
-returns-4 c = c .before .loop .inv .3 _ 0 _ (drive-end calm-definition (c .loop-test .left) refl)
+returns-4 c = c .before .loop .inv .3 _ 0 _ (drive-end unchanged-definition (c .loop-test .left) refl)
 
 pub drive-spec : {M : Type 1} → statement M
 drive-spec =

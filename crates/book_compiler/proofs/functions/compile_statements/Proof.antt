@@ -6,7 +6,7 @@ use lib.ListN.{length}
 use Rattle.compiler_laws.specs.Cells.{stateOf}
 use Rattle.compiler_laws.proofs.Tokens.{skip-more}
 use Rattle.book_compiler.specs.Represents.{Memory, laid}
-use Rattle.book_compiler.specs.Members.{MeetsSs}
+use Rattle.book_compiler.specs.Members.{CompilesStatements}
 use Rattle.book_compiler.proofs.StatementKinds.{list-end, list-more}
 use Rattle.book_compiler.proofs.functions.compile_statements.Statement.{statement}
 use Rattle.book_compiler.proofs.functions.compile_statements.Tie as tie
@@ -14,9 +14,9 @@ use borrow.Author.Needs.{needs}
 use native.Mathlib.Omega.{arith}
 
 abbrev Inv-loop : tie.InvT-loop
-Inv-loop tree at end starts memory₀ cells₀ start count i₀ memory cells i = (length memory ≡ length memory₀) × ((m : Memory) → MeetsSs tree i end start count
+Inv-loop tree at end starts memory₀ cells₀ start count i₀ memory cells i = (length memory ≡ length memory₀) × ((m : Memory) → CompilesStatements tree i end start count
     (laid (stateOf cells) starts memory) m
-    → MeetsSs tree at end start count (laid (stateOf cells₀) starts memory₀) m)
+    → CompilesStatements tree at end start count (laid (stateOf cells₀) starts memory₀) m)
 
 abbrev μ-loop : tie.MeasureT-loop
 μ-loop tree at end starts memory₀ cells₀ start count i₀ memory cells i = end - i

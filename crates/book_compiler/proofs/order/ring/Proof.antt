@@ -1,7 +1,7 @@
 -- `book_compiler::order::ring` meets its contract. The invariant: what is rung from here is rung from the start. Assumes nothing.
 -- Made from Proof.answers by `answers make`: edit that file, and not this one.
 use Rattle.book_compiler.proofs.BookRounds.{ring-done, ring-on}
-use Rattle.book_compiler.specs.BookOrder.{RingsIn}
+use Rattle.book_compiler.specs.BookOrder.{PushesRingErrorsIn}
 use Rattle.building.specs.declared.taking.Taken.{Taken}
 use Rattle.building.specs.Taking.{taken}
 use lib.ListN.{length}
@@ -14,7 +14,7 @@ use native.Mathlib.Omega.{arith}
 
 abbrev Inv-loop : tie.InvT-loop
 Inv-loop done count starts memory₀ t₀ k₀ memory t k = (length memory ≡ length memory₀)
-    × ((r : Taken) (after : List ℕ) → RingsIn k count t starts memory r after → RingsIn done count (taken 0 0) starts memory₀ r after)
+    × ((r : Taken) (after : List ℕ) → PushesRingErrorsIn k count t starts memory r after → PushesRingErrorsIn done count (taken 0 0) starts memory₀ r after)
 
 abbrev μ-loop : tie.MeasureT-loop
 μ-loop done count starts memory₀ t₀ k₀ memory t k = count - k

@@ -91,7 +91,7 @@ abbrev pub Sized : Limits → ℕ → List ℕ → Type 0
 Sized κ area l = entriesIn (widthOf area) (length l) ≡ limitOf κ area
 
 -- within the limits κ, the machine stands for w
-pub record Held (κ : Limits) (earlier : Entries) (m : Machine) (w : Work) : Type 0 where
+pub record RepresentsMachine (κ : Limits) (earlier : Entries) (m : Machine) (w : Work) : Type 0 where
   pub code-cap : Sized κ codeArea (m .code)
   pub constants-cap : Sized κ constantsArea (m .constants)
   pub names-cap : Sized κ scopeNamesArea (m .names)
