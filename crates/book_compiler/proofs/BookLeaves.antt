@@ -43,7 +43,7 @@ adds-constant {kind} {value} {place} {s} {s′} {a} {w} {w′} {before} {state} 
 module _ {m m′ : BookMemory} where
   pub error-pushed : {number : ℕ} {token : Token} → PushesBookError number token m m′ → SimulatesBook m m′ (pushBookError number token)
   error-pushed d =
-      area-simulates (omega arith) refl (d .constants) (d .acts) (λ x r. r .deeds (areaOf m codeArea) (areaOf m constantsArea) (areaOf m functionsArea) (areaOf m modelsArea)
+      area-simulates (omega arith) refl (d .constants) (d .acts) (λ x r. r .simulates (areaOf m codeArea) (areaOf m constantsArea) (areaOf m functionsArea) (areaOf m modelsArea)
       (areaOf m propertiesArea) (areaOf m methodsArea) (areaOf m contextLocalsArea) (areaOf m publicNamesArea) (areaOf m scopeNamesArea)
       (areaOf m breaksArea))
 
@@ -101,14 +101,14 @@ module _ {m m′ : BookMemory} where
   pub method-inserted : {model name function : ℕ} → InsertsBookMethod model name function m m′
       → SimulatesBook m m′ (addMethods (some model) (record { name = name; index = function } ∷ []))
   method-inserted d =
-      area-simulates (omega arith) refl (d .constants) (d .acts) (λ x r. r .deeds (areaOf m codeArea) (areaOf m constantsArea) (areaOf m functionsArea) (areaOf m modelsArea)
+      area-simulates (omega arith) refl (d .constants) (d .acts) (λ x r. r .simulates (areaOf m codeArea) (areaOf m constantsArea) (areaOf m functionsArea) (areaOf m modelsArea)
       (areaOf m propertiesArea) (areaOf m contextLocalsArea) (areaOf m publicNamesArea) (areaOf m scopeNamesArea) (areaOf m breaksArea)
       (areaOf m errorsArea))
 
   pub methods-copied : {source target : ℕ} → CopiesBookMethods source target m m′
       → SimulatesBook m m′ (λ w. addMethods (some target) (methodsIn source (w .context .program .methods)) w)
   methods-copied d =
-      area-simulates (omega arith) refl (d .constants) (d .acts) (λ x r. r .deeds (areaOf m codeArea) (areaOf m constantsArea) (areaOf m functionsArea) (areaOf m modelsArea)
+      area-simulates (omega arith) refl (d .constants) (d .acts) (λ x r. r .simulates (areaOf m codeArea) (areaOf m constantsArea) (areaOf m functionsArea) (areaOf m modelsArea)
       (areaOf m propertiesArea) (areaOf m contextLocalsArea) (areaOf m publicNamesArea) (areaOf m scopeNamesArea) (areaOf m breaksArea)
       (areaOf m errorsArea))
 

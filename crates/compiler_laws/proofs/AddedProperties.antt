@@ -123,7 +123,7 @@ module _ {tree : List ℕ} {at first : ℕ} {s : struct.Book} {p e : List ℕ} w
         let has : hasText (valueAt tree at) ps ≡ true =
         rw value at (there-by name z c k f m t l u n b κ ps w (start z) H
         ∙ ap isThere (found-at (findPairC 2 first (s .properties) (s .models) name p) searched at-i)) in
-        rw has (E .deeds c k f m p t l u n b .meets κ ps w H);
+        rw has (E .simulates c k f m p t l u n b .meets κ ps w H);
   }
 
   pub property-new : s .full ≡ 0 → {g : Found} {name : ℕ} → name ≡ valueAt tree at

@@ -49,7 +49,7 @@ module _ {s s′ : struct.Book} {before r : FunctionState} {e e′ : List ℕ} (
     (back : s′ ≡ resumedBook s r) where
   pub fault-simulates : ErrorsDo s e s′ e′ (pushBookError number token)
   fault-simulates = record {
-    deeds = λ c k f m p t l u n b. record {
+    simulates = λ c k f m p t l u n b. record {
       meets = λ κ ps x H.
           rw back (keeping-held H {w = pushError number token (working x)} (more same) refl refl refl
           (acts .acts c k n b .meets κ (codeSoFar x) (working x) (rw worked (held-working H))));

@@ -62,13 +62,13 @@ method-word {t} {n} xs f i k q = go (decLt i (length xs))
 module _ {source target i : ℕ} {s : struct.Book} {t : List ℕ} where
   pub copy-full : (s .full ≡ 0 → ⊥) → CopiesMethod source target i s t s t
   copy-full ne = record {
-    deeds = λ c k f m p l u n b e. full-simulates
+    simulates = λ c k f m p l u n b e. full-simulates
         (λ w. unchanged-methods (some target) (methodsFrom source i 1 (w .context .program .methods)) w) ne;
   }
 
   pub copy-other : s .full ≡ 0 → {model : ℕ} → model ≡ entryField 3 i 0 t → (model ≡ source → ⊥) → CopiesMethod source target i s t s t
   copy-other z {model} first ne = record {
-    deeds = λ c k f m p l u n b e. record {
+    simulates = λ c k f m p l u n b e. record {
       meets = λ κ ps w H.
           let x = getD (w .context .program .methods) i noMethod in
           let is : model ≡ x .model = first ∙ method-word (w .context .program .methods) (H .rest z .methods) i 0 (omega arith) in
@@ -80,14 +80,14 @@ module _ {source target i : ℕ} {s : struct.Book} {t : List ℕ} where
       → function ≡ entryField 3 i 2 t → {s′ : struct.Book} {t′ : List ℕ} → InsertsMethod target name function s t s′ t′
       → CopiesMethod source target i s t s′ t′
   copy-one z {model} {name} {function} first own second third I = record {
-    deeds = λ c k f m p l u n b e. record {
+    simulates = λ c k f m p l u n b e. record {
       meets = λ κ ps w H.
           let x = getD (w .context .program .methods) i noMethod in
           let filled = H .rest z .methods in
           let is : x .model ≡ source = sym (first ∙ method-word (w .context .program .methods) filled i 0 (omega arith)) ∙ own in
           let name-is : name ≡ x .name = second ∙ method-word (w .context .program .methods) filled i 1 (omega arith) in
           let function-is : function ≡ x .function = third ∙ method-word (w .context .program .methods) filled i 2 (omega arith) in
-          rw (eq-eqb (x .model) source is, ← name-is, ← function-is) (I .deeds c k f m p l u n b e .meets κ ps w H);
+          rw (eq-eqb (x .model) source is, ← name-is, ← function-is) (I .simulates c k f m p l u n b e .meets κ ps w H);
     };
   }
 
@@ -105,7 +105,7 @@ module _ (source target count : ℕ) where
         let ms = w .context .program .methods in
         let es = methodsFrom source i 1 ms in
         let w₁ = addMethods (some target) es w in
-        let H₁ = A .deeds c k f m p l u n b e .meets κ ps w H in
+        let H₁ = A .simulates c k f m p l u n b e .meets κ ps w H in
         let fs = methodsFrom source (i + 1) (count - (i + 1)) (insertMethods target es ms) in
         let few₁ : s₁ .full ≡ 0 → count ≤ length (insertMethods target es ms) =
         λ z. less (few (unfilled (unchanged-methods (some target) es w .uses) H H₁ z)) (inserts-grow target es ms) in
@@ -133,7 +133,7 @@ module _ (source target count : ℕ) where
   pub copies-done : {s s′ : struct.Book} {t t′ : List ℕ} → count ≡ s .methods → CopiesFrom source target 0 count s t s′ t′
       → CopiesMethods source target s t s′ t′
   copies-done {s} {s′} {t} {t′} as-many A = record {
-    deeds = λ c k f m p l u n b e. record {
+    simulates = λ c k f m p l u n b e. record {
       meets = λ κ ps w H. whole c k f m p l u n b e κ ps w H (eqb (s .full) 0) refl
           (A .meets c k f m p l u n b e κ ps w (λ z. few c k f m p l u n b e κ ps w H z) H);
     };
@@ -182,7 +182,7 @@ module _ {tree : List ℕ} {at end : ℕ} {s : struct.Book} {l k t e : List ℕ}
         → Applies tree at end s l k t e s′ t′ e₂
     unfolding DefinitionAt compileApplyDefinition
     rest {s′} {t′} C = record {
-      deeds = λ c f m p u n b source target d q. record {
+      simulates = λ c f m p u n b source target d q. record {
         meets = λ κ ps w H.
             let first : source ≡ tokenAt tree (at + 1) = d .1 .token in
             let second : target ≡ tokenAt tree (at + 2) = d .2 .token in

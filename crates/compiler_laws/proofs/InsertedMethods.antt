@@ -64,12 +64,12 @@ module _ (model name function : ℕ) where
 
   module _ {s : struct.Book} {t : List ℕ} where
     pub insert-full : (s .full ≡ 0 → ⊥) → InsertsMethod model name function s t s t
-    insert-full ne = record { deeds = λ c k f m p l u n b e. full-simulates (unchanged-methods (some model) (record { name = name; index = function } ∷ [])) ne }
+    insert-full ne = record { simulates = λ c k f m p l u n b e. full-simulates (unchanged-methods (some model) (record { name = name; index = function } ∷ [])) ne }
 
     pub insert-there : s .full ≡ 0 → {g : Found} {i : ℕ} → g ≡ foundOf (findPairC 3 0 (s .methods) model name t) → g ≡ At i → {t′ : List ℕ} {a : Bool}
         → Patched 3 i 2 function t t′ a → InsertsMethod model name function s t s t′
     insert-there z {g} {i} searched at {t′} P = record {
-      deeds = λ c k f m p l u n b e. record {
+      simulates = λ c k f m p l u n b e. record {
         meets = λ κ ps w H. go c k f m p l u n b e κ ps w H (H .rest z)
             (rw (found-at (findPairC 3 0 (s .methods) model name t) searched at) at (found-in {xs = w .context .program .methods} (H .rest z .methods)));
       };
@@ -104,7 +104,7 @@ module _ (model name function : ℕ) where
     pub insert-new : s .full ≡ 0 → {g : Found} → g ≡ foundOf (findPairC 3 0 (s .methods) model name t) → g ≡ Nothing → {r : Taken} {t′ : List ℕ}
         → Took methodsArea (s .full) (s .methods) (model ∷ name ∷ function ∷ []) t r t′ → InsertsMethod model name function s t (withMethodCount r s) t′
     insert-new z {g} searched lost {r} {t′} T = record {
-      deeds = λ c k f m p l u n b e. record {
+      simulates = λ c k f m p l u n b e. record {
         meets = λ κ ps w H. go c k f m p l u n b e κ ps w H (H .rest z)
             (rw (found-none (findPairC 3 0 (s .methods) model name t) searched lost) at (found-in {xs = w .context .program .methods} (H .rest z .methods)));
       };

@@ -159,7 +159,7 @@ module _ {tree : List ℕ} {at : ℕ} {s : struct.Book} {l k e : List ℕ} where
     find-lost lost E = record {
       seeks = λ c f m p t u n b. record {
         meets = λ κ ps w H. rw (local-is value (H .rest z) (found-none (findContextLocalC (s .«first_local») (s .locals) name l) searched lost))
-            (E .deeds c k f m p t l u n b .meets κ ps w H);
+            (E .simulates c k f m p t l u n b .meets κ ps w H);
         sought = λ κ ps w H q. rw (local-is value (H .rest z) (found-none (findContextLocalC (s .«first_local») (s .locals) name l) searched lost));
       };
     }
@@ -174,7 +174,7 @@ module _ {tree : List ℕ} {at : ℕ} {s : struct.Book} {l k e : List ℕ} where
             local-is value (H .rest z) (found-at (findContextLocalC (s .«first_local») (s .locals) name l) searched at-i),
             ← model-law name (H .rest z) i (found-at (findContextLocalC (s .«first_local») (s .locals) name l) searched at-i),
             found-none (modelAtC i l k) model lost,
-          ) (E .deeds c k f m p t l u n b .meets κ ps w H);
+          ) (E .simulates c k f m p t l u n b .meets κ ps w H);
           sought = λ κ ps w H q. rw (
             local-is value (H .rest z) (found-at (findContextLocalC (s .«first_local») (s .locals) name l) searched at-i),
             ← model-law name (H .rest z) i (found-at (findContextLocalC (s .«first_local») (s .locals) name l) searched at-i),

@@ -36,7 +36,7 @@ resumedBook s r = record {
 
 -- `fault`: the errors
 pub record ErrorsDo (s : struct.Book) (e : List ℕ) (s′ : struct.Book) (e′ : List ℕ) (step : BookStep) : Type 0 where
-  pub deeds : (c k f m p t l u n b : List ℕ) → SimulatesAreas (bookAreas s c k f m p t l u n b e) (bookAreas s′ c k f m p t l u n b e′) step
+  pub simulates : (c k f m p t l u n b : List ℕ) → SimulatesAreas (bookAreas s c k f m p t l u n b e) (bookAreas s′ c k f m p t l u n b e′) step
 
 -- `add_constant`: the constants
 pub record ConstantsPlace (s : struct.Book) (k : List ℕ) (s′ : struct.Book) (k′ : List ℕ) (place : ℕ) (step : Book → Placed) : Type 0 where

@@ -25,7 +25,7 @@ use Rattle.compiler_laws.specs.BookAreas.{bookAreas, RepresentsAreas, Si
 
 -- `insert_entry`: area 6
 pub record InsertsMethod (model name function : ℕ) (s : Book) (t : List ℕ) (s′ : Book) (t′ : List ℕ) : Type 0 where
-  pub deeds : (c k f m p l u n b e : List ℕ) → SimulatesAreas (bookAreas s c k f m p t l u n b e) (bookAreas s′ c k f m p t′ l u n b e)
+  pub simulates : (c k f m p l u n b e : List ℕ) → SimulatesAreas (bookAreas s c k f m p t l u n b e) (bookAreas s′ c k f m p t′ l u n b e)
       (addMethods (some model) (record { name = name; index = function } ∷ []))
 
 -- `publish_entry`: area 8, of a constant whose number is the definition's where nothing is full
@@ -64,17 +64,17 @@ methodsFrom model i (suc n) l =
 
 -- `copy_entry`: area 6, one method of the source under the target, if it is one
 pub record CopiesMethod (source target i : ℕ) (s : Book) (t : List ℕ) (s′ : Book) (t′ : List ℕ) : Type 0 where
-  pub deeds : (c k f m p l u n b e : List ℕ) → SimulatesAreas (bookAreas s c k f m p t l u n b e) (bookAreas s′ c k f m p t′ l u n b e)
+  pub simulates : (c k f m p l u n b e : List ℕ) → SimulatesAreas (bookAreas s c k f m p t l u n b e) (bookAreas s′ c k f m p t′ l u n b e)
       (λ w. addMethods (some target) (methodsFrom source i 1 (w .context .program .methods)) w)
 
 -- `copy_entries`: all methods of the source
 pub record CopiesMethods (source target : ℕ) (s : Book) (t : List ℕ) (s′ : Book) (t′ : List ℕ) : Type 0 where
-  pub deeds : (c k f m p l u n b e : List ℕ) → SimulatesAreas (bookAreas s c k f m p t l u n b e) (bookAreas s′ c k f m p t′ l u n b e)
+  pub simulates : (c k f m p l u n b e : List ℕ) → SimulatesAreas (bookAreas s c k f m p t l u n b e) (bookAreas s′ c k f m p t′ l u n b e)
       (λ w. addMethods (some target) (methodsIn source (w .context .program .methods)) w)
 
 -- `compile_apply_definition`: areas 6 and 11, over areas 7 and 2
 pub record Applies (tree : List ℕ) (at end : ℕ) (s : Book) (l k t e : List ℕ) (s′ : Book) (t′ e′ : List ℕ) : Type 0 where
-  pub deeds : (c f m p u n b : List ℕ) (source target : Token) → DefinitionAt (ApplyDefinition source target) tree at → at + 3 ≡ end
+  pub simulates : (c f m p u n b : List ℕ) (source target : Token) → DefinitionAt (ApplyDefinition source target) tree at → at + 3 ≡ end
       → SimulatesAreas (bookAreas s c k f m p t l u n b e) (bookAreas s′ c k f m p t′ l u n b e′) (compileApplyDefinition source target)
 
 -- the rest of `compile_model_definition`, after the properties

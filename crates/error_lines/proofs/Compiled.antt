@@ -1,6 +1,6 @@
 -- Theorem `compiled-known`: every list that the compile call leaves in area 11 is known (2026-10), so no such list is answered with row 3. Each token of an
 -- error is a record's, and records that passed the shape check have kinds and ranges of 01; the file numbers of a ring are those of documents. What functions
--- push is known by the induction of `KnownSteps`; here are the deeds of a book. Assumes nothing.
+-- push is known by the induction of `KnownSteps`; here are the steps of a book. Assumes nothing.
 use Prim.Native.Nat.{ℕ, zero, suc, _+_, _-_, _*_, _/_, _%_, _≤_, _<_}
 use native.Mathlib.Omega.{arith}
 use native.Mathlib.Decide.{decLt, ℕ-discrete}
