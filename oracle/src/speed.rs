@@ -209,12 +209,12 @@ const BOOKS: Searched = Searched::Other("books, looked through for the next read
 const PRICES: u64 = 50;
 
 pub const SHAPES: [Shape; 11] = [
-    Shape { name: "arithmetic bodies", make: |n| one_book(filled(n, arithmetic_function)), searched: Searched::Nothing },
     Shape {
-        name: "many small functions",
-        make: |n| one_book(filled(n, small_function)),
-        searched: FUNCTIONS,
+        name: "arithmetic bodies",
+        make: |n| one_book(filled(n, arithmetic_function)),
+        searched: Searched::Nothing,
     },
+    Shape { name: "many small functions", make: |n| one_book(filled(n, small_function)), searched: FUNCTIONS },
     Shape { name: "deep nesting", make: |n| one_book(filled(n, nested_function)), searched: Searched::Nothing },
     Shape { name: "loops and breaks", make: |n| one_book(filled(n, loops_function)), searched: Searched::Nothing },
     Shape {
@@ -239,7 +239,11 @@ pub const SHAPES: [Shape; 11] = [
     },
     Shape { name: "many books", make: many_books, searched: BOOKS },
     Shape { name: "late includes", make: late_includes, searched: BOOKS },
-    Shape { name: "one large book", make: |n| one_book(filled(n, mixed_function)), searched: Searched::Constants("float") },
+    Shape {
+        name: "one large book",
+        make: |n| one_book(filled(n, mixed_function)),
+        searched: Searched::Constants("float"),
+    },
 ];
 
 /// Searches through 30 and 300 live names, which begin at the newest (2026-03); beside the table.
@@ -249,7 +253,11 @@ pub const LIVE_SHAPES: [Shape; 6] = [
     Shape { name: "30 live names, none of them", make: |n| live_names(n, 30, LIVE + 30), searched: Searched::Nothing },
     Shape { name: "300 live names, the newest", make: |n| live_names(n, 300, LIVE + 299), searched: Searched::Nothing },
     Shape { name: "300 live names, the oldest", make: |n| live_names(n, 300, LIVE), searched: Searched::Nothing },
-    Shape { name: "300 live names, none of them", make: |n| live_names(n, 300, LIVE + 300), searched: Searched::Nothing },
+    Shape {
+        name: "300 live names, none of them",
+        make: |n| live_names(n, 300, LIVE + 300),
+        searched: Searched::Nothing,
+    },
 ];
 
 impl Shape {
@@ -424,9 +432,13 @@ fn medians(ratios: &[Ratio]) {
         median(ratios.iter().filter(|made| wanted(made.0)).filter_map(ratio).collect())
     };
     let nothing = |shape: &Shape| shape.searched == Searched::Nothing;
-    for (name, ratio) in [("without slots", (|made| made.2) as fn(&Ratio) -> Option<f64>), ("with slots", |made| Some(made.3))] {
+    for (name, ratio) in
+        [("without slots", (|made| made.2) as fn(&Ratio) -> Option<f64>), ("with slots", |made| Some(made.3))]
+    {
         let (all, searching_nothing) = (of(|_| true, ratio), of(nothing, ratio));
-        println!("Median of the ratios {name}: {all:.2}; of the shapes where nothing is searched: {searching_nothing:.2}");
+        println!(
+            "Median of the ratios {name}: {all:.2}; of the shapes where nothing is searched: {searching_nothing:.2}"
+        );
     }
 }
 

@@ -66,7 +66,10 @@ fn cells(column: &Column) -> Vec<(&'static str, String)> {
         let least = tally.calls_full.iter().min().copied().unwrap_or(0);
         out.push(("row 9 of the area that is least often the full one", grouped(least)));
         let Tables { lent, to_the_end, slots } = tally.tables;
-        out.push(("calls with a table of slots; of these delivered with more slots than constants", several(&[lent, to_the_end])));
+        out.push((
+            "calls with a table of slots; of these delivered with more slots than constants",
+            several(&[lent, to_the_end]),
+        ));
         out.push(("slots compared after the call", grouped(slots)));
     } else {
         out.push(("panics of `emit_return`", grouped(tally.panics)));
