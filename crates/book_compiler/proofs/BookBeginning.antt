@@ -1,5 +1,6 @@
 -- The work begins over one memory: one that stands for a context, with an entry for each book that is needed behind those that stand, is ready for the first
--- book; a memory of zeros with three constants and their slots stands for the definition's fresh context. By the lemmas over areas, of the parts. Assumes nothing.
+-- book; a memory of zeros with three constants and their slots stands for the definition's fresh context. By the lemmas over areas, of the parts. Assumes
+-- nothing.
 use Prim.Native.Nat.{ℕ, zero, suc, _+_, _-_, _/_, _≤_, _<_}
 use native.Mathlib.Omega.{arith}
 use mathlib.Core.Path.{_≡_, refl, sym, ap, subst, _∙_}

@@ -43,7 +43,8 @@ adds-constant {kind} {value} {place} {s} {s′} {a} {w} {w′} {before} {state} 
 module _ {m m′ : BookMemory} where
   pub error-pushed : {number : ℕ} {token : Token} → PushesBookError number token m m′ → SimulatesBook m m′ (pushBookError number token)
   error-pushed d =
-      area-simulates (omega arith) refl (d .constants) (d .acts) (λ x r. r .simulates (areaOf m codeArea) (areaOf m constantsArea) (areaOf m functionsArea) (areaOf m modelsArea)
+      area-simulates (omega arith) refl (d .constants) (d .acts)
+      (λ x r. r .simulates (areaOf m codeArea) (areaOf m constantsArea) (areaOf m functionsArea) (areaOf m modelsArea)
       (areaOf m propertiesArea) (areaOf m methodsArea) (areaOf m contextLocalsArea) (areaOf m publicNamesArea) (areaOf m scopeNamesArea)
       (areaOf m breaksArea))
 
@@ -87,34 +88,39 @@ module _ {m m′ : BookMemory} where
 
   pub local-defined : {name : ℕ} {found : Found} → DefinesContextLocal name found m m′ → SimulatesSought m m′ found (defineContextLocal name)
   local-defined d =
-      area-seeks (omega arith) refl (d .constants) (d .acts) (λ x r. r .seeks (areaOf m codeArea) (areaOf m constantsArea) (areaOf m functionsArea) (areaOf m modelsArea)
+      area-seeks (omega arith) refl (d .constants) (d .acts)
+      (λ x r. r .seeks (areaOf m codeArea) (areaOf m constantsArea) (areaOf m functionsArea) (areaOf m modelsArea)
       (areaOf m propertiesArea) (areaOf m methodsArea) (areaOf m publicNamesArea) (areaOf m scopeNamesArea) (areaOf m breaksArea) (areaOf m errorsArea))
 
   pub value-set : {κ : Limits} {ps : List ℕ} {others : ℕ → List ℕ} {found : Found} {constant : ℕ} {x : Book} (o : Option ℕ) (v : ℕ)
       → SetsLocalValue found constant m m′ → Valuable (m .book) found constant o v x → RepresentsBook κ ps others m x
       → RepresentsBook κ ps others m′ (setLocalValue o v x)
   value-set {κ} {ps} {x = x} o v d A H =
-      area-law (omega arith) refl (ap (λ (s : struct.Book). s .constants) (d .same)) (d .acts) H (λ l r. rw (d .same) (r .values (areaOf m codeArea) (areaOf m constantsArea) (areaOf m functionsArea)
+      area-law (omega arith) refl (ap (λ (s : struct.Book). s .constants) (d .same)) (d .acts) H
+      (λ l r. rw (d .same) (r .values (areaOf m codeArea) (areaOf m constantsArea) (areaOf m functionsArea)
       (areaOf m modelsArea) (areaOf m propertiesArea) (areaOf m methodsArea) (areaOf m publicNamesArea) (areaOf m scopeNamesArea) (areaOf m breaksArea)
       (areaOf m errorsArea) κ ps x o v A (H .keeping)))
 
   pub method-inserted : {model name function : ℕ} → InsertsBookMethod model name function m m′
       → SimulatesBook m m′ (addMethods (some model) (record { name = name; index = function } ∷ []))
   method-inserted d =
-      area-simulates (omega arith) refl (d .constants) (d .acts) (λ x r. r .simulates (areaOf m codeArea) (areaOf m constantsArea) (areaOf m functionsArea) (areaOf m modelsArea)
+      area-simulates (omega arith) refl (d .constants) (d .acts)
+      (λ x r. r .simulates (areaOf m codeArea) (areaOf m constantsArea) (areaOf m functionsArea) (areaOf m modelsArea)
       (areaOf m propertiesArea) (areaOf m contextLocalsArea) (areaOf m publicNamesArea) (areaOf m scopeNamesArea) (areaOf m breaksArea)
       (areaOf m errorsArea))
 
   pub methods-copied : {source target : ℕ} → CopiesBookMethods source target m m′
       → SimulatesBook m m′ (λ w. addMethods (some target) (methodsIn source (w .context .program .methods)) w)
   methods-copied d =
-      area-simulates (omega arith) refl (d .constants) (d .acts) (λ x r. r .simulates (areaOf m codeArea) (areaOf m constantsArea) (areaOf m functionsArea) (areaOf m modelsArea)
+      area-simulates (omega arith) refl (d .constants) (d .acts)
+      (λ x r. r .simulates (areaOf m codeArea) (areaOf m constantsArea) (areaOf m functionsArea) (areaOf m modelsArea)
       (areaOf m propertiesArea) (areaOf m contextLocalsArea) (areaOf m publicNamesArea) (areaOf m scopeNamesArea) (areaOf m breaksArea)
       (areaOf m errorsArea))
 
   pub name-published : {κ : Limits} {ps : List ℕ} {others : ℕ → List ℕ} {place name : ℕ} (q : Placed) → PublishesName place name m m′
       → RepresentsBook κ ps others m (q .book) → (m .book .full ≡ 0 → place ≡ q .place) → RepresentsBook κ ps others m′ (publish name q)
   name-published {κ} {ps} q d H is =
-      area-law (omega arith) refl (d .constants) (d .acts) H (λ u r. r .meets (areaOf m codeArea) (areaOf m constantsArea) (areaOf m functionsArea) (areaOf m modelsArea)
+      area-law (omega arith) refl (d .constants) (d .acts) H
+      (λ u r. r .meets (areaOf m codeArea) (areaOf m constantsArea) (areaOf m functionsArea) (areaOf m modelsArea)
       (areaOf m propertiesArea) (areaOf m methodsArea) (areaOf m contextLocalsArea) (areaOf m scopeNamesArea) (areaOf m breaksArea) (areaOf m errorsArea)
       κ ps q (H .keeping) is)

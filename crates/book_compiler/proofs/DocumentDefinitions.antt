@@ -149,7 +149,8 @@ module _ {tree : List ℕ} {at end : ℕ} where
           (books-named-unchanged (unchanged-definition d b) s) (A .meets d (h .0) (sym mid) l κ others b s H)
 
 -- a book's own name stands nowhere in the areas yet
-named : {κ : Limits} {m : BookAreas} {c : Context} {uses : List Use} (d : Document) → RepresentsAreas κ [] m (opened nobody c uses) → RepresentsAreas κ [] m (opened d c uses)
+named : {κ : Limits} {m : BookAreas} {c : Context} {uses : List Use} (d : Document) → RepresentsAreas κ [] m (opened nobody c uses)
+    → RepresentsAreas κ [] m (opened d c uses)
 named d H = record {
   fitted = H .fitted;
   full = H .full;

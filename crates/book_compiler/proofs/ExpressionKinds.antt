@@ -19,7 +19,8 @@ use Rattle.compiler_laws.proofs.ScopesBalanced.{scopes-expression}
 use Rattle.compiler_laws.proofs.ChildCounts.{count-end, count-more}
 use Rattle.compiler_laws.proofs.Tokens.{skip-law}
 use Rattle.book_compiler.specs.Represents.{Memory, Simulates, SimulatesInside}
-use Rattle.book_compiler.specs.Members.{token, CompilesLeaf, Finishes, CompilesExpression, CompilesExpressions, CompilesList, CompilesInfixExpression, CompilesIfExpression}
+use Rattle.book_compiler.specs.Members.{token, CompilesLeaf, Finishes, CompilesExpression, CompilesExpressions, CompilesList, CompilesInfixExpression}
+use Rattle.book_compiler.specs.Members.{CompilesIfExpression}
 use Rattle.book_compiler.proofs.Steps.{acts-does, does-then, full-does}
 
 module _ {tree : List ℕ} {at end start count : ℕ} where
@@ -77,7 +78,8 @@ module _ {tree : List ℕ} {at end start count kind position value : ℕ} (kind-
   pub leaf-meets : {m′ : Memory} → kind < 37 → CompilesLeaf kind position value start count m m′ → CompilesExpression tree at end start count m m′
   leaf-meets low L = record { meets = λ e h l. L .leaf tree at kind-is position-is value-is low e h }
 
-  pub infix-meets : {m′ : Memory} → kind ≡ 39 → CompilesInfixExpression tree (at + 1) end position value start count m m′ → CompilesExpression tree at end start count m m′
+  pub infix-meets : {m′ : Memory} → kind ≡ 39 → CompilesInfixExpression tree (at + 1) end position value start count m m′
+      → CompilesExpression tree at end start count m m′
   unfolding compileExpression ExpressionAt sizeE
   infix-meets {m′} q M = record { meets = λ e h l. go e (seeE e tree at h kind-is q) h l }
     where

@@ -11,7 +11,8 @@ use Rattle.definition.specs.Uses.{Limits}
 use Rattle.definition.specs.Compiler.{Work, Step, emitOpcodeWithoutPosition, replaceInstruction, next, compileExpression}
 use Rattle.definition.specs.Compiler.{compileNoPart, compilePart, compileStatements, compileIfExpression}
 use Rattle.definition.specs.Program.{Entries}
-use Rattle.definition_laws.proofs.StepPreserves.{Steadily, preserves-function, preserves-trans, preserves-expression, preserves-statements, preserves-part, preserves-no-part}
+use Rattle.definition_laws.proofs.StepPreserves.{Steadily, preserves-function, preserves-trans, preserves-expression, preserves-statements, preserves-part}
+use Rattle.definition_laws.proofs.StepPreserves.{preserves-no-part}
 use Rattle.tree.specs.At.{Head, ExpressionAt, StatementsAt, sizeE, sizeSs}
 use Rattle.tree.proofs.View.{headE, sizeE-pos}
 use Rattle.building.specs.declared.function_state.FunctionState.{FunctionState}

@@ -114,7 +114,8 @@ module _ {tree : List ℕ} {at end position value start count : ℕ} where
 
   module _ {kind : ℕ} (kind-is : kind ≡ kindAt tree at) where
     pub target-name : {text : ℕ} {m m′ : Memory} → kind ≡ 30 → text ≡ valueAt tree at
-        → SimulatesInside start count m m′ (emitName LocalSet ContextSet GlobalSet text position) → CompilesAssignLeftPart tree at end position value start count m m′
+        → SimulatesInside start count m m′ (emitName LocalSet ContextSet GlobalSet text position)
+        → CompilesAssignLeftPart tree at end position value start count m m′
     unfolding compileAssignExpressionLeftPart ExpressionAt compileAssignName
     target-name {text} {m} {m′} q text-is N = record { meets = λ x t r h l. go x t r (seeE x tree at h kind-is q) h }
       where
@@ -132,7 +133,8 @@ module _ {tree : List ℕ} {at end position value start count : ℕ} where
               → SimulatesInside start count m m′ (compileAssignExpressionLeftPart x a)
           go (InstanceGet t x y) a v-InstanceGet h l = pair tree at InstanceSet t x y place-is L (h .0 .token) d (h .1) (h .2) (omega arith)
 
-      pub target-index : kind ≡ 46 → OnCode (emitC (word (toInstruction IndexSet 0)) place) m₁ m′ → CompilesAssignLeftPart tree at end position value start count m m′
+      pub target-index : kind ≡ 46 → OnCode (emitC (word (toInstruction IndexSet 0)) place) m₁ m′
+          → CompilesAssignLeftPart tree at end position value start count m m′
       unfolding compileAssignExpressionLeftPart ExpressionAt sizeE
       target-index q d = record { meets = λ x a r h l. go x a (seeE x tree at h kind-is q) h l }
         where
@@ -177,7 +179,8 @@ module _ {tree : List ℕ} {at end position value start count : ℕ} where
   infix-past p = record { meets = λ x y t q hx hy l. absurd (omega (arith, sizeE-pos x)) }
 
   -- no right side
-  pub infix-short : {middle : ℕ} {m m′ : Memory} → middle ≡ skipC tree at end → end ≤ middle → CompilesInfixExpression tree at end position value start count m m′
+  pub infix-short : {middle : ℕ} {m m′ : Memory} → middle ≡ skipC tree at end → end ≤ middle
+      → CompilesInfixExpression tree at end position value start count m m′
   infix-short skipped p = record {
     meets = λ x y t q hx hy l.
         let mid = skipped ∙ skip-law tree at end (headE x hx) (sizeE-pos x) (omega arith) in absurd (omega (arith, mid, sizeE-pos y));
@@ -201,7 +204,8 @@ module _ {tree : List ℕ} {at end position value start count : ℕ} where
         t = token position 39 value
 
         go : (x y : Expression) → ExpressionAt x tree at → ExpressionAt y tree (at + sizeE x) → at + sizeE x + sizeE y ≡ end
-            → SimulatesInside start count m m′ (compileInfixBy (infixKind value) t (compileExpression x) (compileExpression y) (compileAssignExpressionLeftPart x t))
+            → SimulatesInside start count m m′
+            (compileInfixBy (infixKind value) t (compileExpression x) (compileExpression y) (compileAssignExpressionLeftPart x t))
         go x y hx hy l =
             let mid : middle ≡ at + sizeE x = middle-is tree at end skipped x y hx l in
             subst (λ (j : ℕ). SimulatesInside start count m m′ (compileInfixBy (infixKind j) t (compileExpression x) (compileExpression y)
@@ -251,7 +255,8 @@ module _ {tree : List ℕ} {at end position value start count : ℕ} where
           t = token position 39 value
 
           go : (x y : Expression) → ExpressionAt x tree at → ExpressionAt y tree (at + sizeE x) → at + sizeE x + sizeE y ≡ end
-              → SimulatesInside start count m m′ (compileInfixBy (infixKind value) t (compileExpression x) (compileExpression y) (compileAssignExpressionLeftPart x t))
+              → SimulatesInside start count m m′
+              (compileInfixBy (infixKind value) t (compileExpression x) (compileExpression y) (compileAssignExpressionLeftPart x t))
           go x y hx hy l =
               let mid : middle ≡ at + sizeE x = middle-is tree at end skipped x y hx l in
               let P : Simulates m₂ m₃ (compileOperation (value - 6) t skip skip) =

@@ -132,14 +132,16 @@ one d i p as-word same = record { meets = λ κ E others w I H. emitted (toInstr
 
 -- `leaf`
 module _ {start count : ℕ} {m m′ : Memory} {kind position value : ℕ} where
-  pub leaf-name : kind ≡ 30 → SimulatesInside start count m m′ (emitName LocalGet ContextGet GlobalGet value position) → CompilesLeaf kind position value start count m m′
+  pub leaf-name : kind ≡ 30 → SimulatesInside start count m m′ (emitName LocalGet ContextGet GlobalGet value position)
+      → CompilesLeaf kind position value start count m m′
   unfolding ExpressionAt compileExpression compileIdentifierExpression
   leaf-name q N = record { leaf = λ tree at k p v low e h. go tree at k p v e (seeE e tree at h k q) h }
     where
       go : (tree : List ℕ) (at : ℕ) → kind ≡ kindAt tree at → position ≡ positionAt tree at → value ≡ valueAt tree at → (e : Expression) → ViewE 30 e
           → ExpressionAt e tree at → SimulatesInside start count m m′ (compileExpression e)
       go tree at k p v (Identifier t) v-Identifier h =
-          token-as tree at k p v (λ (u : Token). SimulatesInside start count m m′ (emitName LocalGet ContextGet GlobalGet (u .value) (u .position))) (h .token) N
+          token-as tree at k p v (λ (u : Token). SimulatesInside start count m m′ (emitName LocalGet ContextGet GlobalGet (u .value) (u .position)))
+          (h .token) N
 
   pub leaf-integer : kind ≡ 33 → Simulates m m′ (emitConstant PushConstant (constantOf 2 value) position) → CompilesLeaf kind position value start count m m′
   unfolding ExpressionAt compileExpression compileIntegerExpression
@@ -148,7 +150,8 @@ module _ {start count : ℕ} {m m′ : Memory} {kind position value : ℕ} where
       go : (tree : List ℕ) (at : ℕ) → kind ≡ kindAt tree at → position ≡ positionAt tree at → value ≡ valueAt tree at → (e : Expression) → ViewE 33 e
           → ExpressionAt e tree at → SimulatesInside start count m m′ (compileExpression e)
       go tree at k p v (Integer t) v-Integer h =
-          token-as tree at k p v (λ (u : Token). SimulatesInside start count m m′ (emitConstant PushConstant (constantOf 2 (u .value)) (u .position))) (h .token)
+          token-as tree at k p v (λ (u : Token). SimulatesInside start count m m′ (emitConstant PushConstant (constantOf 2 (u .value)) (u .position)))
+          (h .token)
           (acts-does P)
 
   pub leaf-float : kind ≡ 34 → Simulates m m′ (emitConstant PushConstant (constantOf 3 value) position) → CompilesLeaf kind position value start count m m′
@@ -158,7 +161,8 @@ module _ {start count : ℕ} {m m′ : Memory} {kind position value : ℕ} where
       go : (tree : List ℕ) (at : ℕ) → kind ≡ kindAt tree at → position ≡ positionAt tree at → value ≡ valueAt tree at → (e : Expression) → ViewE 34 e
           → ExpressionAt e tree at → SimulatesInside start count m m′ (compileExpression e)
       go tree at k p v (Float t) v-Float h =
-          token-as tree at k p v (λ (u : Token). SimulatesInside start count m m′ (emitConstant PushConstant (constantOf 3 (u .value)) (u .position))) (h .token)
+          token-as tree at k p v (λ (u : Token). SimulatesInside start count m m′ (emitConstant PushConstant (constantOf 3 (u .value)) (u .position)))
+          (h .token)
           (acts-does P)
 
   pub leaf-text : kind ≡ 35 → Simulates m m′ (emitConstant PushConstant (constantOf 4 value) position) → CompilesLeaf kind position value start count m m′
@@ -168,7 +172,8 @@ module _ {start count : ℕ} {m m′ : Memory} {kind position value : ℕ} where
       go : (tree : List ℕ) (at : ℕ) → kind ≡ kindAt tree at → position ≡ positionAt tree at → value ≡ valueAt tree at → (e : Expression) → ViewE 35 e
           → ExpressionAt e tree at → SimulatesInside start count m m′ (compileExpression e)
       go tree at k p v (Text t) v-Text h =
-          token-as tree at k p v (λ (u : Token). SimulatesInside start count m m′ (emitConstant PushConstant (constantOf 4 (u .value)) (u .position))) (h .token)
+          token-as tree at k p v (λ (u : Token). SimulatesInside start count m m′ (emitConstant PushConstant (constantOf 4 (u .value)) (u .position)))
+          (h .token)
           (acts-does P)
 
   -- one instruction

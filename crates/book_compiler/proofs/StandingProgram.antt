@@ -97,7 +97,8 @@ module _ (strict : Bool) {p : Program} (s : ProgramPasses p) (safe : ProgramSafe
 
   -- the areas, with an area of zeros for the errors, stand for the context
   pub standing-resting : {κ : Limits} {us : List Use} {e : List ℕ} → Zero e → Marks (firstOver κ us) 0
-      → Fitted κ (bookAreas (standingBook strict p) (wordsIn p 1) (wordsIn p 2) (wordsIn p 3) (wordsIn p 4) (wordsIn p 5) (wordsIn p 6) (wordsIn p 7) (wordsIn p 8)
+      → Fitted κ
+      (bookAreas (standingBook strict p) (wordsIn p 1) (wordsIn p 2) (wordsIn p 3) (wordsIn p 4) (wordsIn p 5) (wordsIn p 6) (wordsIn p 7) (wordsIn p 8)
       (wordsIn p 9) (wordsIn p 10) e)
       → Resting κ (standingBook strict p) (wordsIn p 1) (wordsIn p 2) (wordsIn p 3) (wordsIn p 4) (wordsIn p 5) (wordsIn p 6) (wordsIn p 7) (wordsIn p 8)
       (wordsIn p 9) (wordsIn p 10) e (contextOf strict p) us

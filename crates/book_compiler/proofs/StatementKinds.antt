@@ -18,8 +18,10 @@ use Rattle.definition.specs.Uses.{Limits, total}
 use Rattle.definition.specs.Compiler.{Work, Step, doing, withFunction, pushError, compilePart, compileStatement, compileStatements, compileExpression}
 use Rattle.definition.specs.Compiler.{compileExpressionStatement, compileRescue, compileVariables, compileBare, compileValued, deeper, skip, compileNoPart}
 use Rattle.definition.specs.Program.{Entries}
-use Rattle.definition_laws.proofs.StepPreserves.{Steadily, longer-trans, preserves-function, preserves-trans, preserves-statement, preserves-statements, preserves-expression}
-use Rattle.definition_laws.proofs.StepPreserves.{preserves-variables, preserves-return, preserves-break, preserves-rescue, preserves-for, preserves-expression-statement, same, more}
+use Rattle.definition_laws.proofs.StepPreserves.{Steadily, longer-trans, preserves-function, preserves-trans, preserves-statement, preserves-statements}
+use Rattle.definition_laws.proofs.StepPreserves.{preserves-expression}
+use Rattle.definition_laws.proofs.StepPreserves.{preserves-variables, preserves-return, preserves-break, preserves-rescue, preserves-for}
+use Rattle.definition_laws.proofs.StepPreserves.{preserves-expression-statement, same, more}
 use Rattle.definition_laws.proofs.StepPreserves.{preserves-define, preserves-error, preserves-bare, preserves-valued}
 use Rattle.tree.specs.At.{Head, Leaf, ExpressionAt, StatementAt, StatementsAt, VariablesAt, sizeE, sizeS, sizeSs, sizeVs}
 use Rattle.tree.proofs.View.{ViewS, seeS, headS, sizeS-pos, headE, sizeE-pos, value-there}
@@ -40,7 +42,8 @@ use Rattle.compiler_laws.proofs.Tokens.{skip-law}
 use Rattle.compiler_laws.proofs.ConstantLeaves.{low-bits}
 use Rattle.book_compiler.specs.Represents.{Memory, laid, Represents, Simulates, SimulatesInside}
 use Rattle.book_compiler.specs.Leaves.{OnCode, OnNames, DefinesLocal, PushesError}
-use Rattle.book_compiler.specs.Members.{token, CompilesExpression, CompilesStatement, CompilesStatements, CompilesBlock, CompilesForStatement, CompilesVariable, CompilesVariables}
+use Rattle.book_compiler.specs.Members.{token, CompilesExpression, CompilesStatement, CompilesStatements, CompilesBlock, CompilesForStatement}
+use Rattle.book_compiler.specs.Members.{CompilesVariable, CompilesVariables}
 use Rattle.book_compiler.proofs.Steps.{back, acts-does, does-then, full-does, full-acts, either}
 use Rattle.book_compiler.proofs.Parts.{slots-count}
 use Rattle.book_compiler.proofs.ConstantCount.{rescue-count}
@@ -163,7 +166,8 @@ module _ {tree : List ℕ} {at end start count : ℕ} {s s₁ s₂ s′ : Functi
         go (Local vs) v-Local h k = M .meets vs (h .1) (omega arith)
 
     pub statement-for : {position : ℕ} → position ≡ positionAt tree at → kind ≡ 24
-        → CompilesForStatement tree (at + 1) end position start count (laid s₁ a l) (laid s₂ a l₂) → CompilesStatement tree at end start count (laid s a l) (laid s′ a l₂)
+        → CompilesForStatement tree (at + 1) end position start count (laid s₁ a l) (laid s₂ a l₂)
+        → CompilesStatement tree at end start count (laid s a l) (laid s′ a l₂)
     unfolding StatementAt sizeS
     statement-for position-is q M = around (record { meets = λ st h k. go st (seeS st tree at h kind-is q) h k })
       where
@@ -173,7 +177,8 @@ module _ {tree : List ℕ} {at end start count : ℕ} {s s₁ s₂ s′ : Functi
             M .meets t i x ss (ap (λ (u : Token). u .position) (h .0 .token) ∙ sym position-is) (h .1) (rw (← z) (h .2)) (rw (← z) (h .3)) (omega arith)
 
     -- by a step that acts: a break, a rescue
-    pub statement-break : {position : ℕ} → position ≡ positionAt tree at → kind ≡ 22 → Simulates (laid s₁ a l) (laid s₂ a l₂) (doing (method.emitBreak position))
+    pub statement-break : {position : ℕ} → position ≡ positionAt tree at → kind ≡ 22
+        → Simulates (laid s₁ a l) (laid s₂ a l₂) (doing (method.emitBreak position))
         → CompilesStatement tree at end start count (laid s a l) (laid s′ a l₂)
     unfolding StatementAt
     statement-break {position} position-is q A = around (record { meets = λ st h k. go st (seeS st tree at h kind-is q) h })
@@ -184,7 +189,8 @@ module _ {tree : List ℕ} {at end start count : ℕ} {s s₁ s₂ s′ : Functi
             rw here (acts-does A)
 
     pub statement-rescue : {position value : ℕ} → position ≡ positionAt tree at → value ≡ valueAt tree at → kind ≡ 23
-        → Simulates (laid s₁ a l) (laid s₂ a l₂) (compileRescue (token position kind value)) → CompilesStatement tree at end start count (laid s a l) (laid s′ a l₂)
+        → Simulates (laid s₁ a l) (laid s₂ a l₂) (compileRescue (token position kind value))
+        → CompilesStatement tree at end start count (laid s a l) (laid s′ a l₂)
     unfolding StatementAt
     statement-rescue {position} {value} position-is value-is q A = around (record { meets = λ st h k. go st (seeS st tree at h kind-is q) h })
       where

@@ -23,7 +23,8 @@ module _ {m m′ : Memory} {s : Step} where
   acts-does A = record { meets = λ κ E others w I H. A .meets κ E others w H }
 
 module _ {m m₁ m′ : Memory} {s t : Step} where
-  pub does-then : {start count : ℕ} → Steadily s → PreservesScopes s → SimulatesInside start count m m₁ s → SimulatesInside start count m₁ m′ t → SimulatesInside start count m m′ (andThen s t)
+  pub does-then : {start count : ℕ} → Steadily s → PreservesScopes s → SimulatesInside start count m m₁ s → SimulatesInside start count m₁ m′ t
+      → SimulatesInside start count m m′ (andThen s t)
   unfolding andThen
   does-then S B A T = record { meets = λ κ E others w I H. T .meets κ E others (s w) (inside-after (S w) (B w) I) (A .meets κ E others w I H) }
 

@@ -19,7 +19,8 @@ use Rattle.definition.specs.Uses.{Limits}
 use Rattle.definition.specs.Compiler.{Work, Step, withFunction, pushError, skip, bareBy, valuedBy}
 use Rattle.definition.specs.Compiler.{compileBare, compileValued, compileExpression, compileVariables}
 use Rattle.definition.specs.Program.{Entries}
-use Rattle.definition_laws.proofs.StepPreserves.{Steadily, preserves-trans, preserves-define, preserves-error, preserves-bare, preserves-valued, preserves-expression}
+use Rattle.definition_laws.proofs.StepPreserves.{Steadily, preserves-trans, preserves-define, preserves-error, preserves-bare, preserves-valued}
+use Rattle.definition_laws.proofs.StepPreserves.{preserves-expression}
 use Rattle.tree.specs.At.{VariablesAt, sizeE, sizeVs}
 use Rattle.tree.proofs.View.{headE, sizeE-pos, value-there}
 use Rattle.building.specs.RepresentsMachine.{isOpen}

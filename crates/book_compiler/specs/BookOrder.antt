@@ -65,7 +65,8 @@ pub record PicksNext (tree : List ℕ) (end done count : ℕ) (set : List ℕ) (
 
 -- `ring`: an error for each book left; area 12 stays
 pub record PushesRingErrorsIn (i count : ℕ) (t : Taken) (starts before : List ℕ) (r : Taken) (after : List ℕ) : Type 0 where
-  pub rings : Fits starts (length before) → PushesRingErrors i count (part starts booksArea before) t (part starts errorsArea before) r (part starts errorsArea after)
+  pub rings : Fits starts (length before)
+      → PushesRingErrors i count (part starts booksArea before) t (part starts errorsArea before) r (part starts errorsArea after)
 
 -- how the books end, where nothing is full: `rest` is what stands in area 12 behind the books; of a delivery `place` is the number of books
 pub data Came (κ : Limits) (others : ℕ → List ℕ) (m : BookMemory) (rest : List ℕ) (row place : ℕ) (uses : List Use) : Ending → Type 0 where

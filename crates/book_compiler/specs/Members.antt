@@ -78,7 +78,8 @@ pub record CompilesAssignLeftPart (tree : List ℕ) (at end position value start
 -- `compile_block`: a part of an if, or none
 pub record CompilesBlock (tree : List ℕ) (at end start count : ℕ) (m m′ : Memory) : Type 0 where
   pub absent : at ≡ end → SimulatesInside start count m m′ compileNoPart
-  pub meets : (ss : Statements) → StatementsAt ss tree (at + 1) → at + 1 + sizeSs ss ≡ end → SimulatesInside start count m m′ (compilePart (compileStatements ss))
+  pub meets : (ss : Statements) → StatementsAt ss tree (at + 1) → at + 1 + sizeSs ss ≡ end
+      → SimulatesInside start count m m′ (compilePart (compileStatements ss))
 
 -- `compile_statement`
 pub record CompilesStatement (tree : List ℕ) (at end start count : ℕ) (m m′ : Memory) : Type 0 where

@@ -37,7 +37,8 @@ areaOf m i = part (m .starts) i (m .words)
 -- the counts and areas that a memory is
 abbrev pub bookView : BookMemory → BookAreas
 bookView m =
-    bookAreas (m .book) (areaOf m codeArea) (areaOf m constantsArea) (areaOf m functionsArea) (areaOf m modelsArea) (areaOf m propertiesArea) (areaOf m methodsArea)
+    bookAreas (m .book) (areaOf m codeArea) (areaOf m constantsArea) (areaOf m functionsArea) (areaOf m modelsArea) (areaOf m propertiesArea)
+    (areaOf m methodsArea)
     (areaOf m contextLocalsArea) (areaOf m publicNamesArea) (areaOf m scopeNamesArea) (areaOf m breaksArea) (areaOf m errorsArea)
 
 -- the parts that a book is compiled into: areas 1 to 11, and the slots

@@ -339,7 +339,8 @@ fn find_document(tree: &[u64], end: usize, last: Place, file: u64) -> Place
     Place { at: i, above }
 }
 
-// The books needed, ascending, each an entry of area 12, behind those of `stand` books that stand. Once the mark is set nothing more is taken, so nothing more is looked for.
+// The books needed, ascending, each an entry of area 12, behind those of `stand` books that stand. Once the mark is set nothing more is taken, so nothing more
+// is looked for.
 pub(crate) fn take_books(
     tree: &[u64],
     end: usize,

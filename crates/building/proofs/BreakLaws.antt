@@ -80,7 +80,8 @@ module _ {κ : Limits} {earlier : Entries} {s : struct.FunctionState} {c k n b e
   pub replace-law : RepresentsMachine κ earlier (machine s (replaceC index v (coded s c) .code) k n b e) (step.replaceInstruction j i w)
   replace-law = go (eqb (s .full) 0) refl
     where
-      go : (t : Bool) → eqb (s .full) 0 ≡ t → RepresentsMachine κ earlier (machine s (replaceC index v (coded s c) .code) k n b e) (step.replaceInstruction j i w)
+      go : (t : Bool) → eqb (s .full) 0 ≡ t
+          → RepresentsMachine κ earlier (machine s (replaceC index v (coded s c) .code) k n b e) (step.replaceInstruction j i w)
       go false d =
           let ne = eqb-false (s .full) 0 d in
           rw (← replace-full index v s c ne) (held-full (step.replaceInstruction j i w) (_ ∷ _ ∷ _ ∷ []) refl ne H)
@@ -226,7 +227,8 @@ break-full p s c b h = go (s .«in_loop») refl
         ∙ ap (λ (m : Coded). markBreakC (nextC s) (m .state) (m .code) b) (sym (emit-full (word (toInstruction Jump 0)) p (coded s c) h))
         ∙ break-in-is p s c b q
 
-module _ {κ : Limits} {earlier : Entries} {s : struct.FunctionState} {c k n b e : List ℕ} {w : Work} (p : ℕ) (H : RepresentsMachine κ earlier (machine s c k n b e) w)
+module _ {κ : Limits} {earlier : Entries} {s : struct.FunctionState} {c k n b e : List ℕ} {w : Work} (p : ℕ)
+    (H : RepresentsMachine κ earlier (machine s c k n b e) w)
     (z : s .full ≡ 0) where
   abbrev jumped : Coded
   jumped = jumpedC p (coded s c)
@@ -258,7 +260,8 @@ module _ {κ : Limits} {earlier : Entries} {s : struct.FunctionState} {c k n b e
       broke-as w (break-in-is p s c b in′) refl (break-more o os q (eqb (jumped .state .full) 0) refl)
 
 pub break-law : {κ : Limits} {earlier : Entries} {s : struct.FunctionState} {c k n b e : List ℕ} {w : Work} (p : ℕ)
-    → RepresentsMachine κ earlier (machine s c k n b e) w → RepresentsMachine κ earlier (breakingMachine (emitBreakC p (breaking s c b)) k n e) (doing (method.emitBreak p) w)
+    → RepresentsMachine κ earlier (machine s c k n b e) w
+    → RepresentsMachine κ earlier (breakingMachine (emitBreakC p (breaking s c b)) k n e) (doing (method.emitBreak p) w)
 break-law {κ} {earlier} {s} {c} {k} {n} {b} {e} {w} p H = go (eqb (s .full) 0) refl
   where
     go : (t : Bool) → eqb (s .full) 0 ≡ t → RepresentsMachine κ earlier (breakingMachine (emitBreakC p (breaking s c b)) k n e) (doing (method.emitBreak p) w)

@@ -1,4 +1,5 @@
--- The routines of `function_state.rt` do to memory what the definition's steps of the same names do: one law for each, over the relation `RepresentsMachine`. With
+-- The routines of `function_state.rt` do to memory what the definition's steps of the same names do: one law for each, over the relation `RepresentsMachine`.
+-- With
 -- the mark set nothing changes and only notes come; where an area is full its note is the first beyond; else the areas hold the function after the
 -- step. By cases of the mark and of room, and by the laws of `Filling`. Assumes nothing.
 use Prim.Native.Nat.{ℕ, zero, suc, _+_, _-_, _*_, _/_, _%_, _^_, _≤_, _<_, min}
@@ -174,8 +175,10 @@ held-merge {κ} {earlier} {m} {m₁} {m₂} {w} g f H z H₁ z₁ H₂ = record 
 }
 
 -- area 1 is full
-pub held-over : {κ : Limits} {earlier : Entries} {m : Machine} (m′ : Machine) {w : Work} (f : FunctionState) → RepresentsMachine κ earlier m w → m .state .full ≡ 0
-    → Capped κ m′ → m′ .state .full ≡ codeArea → limitOf κ codeArea < w .before + length (f .code .instructions) → RepresentsMachine κ earlier m′ (withFunction f w)
+pub held-over : {κ : Limits} {earlier : Entries} {m : Machine} (m′ : Machine) {w : Work} (f : FunctionState) → RepresentsMachine κ earlier m w
+    → m .state .full ≡ 0
+    → Capped κ m′ → m′ .state .full ≡ codeArea → limitOf κ codeArea < w .before + length (f .code .instructions)
+    → RepresentsMachine κ earlier m′ (withFunction f w)
 held-over {κ} m′ {w} f H z K z′ h = record {
   code-cap = K .code;
   constants-cap = K .constants;
@@ -227,12 +230,15 @@ module _ {κ : Limits} {earlier : Entries} {s : struct.FunctionState} {c k n b e
 
 -- `emit_opcode`
 pub emit-opcode-law : {κ : Limits} {earlier : Entries} {s : struct.FunctionState} {c k n b e : List ℕ} {w : Work} (o p q : ℕ) → (s .full ≡ 0 → p ≡ q)
-    → RepresentsMachine κ earlier (machine s c k n b e) w → RepresentsMachine κ earlier (codedMachine (emitC (word (toInstruction o 0)) p (coded s c)) k n b e) (step.emitOpcode o q w)
+    → RepresentsMachine κ earlier (machine s c k n b e) w
+    → RepresentsMachine κ earlier (codedMachine (emitC (word (toInstruction o 0)) p (coded s c)) k n b e) (step.emitOpcode o q w)
 emit-opcode-law o p q hp H = emit-law (word (toInstruction o 0)) p (toInstruction o 0) q (λ z. refl) hp H
 
 -- `emit_opcode_without_position`, and null
-module _ {κ : Limits} {earlier : Entries} {s : struct.FunctionState} {c k n b e : List ℕ} {w : Work} (H : RepresentsMachine κ earlier (machine s c k n b e) w) where
-  pub emit-last-law : (i : Instruction) → RepresentsMachine κ earlier (codedMachine (emitLastC (word i) (coded s c)) k n b e) (step.emit i (getLastPosition (w .function)) w)
+module _ {κ : Limits} {earlier : Entries} {s : struct.FunctionState} {c k n b e : List ℕ} {w : Work}
+    (H : RepresentsMachine κ earlier (machine s c k n b e) w) where
+  pub emit-last-law : (i : Instruction)
+      → RepresentsMachine κ earlier (codedMachine (emitLastC (word i) (coded s c)) k n b e) (step.emit i (getLastPosition (w .function)) w)
   emit-last-law i = emit-law (word i) (lastPositionC (coded s c)) i (getLastPosition (w .function)) (λ z. refl) (λ z. last-position-law H z) H
 
   pub emit-opcode-without-position-law : (o : ℕ)
@@ -259,7 +265,8 @@ code-init is ps h q =
     ∙ ap (λ (x : List ℕ). codeEntries (init is ++ (last is nothing ∷ [])) x) (sym (init-last ps 0 (omega arith)))
     ∙ code-snoc (init is) (init ps) (last is nothing) (last ps 0) (omega (arith, init-length is, init-length ps))
 
-module _ {κ : Limits} {earlier : Entries} {s : struct.FunctionState} {c k n b e : List ℕ} {w : Work} (H : RepresentsMachine κ earlier (machine s c k n b e) w) where
+module _ {κ : Limits} {earlier : Entries} {s : struct.FunctionState} {c k n b e : List ℕ} {w : Work}
+    (H : RepresentsMachine κ earlier (machine s c k n b e) w) where
   pop-law : s .full ≡ 0 → 0 < length (w .function .code .instructions)
       → RepresentsMachine κ earlier (codedMachine (popC (coded s c)) k n b e) (withFunction (method.popLast (w .function)) w)
   pop-law z q =
@@ -312,7 +319,8 @@ held-as : {κ : Limits} {earlier : Entries} {k n b e : List ℕ} (w : Work) {m m
     → RepresentsMachine κ earlier (codedMachine m k n b e) (withFunction f w) → RepresentsMachine κ earlier (codedMachine m′ k n b e) (withFunction f′ w)
 held-as {κ} {earlier} {k} {n} {b} {e} w {m} {m′} {f} {f′} p q H = rw (← p, ← q) H
 
-module _ {κ : Limits} {earlier : Entries} {s : struct.FunctionState} {c k n b e : List ℕ} {w : Work} (H : RepresentsMachine κ earlier (machine s c k n b e) w) where
+module _ {κ : Limits} {earlier : Entries} {s : struct.FunctionState} {c k n b e : List ℕ} {w : Work}
+    (H : RepresentsMachine κ earlier (machine s c k n b e) w) where
   -- by the last opcode, where nothing is full
   remove-go : s .full ≡ 0 → (t : Bool) → eqb (lastOpcode (w .function)) Pop ≡ t → (u : Bool) → eqb (lastOpcode (w .function)) ReturnOp ≡ u
       → RepresentsMachine κ earlier (codedMachine (removePopC (coded s c)) k n b e) (doing method.removePopOrPushNull w)
@@ -398,7 +406,8 @@ module _ {κ : Limits} {earlier : Entries} {m : Machine} {k n b e : List ℕ} {w
           (held-over (codedMachine g′ k n b e) (returned p g) H z (capped H₁) (O .mark) (omega (arith, O .more, returned-longer p g)))
 
 -- what fills area 1 when an instruction is emitted is the code with it
-module _ {κ : Limits} {earlier : Entries} {s : struct.FunctionState} {c k n b e : List ℕ} {w : Work} (H : RepresentsMachine κ earlier (machine s c k n b e) w) where
+module _ {κ : Limits} {earlier : Entries} {s : struct.FunctionState} {c k n b e : List ℕ} {w : Work}
+    (H : RepresentsMachine κ earlier (machine s c k n b e) w) where
   pub emit-over : (x p : ℕ) (i : Instruction) → s .full ≡ 0 → (emitC x p (coded s c) .state .full ≡ 0 → ⊥)
       → Overfull κ (emitC x p (coded s c)) (w .before + length (w .function .code .instructions ++ (i ∷ [])))
   unfolding emitC
@@ -455,7 +464,8 @@ module _ {κ : Limits} {earlier : Entries} {s : struct.FunctionState} {c k n b e
 
 -- its position matters only where nothing is full
 pub return-law : {κ : Limits} {earlier : Entries} {s : struct.FunctionState} {c k n b e : List ℕ} {w : Work} (p q : ℕ) → (s .full ≡ 0 → p ≡ q)
-    → RepresentsMachine κ earlier (machine s c k n b e) w → RepresentsMachine κ earlier (codedMachine (emitReturnC p (coded s c)) k n b e) (doing (method.emitReturn q) w)
+    → RepresentsMachine κ earlier (machine s c k n b e) w
+    → RepresentsMachine κ earlier (codedMachine (emitReturnC p (coded s c)) k n b e) (doing (method.emitReturn q) w)
 return-law {κ} {earlier} {s} {c} {k} {n} {b} {e} {w} p q hp H = go (eqb (s .full) 0) refl
   where
     go : (t : Bool) → eqb (s .full) 0 ≡ t → RepresentsMachine κ earlier (codedMachine (emitReturnC p (coded s c)) k n b e) (doing (method.emitReturn q) w)

@@ -22,7 +22,8 @@ use Rattle.definition_laws.proofs.Lists.{all-append, all-set}
 use Rattle.definition_laws.proofs.Cells.{Wide, all-at, flat-length, filled-word, single-length}
 use Rattle.words.specs.Opcode.{Instruction}
 use Rattle.building.specs.Taking.{zeroed, givenUp}
-use Rattle.building.specs.RepresentsMachine.{Machine, Filled, nameEntry, oldestFirst, nameEntries, breakEntry, breakEntries, Contents, Marks, unmarked, marked}
+use Rattle.building.specs.RepresentsMachine.{Machine, Filled, nameEntry, oldestFirst, nameEntries, breakEntry, breakEntries, Contents, Marks, unmarked}
+use Rattle.building.specs.RepresentsMachine.{marked}
 use Rattle.building.specs.RepresentsMachine.{Sized, RepresentsMachine}
 
 -- lists

@@ -43,7 +43,8 @@ held-longer {κ} l ne H = record {
 }
 
 -- not full after, not full before
-pub back : {κ : Limits} {E E′ : Entries} {m m′ : Machine} {w w′ : Work} → NotesGrow (w .uses) (w′ .uses) → RepresentsMachine κ E m w → RepresentsMachine κ E′ m′ w′
+pub back : {κ : Limits} {E E′ : Entries} {m m′ : Machine} {w w′ : Work} → NotesGrow (w .uses) (w′ .uses) → RepresentsMachine κ E m w
+    → RepresentsMachine κ E′ m′ w′
     → m′ .state .full ≡ 0 → m .state .full ≡ 0
 back {κ} {m = m} l H H′ z = go (eqb (m .state .full) 0) refl
   where
@@ -93,7 +94,8 @@ over-more κ area m m′ h n e = go (ltb (limitOf κ area) m) refl e
 -- two steps on the function in the place of one: the first adds no name and no break, and the second has no less code
 pub held-renoted : {κ : Limits} {E E₀ : Entries} {m m₀ : Machine} {w : Work} (f g : FunctionState) → RepresentsMachine κ E₀ m₀ w
     → length (f .code .instructions) ≤ length (g .code .instructions) → total (f .scopes) ≤ total (w .function .scopes)
-    → total (f .breakScopes) ≤ total (w .function .breakScopes) → RepresentsMachine κ E m (withFunction g (withFunction f w)) → RepresentsMachine κ E m (withFunction g w)
+    → total (f .breakScopes) ≤ total (w .function .breakScopes) → RepresentsMachine κ E m (withFunction g (withFunction f w))
+    → RepresentsMachine κ E m (withFunction g w)
 unfolding firstOver
 held-renoted {κ} {m₀ = m₀} {w = w} f g H₀ code names breaks H = record {
   code-cap = H .code-cap;

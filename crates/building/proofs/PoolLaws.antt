@@ -249,7 +249,8 @@ module _ {κ : Limits} {earlier : Entries} {s : FunctionState} {c k n b e : List
             same-found (find-law z) (add-live z (isShared kind) (findConstant (constantOf kind value) (w .context .constants) 0))
 
   -- a mark more
-  mark-live : s .full ≡ 0 → (i : ℕ) → i < length (w .context .constants) → RepresentsMachine κ earlier (machine s c (set k (i * 3 + 2) 1) n b e) (markGlobal i w)
+  mark-live : s .full ≡ 0 → (i : ℕ) → i < length (w .context .constants)
+      → RepresentsMachine κ earlier (machine s c (set k (i * 3 + 2) 1) n b e) (markGlobal i w)
   mark-live z i h = record {
     code-cap = H .code-cap;
     constants-cap = ap (λ (m : ℕ). entriesIn 3 m) (length-set k (i * 3 + 2) 1) ∙ H .constants-cap;

@@ -259,7 +259,8 @@ module _ {κ : Limits} {E : Entries} {s : struct.FunctionState} {c k n b e : Lis
     define-in f (x ∷ ss) op = refl
 
   module _ {name : ℕ} {r : Defined} {n′ : List ℕ} (D : Defines name (naming s n) r n′) where
-    pub define-law : isOpen (w .function .scopes) ≡ true → RepresentsMachine κ E (machine (r .state) c k n′ b e) (withFunction (defineLocal name (w .function) .state) w)
+    pub define-law : isOpen (w .function .scopes) ≡ true
+        → RepresentsMachine κ E (machine (r .state) c k n′ b e) (withFunction (defineLocal name (w .function) .state) w)
     unfolding defineC defineLocal
     define-law op =
         rw (ap (λ (m : Naming). m .state) (D .memory), ap (λ (m : Naming). m .names) (D .memory), define-in name (w .function) (w .function .scopes) op)

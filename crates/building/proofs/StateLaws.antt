@@ -23,14 +23,16 @@ use Rattle.building.proofs.Filling.{held-full, breaks-length}
 use Rattle.building.proofs.EmissionLaws.{putFunction, held-touch, next-is}
 
 -- a step on the function that leaves it as it is
-pub touch-law : {κ : Limits} {earlier : Entries} {m : Machine} {w : Work} → RepresentsMachine κ earlier m w → RepresentsMachine κ earlier m (withFunction (w .function) w)
+pub touch-law : {κ : Limits} {earlier : Entries} {m : Machine} {w : Work} → RepresentsMachine κ earlier m w
+    → RepresentsMachine κ earlier m (withFunction (w .function) w)
 touch-law {κ} {earlier} {m} {w} H = go (eqb (m .state .full) 0) refl
   where
     go : (t : Bool) → eqb (m .state .full) 0 ≡ t → RepresentsMachine κ earlier m (withFunction (w .function) w)
     go true d = held-touch H (eqb-true (m .state .full) 0 d)
     go false d = held-full (withFunction (w .function) w) (_ ∷ _ ∷ _ ∷ []) refl (eqb-false (m .state .full) 0 d) H
 
-module _ {κ : Limits} {earlier : Entries} {s : struct.FunctionState} {c k n b e : List ℕ} {w : Work} (H : RepresentsMachine κ earlier (machine s c k n b e) w) where
+module _ {κ : Limits} {earlier : Entries} {s : struct.FunctionState} {c k n b e : List ℕ} {w : Work}
+    (H : RepresentsMachine κ earlier (machine s c k n b e) w) where
   -- fields anew unless an area is full
   pub put-law : (s′ : struct.FunctionState) (f : FunctionState) → s′ .full ≡ s .full
       → (s .full ≡ 0 → Contents earlier (machine s′ c k n b e) (putFunction f w))
@@ -103,7 +105,8 @@ module _ {earlier : Entries} {s : struct.FunctionState} {c k n b e : List ℕ} {
     locals = C .locals;
   }
 
-module _ {κ : Limits} {earlier : Entries} {s : struct.FunctionState} {c k n b e : List ℕ} {w : Work} (H : RepresentsMachine κ earlier (machine s c k n b e) w) where
+module _ {κ : Limits} {earlier : Entries} {s : struct.FunctionState} {c k n b e : List ℕ} {w : Work}
+    (H : RepresentsMachine κ earlier (machine s c k n b e) w) where
   -- under the notes that stand
 
   pub put-depth : (d d′ : ℕ) → (s .full ≡ 0 → d ≡ min mostDepth d′)
@@ -138,8 +141,10 @@ module _ {κ : Limits} {earlier : Entries} {s : struct.FunctionState} {c k n b e
   }
 
 -- as steps of their own
-module _ {κ : Limits} {earlier : Entries} {s : struct.FunctionState} {c k n b e : List ℕ} {w : Work} (H : RepresentsMachine κ earlier (machine s c k n b e) w) where
-  pub depth-law : (d d′ : ℕ) → (s .full ≡ 0 → d ≡ min mostDepth d′) → RepresentsMachine κ earlier (machine (depthC d s) c k n b e) (doing (method.withDepth d′) w)
+module _ {κ : Limits} {earlier : Entries} {s : struct.FunctionState} {c k n b e : List ℕ} {w : Work}
+    (H : RepresentsMachine κ earlier (machine s c k n b e) w) where
+  pub depth-law : (d d′ : ℕ) → (s .full ≡ 0 → d ≡ min mostDepth d′)
+      → RepresentsMachine κ earlier (machine (depthC d s) c k n b e) (doing (method.withDepth d′) w)
   depth-law d d′ h = put-depth (touch-law H) d d′ h
 
   pub deeper-law : RepresentsMachine κ earlier (machine (deeperC s) c k n b e) (doing (λ f. method.withDepth (f .depth + 1) f) w)

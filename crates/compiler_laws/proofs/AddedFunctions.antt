@@ -11,7 +11,8 @@ use Rattle.definition.specs.Book.{pushBookError, addBookConstant, setLocalValue
 use Rattle.definition.specs.Book.{compileBase, addFunction, addPlainFunction, compileFunctionDefinition}
 use Rattle.definition_laws.proofs.Lists.{cond-case}
 use Rattle.definition_laws.proofs.StepPreserves.{same, more}
-use Rattle.compiler_laws.proofs.UnchangedByBooks.{BookUnchanged, Unchanged, unchanged-trans, unchanged-error, unchanged-constant, unchanged-local, unchanged-value}
+use Rattle.compiler_laws.proofs.UnchangedByBooks.{BookUnchanged, Unchanged, unchanged-trans, unchanged-error, unchanged-constant, unchanged-local}
+use Rattle.compiler_laws.proofs.UnchangedByBooks.{unchanged-value}
 use Rattle.compiler_laws.proofs.BuiltFunctions.{unchanged-base}
 
 -- what the steps leave as it was

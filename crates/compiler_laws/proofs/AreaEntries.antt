@@ -18,10 +18,12 @@ use Rattle.compiler_laws.specs.declared.book.Book as struct
 use Rattle.compiler_laws.specs.BookAreas.{BookAreas, bookAreas, BookContents, Fitted, RepresentsAreas}
 use Rattle.compiler_laws.proofs.BookCounts.{withModelCount, withPropertyCount, withMethodCount, withPublicCount}
 
-module _ {κ : Limits} {ps : List ℕ} {m : BookAreas} {b : Book} (H : RepresentsAreas κ ps m b) (z : m .book .full ≡ 0) {ps′ : List ℕ} {m′ : BookAreas} (area count : ℕ)
+module _ {κ : Limits} {ps : List ℕ} {m : BookAreas} {b : Book} (H : RepresentsAreas κ ps m b) (z : m .book .full ≡ 0) {ps′ : List ℕ} {m′ : BookAreas}
+    (area count : ℕ)
     (b′ : Book) (same : b′ .uses ≡ b .uses) where
   -- the note fits
-  pub keeping-fits : Fitted κ m′ → m′ .book .full ≡ 0 → count ≤ limitOf κ area → BookContents ps′ m′ (noted area count b′) → RepresentsAreas κ ps′ m′ (noted area count b′)
+  pub keeping-fits : Fitted κ m′ → m′ .book .full ≡ 0 → count ≤ limitOf κ area → BookContents ps′ m′ (noted area count b′)
+      → RepresentsAreas κ ps′ m′ (noted area count b′)
   keeping-fits F z′ h S = record {
     fitted = F;
     full = rw (same, z′) (over-fits κ (using′ area count) (b .uses) (rw z at (H .full)) refl h);

@@ -280,7 +280,8 @@ module _ {s : struct.Book} {l : List ℕ} {found : Found} {constant : ℕ} where
     values = λ c k f m p t u n b e κ ps x o v A H. go c k f m p t u n b e κ ps x o v H (sym lost ∙ A .agrees z .0);
   }
     where
-      go : (c k f m p t u n b e : List ℕ) (κ : Limits) (ps : List ℕ) (x : Book) (o : Option ℕ) (v : ℕ) → RepresentsAreas κ ps (bookAreas s c k f m p t l u n b e) x
+      go : (c k f m p t u n b e : List ℕ) (κ : Limits) (ps : List ℕ) (x : Book) (o : Option ℕ) (v : ℕ)
+          → RepresentsAreas κ ps (bookAreas s c k f m p t l u n b e) x
           → Nothing ≡ foundOf o → RepresentsAreas κ ps (bookAreas s c k f m p t l u n b e) (setLocalValue o v x)
       go c k f m p t u n b e κ ps x none v H q = H
       go c k f m p t u n b e κ ps x (some i) v H q = absurd (let y : _≡_ {A = ℕ} 0 1 = cc in omega arith)

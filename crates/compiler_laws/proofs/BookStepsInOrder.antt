@@ -18,7 +18,8 @@ pub keeping-longer : {κ : Limits} {ps ps′ : List ℕ} {m : BookAreas} {b b′
 keeping-longer {κ} l ne H = record { fitted = H .fitted; full = over-longer κ l (H .full) ne; rest = λ z. absurd (ne z) }
 
 -- not full after, not full before
-pub unfilled : {κ : Limits} {ps ps′ : List ℕ} {m m′ : BookAreas} {b b′ : Book} → NotesGrow (b .uses) (b′ .uses) → RepresentsAreas κ ps m b → RepresentsAreas κ ps′ m′ b′
+pub unfilled : {κ : Limits} {ps ps′ : List ℕ} {m m′ : BookAreas} {b b′ : Book} → NotesGrow (b .uses) (b′ .uses) → RepresentsAreas κ ps m b
+    → RepresentsAreas κ ps′ m′ b′
     → m′ .book .full ≡ 0 → m .book .full ≡ 0
 unfilled {κ} {m = m} l H H′ z = go (eqb (m .book .full) 0) refl
   where

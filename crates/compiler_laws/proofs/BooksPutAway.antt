@@ -20,7 +20,8 @@ use Rattle.compiler_laws.proofs.BookLeaves.{names-count}
 use Rattle.compiler_laws.proofs.PublishedNames.{before-length}
 
 -- a book's own name stands nowhere in the areas yet
-named : {κ : Limits} {m : BookAreas} {c : Context} {uses : List Use} (d : Document) → RepresentsAreas κ [] m (opened nobody c uses) → RepresentsAreas κ [] m (opened d c uses)
+named : {κ : Limits} {m : BookAreas} {c : Context} {uses : List Use} (d : Document) → RepresentsAreas κ [] m (opened nobody c uses)
+    → RepresentsAreas κ [] m (opened d c uses)
 named d H = record {
   fitted = H .fitted;
   full = H .full;

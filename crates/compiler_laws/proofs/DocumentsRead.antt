@@ -262,7 +262,8 @@ module _ (tree : List ℕ) (i end : ℕ) (standing read set : List ℕ) (any : B
       go (d ∷ ds) b w c = absurd (omega (arith, bundle-past b))
 
   module _ {last file : ℕ} (inside : i < end) (l : last ≡ skipC tree i end) (v : file ≡ valueAt tree i) where
-    pub reach-past : {after : List ℕ} {r : Bool} → false ≡ cond (bitOf read file) false (bitOf set file) → Reaches tree last end standing read set any next after r
+    pub reach-past : {after : List ℕ} {r : Bool} → false ≡ cond (bitOf read file) false (bitOf set file)
+        → Reaches tree last end standing read set any next after r
         → Reaches tree i end standing read set any next after r
     reach-past {after} {r} out R = record { adds = go; still = R .still }
       where
@@ -287,7 +288,8 @@ module _ (tree : List ℕ) (i end : ℕ) (standing read set : List ℕ) (any : B
             = rw f (same (bitOf read file) deps refl (λ h. c .0 (rw f h))) in
             R .adds ds (bundle-next b l .1) (w .2) (c .1) ∙ ap (λ (x : List ℕ). reachBits standing set ds x) (sym e)
 
-    pub reach-more : {mid after : List ℕ} {grew r : Bool} → true ≡ cond (bitOf read file) false (bitOf set file) → Includes tree (i + 1) last standing any next mid grew
+    pub reach-more : {mid after : List ℕ} {grew r : Bool} → true ≡ cond (bitOf read file) false (bitOf set file)
+        → Includes tree (i + 1) last standing any next mid grew
         → Reaches tree last end standing read set grew mid after r → Reaches tree i end standing read set any next after r
     reach-more {mid} {after} {grew} {r} has I R = record { adds = go; still = λ h. quiet (R .still h) }
       where

@@ -45,7 +45,8 @@ nothing-left f = record { zeros = f .zeros; is = f .is; count = refl; wide = f .
 pub named-same : {start count : ℕ} {l : List ℕ} {s s′ : CompilerState} → s′ .locals ≡ s .locals → LocalsHeld start count l s → LocalsHeld start count l s′
 named-same e L = record { up-to = rw e (L .up-to); each = rw e (L .each) }
 
-module _ {κ : Limits} {ps : List ℕ} {s : struct.Book} {c k f m p t l u n b e : List ℕ} {x : Book} (H : RepresentsAreas κ ps (bookAreas s c k f m p t l u n b e) x) where
+module _ {κ : Limits} {ps : List ℕ} {s : struct.Book} {c k f m p t l u n b e : List ℕ} {x : Book}
+    (H : RepresentsAreas κ ps (bookAreas s c k f m p t l u n b e) x) where
   pub held-working : RepresentsMachine κ (codeSoFar x) (machine (begun (s .full) (s .code) (s .constants) (s .errors)) c k n b e) (working x)
   held-working =
       begin-law {w = working x} (record {
@@ -122,7 +123,8 @@ module _ {κ : Limits} {ps : List ℕ} {s : struct.Book} {c k f m p t l u n b e 
   -- back from a step that leaves the function new
   pub keeping-held : {r : FunctionState} {c′ k′ n′ b′ e′ : List ℕ} {w : Work} → NotesGrow (x .uses) (w .uses) → w .function ≡ newFunctionState
       → w .compiler .locals ≡ x .compiler .locals → w .context .localCount ≡ x .context .pool .localCount
-      → RepresentsMachine κ (codeSoFar x) (machine r c′ k′ n′ b′ e′) w → RepresentsAreas κ ps (bookAreas (resumedBook s r) c′ k′ f m p t l u n′ b′ e′) (resumed w x)
+      → RepresentsMachine κ (codeSoFar x) (machine r c′ k′ n′ b′ e′) w
+      → RepresentsAreas κ ps (bookAreas (resumedBook s r) c′ k′ f m p t l u n′ b′ e′) (resumed w x)
   keeping-held {r} {c′} {k′} {n′} {b′} {e′} {w} longer new names many A =
       keeping-resumed {w = w} (capped A) (A .full) (back longer held-working A) names many (λ z.
       let C = A .rest z in

@@ -28,7 +28,8 @@ use Rattle.compiler_laws.specs.ModelSteps.{Publishes}
 use Rattle.compiler_laws.proofs.BookCounts.{withPublicCount}
 use Rattle.compiler_laws.proofs.UnchangedByModels.{unchanged-publish}
 use Rattle.compiler_laws.proofs.BookStepsInOrder.{keeping-longer}
-use Rattle.compiler_laws.proofs.MapEntries.{found-at, found-none, insertBy, Inserting, there, new, inserting, patch-there, rowsFrom, rows-count, rows-more}
+use Rattle.compiler_laws.proofs.MapEntries.{found-at, found-none, insertBy, Inserting, there, new, inserting, patch-there, rowsFrom, rows-count}
+use Rattle.compiler_laws.proofs.MapEntries.{rows-more}
 use Rattle.compiler_laws.proofs.MapEntries.{row-word, row-set}
 use Rattle.compiler_laws.proofs.AreaEntries.{keeping-fits, keeping-grown, contents-publics, fitted-publics}
 

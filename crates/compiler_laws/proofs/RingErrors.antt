@@ -38,7 +38,8 @@ module _ {i count : ℕ} {o : List ℕ} {t : Taken} {e : List ℕ} where
       go es (n ∷ left) h q z f = absurd (omega arith)
 
   pub ring-more : {file : ℕ} {t₁ r : Taken} {e₁ e′ : List ℕ} → i < count → file ≡ entryField 1 i 0 o
-      → Took errorsArea (t .full) (t .count) (11 ∷ 0 ∷ 0 ∷ file / bookUnit ∷ []) e t₁ e₁ → PushesRingErrors (i + 1) count o t₁ e₁ r e′ → PushesRingErrors i count o t e r e′
+      → Took errorsArea (t .full) (t .count) (11 ∷ 0 ∷ 0 ∷ file / bookUnit ∷ []) e t₁ e₁ → PushesRingErrors (i + 1) count o t₁ e₁ r e′
+      → PushesRingErrors i count o t e r e′
   ring-more {file} {t₁} {r} {e₁} {e′} inside file-is T R = record { rings = go; stays = kept }
     where
       kept : (t .full ≡ 0 → ⊥) → (r .full ≡ t .full) × (length e′ ≡ length e)

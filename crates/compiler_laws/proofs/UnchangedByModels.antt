@@ -14,7 +14,8 @@ use Rattle.definition.specs.Book.{compileProperties, addModel, compileModelDefi
 use Rattle.definition.specs.Book.{findModelIndexByLocalName, methodsOf, compileApplyDefinition, Properties, modelCount, propertyCount, noted}
 use Rattle.definition_laws.proofs.StepPreserves.{same, more}
 use Rattle.compiler_laws.specs.ModelSteps.{placeModel}
-use Rattle.compiler_laws.proofs.UnchangedByBooks.{BookUnchanged, Unchanged, unchanged-refl, unchanged-trans, unchanged-error, unchanged-constant, unchanged-local, unchanged-value}
+use Rattle.compiler_laws.proofs.UnchangedByBooks.{BookUnchanged, Unchanged, unchanged-refl, unchanged-trans, unchanged-error, unchanged-constant}
+use Rattle.compiler_laws.proofs.UnchangedByBooks.{unchanged-local, unchanged-value}
 
 pub unchanged-methods : (o : Option ℕ) (es : List Entry) → Unchanged (addMethods o es)
 unchanged-methods none es b = unchanged-refl b

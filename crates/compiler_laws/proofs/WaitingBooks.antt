@@ -23,12 +23,14 @@ use Rattle.building.specs.Taking.{Took, taken}
 use Rattle.building.proofs.Filling.{room-fits}
 use Rattle.compiler_laws.specs.InsideFunction.{skipC}
 use Rattle.compiler_laws.specs.FileSets.{setSize, bitOf, allBits, SetIs, NextIn, Below, Ascends}
-use Rattle.compiler_laws.specs.SolverSteps.{Bundle, placeOf, FindsDocument, bookUnit, placeUnit, waiting, TakesBooks, AllIncluded, Grows, ReadTo, FirstUncompiled}
+use Rattle.compiler_laws.specs.SolverSteps.{Bundle, placeOf, FindsDocument, bookUnit, placeUnit, waiting, TakesBooks, AllIncluded, Grows, ReadTo}
+use Rattle.compiler_laws.specs.SolverSteps.{FirstUncompiled}
 use Rattle.compiler_laws.specs.SolverSteps.{Waits, AllWait, Stands, Ready, NoneReady, FindsReady, Brings, Skips, Lowers, FindsNext}
 use Rattle.compiler_laws.proofs.Tokens.{skip-law}
 use Rattle.compiler_laws.proofs.FileLists.{all-bits, grows-same, found-below}
 use Rattle.compiler_laws.proofs.NextNumbers.{SetFrom, set-from, next-some, next-none}
-use Rattle.compiler_laws.proofs.DocumentsRead.{bundle-first, bundle-next, bundle-past, bundle-none, bundle-rest, bundle-fits, defs-end, defs-other, defs-more}
+use Rattle.compiler_laws.proofs.DocumentsRead.{bundle-first, bundle-next, bundle-past, bundle-none, bundle-rest, bundle-fits, defs-end, defs-other}
+use Rattle.compiler_laws.proofs.DocumentsRead.{defs-more}
 
 -- a document from a place on
 module _ (tree : List ℕ) (i end n : ℕ) where

@@ -54,7 +54,8 @@ pub record Fresh (tree set : List ℕ) : Type 0 where
   pub empty : Zero set
   pub room : (ds : List Document) → Bundle ds tree 0 (length tree / 4) → Room set ds
 
--- the work that is left after rows 2 to 6: the documents, their order's numbers, and the answer by them from each context in which the books of these files stand
+-- the work that is left after rows 2 to 6: the documents, their order's numbers, and the answer by them from each context in which the books of these files
+-- stand
 pub record Accepted (tree set files : List ℕ) (root : Document) (others : List Document) : Type 0 where
   pub fine : shapeOf tree ≡ Fine
   pub documents : documentsOf tree ≡ root ∷ others

@@ -49,7 +49,8 @@ stays-trans x y = record {
 }
 
 -- by one note more
-abbrev one-more : {b b′ : Book.Book} → NotesGrow (b .uses) (b′ .uses) → b′ .context .prior ≡ b .context .prior → b′ .context .assemblies ≡ b .context .assemblies
+abbrev one-more : {b b′ : Book.Book} → NotesGrow (b .uses) (b′ .uses) → b′ .context .prior ≡ b .context .prior
+    → b′ .context .assemblies ≡ b .context .assemblies
     → b′ .assembly .filename ≡ b .assembly .filename → b′ .context .strict ≡ b .context .strict → Stays b b′
 one-more u p a f s = record { uses = u; prior = p; assemblies = a; filename = f; strict = s }
 

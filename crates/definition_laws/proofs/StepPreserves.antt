@@ -402,7 +402,8 @@ unfolding compileParameters
 preserves-parameters [] = preserves-skip
 preserves-parameters (t ∷ ts) = preserves-then (preserves-parameter t) (preserves-parameters ts)
 
-pub preserves-base : (f : FunctionDefinition) (w : Work) → StepPreserves (withFunction newFunctionState w) (compileFunctionDefinitionBase (f .parameters) (f .body) w)
+pub preserves-base : (f : FunctionDefinition) (w : Work)
+    → StepPreserves (withFunction newFunctionState w) (compileFunctionDefinitionBase (f .parameters) (f .body) w)
 unfolding compileFunctionDefinitionBase
 preserves-base f w =
     let w₁ = compileParameters (f .parameters) (withFunction newFunctionState w) in

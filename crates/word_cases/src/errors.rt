@@ -1,6 +1,6 @@
-// `errors_in_words`: how many words the errors are, how many the table, how many bytes there are, the file number, the length of the line buffer; then the errors,
-// the table and the bytes. The buffer is filled with stale bytes before, and has stale bytes beside it. Number, place and total; the bytes that were delivered; and
-// whether the rest of the buffer is zero and the bytes beside it are kept.
+// `errors_in_words`: how many words the errors are, how many the table, how many bytes there are, the file number, the length of the line buffer; then the
+// errors, the table and the bytes. The buffer is filled with stale bytes before, and has stale bytes beside it. Number, place and total; the bytes that were
+// delivered; and whether the rest of the buffer is zero and the bytes beside it are kept.
 ghost use Prim.Native.Nat.{_≤_, _-_};
 ghost use lib.ListN.{length};
 use crate::elements;
