@@ -2,13 +2,16 @@
 //! there may be, chains of books, doublings. Too much for a comparison over thousands of cases; each
 //! call is made on a thread with a small stack.
 
-use crate::areas::{Lengths, Lent, AREAS, ENTRY_WORDS, UNLIMITED};
+use crate::areas::{area, Lengths, Lent, AREAS, ENTRY_WORDS, UNLIMITED};
 use crate::clock::now;
-use crate::compare::Side;
-use crate::model::compile;
+use crate::compare::{Side, STALE};
+use crate::model::{compile, Run};
+use crate::onto_calls::{judge_in, OntoCalls, Replied, Way};
 use crate::pieces::{body, deep, document, doubled, doubling_of, if_node, leaf, name_node, statement};
 use crate::records::{flatten, kind, Node, MAX_LEVEL, MAX_RECORDS, MAX_TEXT};
-use crate::views::{Answered, Viewed};
+use crate::standing::{Answered, Call, Order, Totals};
+use crate::standing_calls::Program;
+use crate::views::{self, Viewed};
 use std::thread;
 
 pub struct Hostile {
@@ -38,13 +41,15 @@ fn chain(count: u64) -> Vec<u64> {
     linked(&(1..=count).collect::<Vec<_>>())
 }
 
-/// File numbers at the ends of a set's words and of the short sets: in a chain, twice, and included but absent.
+/// File numbers at the ends of a set's words and of the short sets.
+pub(crate) const EDGES: [u64; 9] = [1, 63, 64, 65, 4095, 4096, 4097, 8191, MAX_TEXT];
+
+/// Books of these file numbers in a chain, twice, and included but absent.
 fn edges() -> Vec<(String, Vec<u64>)> {
-    const LAST: [u64; 9] = [1, 63, 64, 65, 4095, 4096, 4097, 8191, MAX_TEXT];
     let mut out: Vec<(String, Vec<u64>)> = Vec::new();
-    for (i, &file) in LAST.iter().enumerate() {
-        out.push((format!("books up to {file} in a chain"), linked(&LAST[..=i])));
-        out.push((format!("books from {file} on in a chain"), linked(&LAST[i..])));
+    for (i, &file) in EDGES.iter().enumerate() {
+        out.push((format!("books up to {file} in a chain"), linked(&EDGES[..=i])));
+        out.push((format!("books from {file} on in a chain"), linked(&EDGES[i..])));
         out.push((format!("book {file} twice"), flatten(&[document(file, vec![]), document(file, vec![])])));
         out.push((format!("{file} included, and absent"), flatten(&[document(2, vec![include(file)])])));
     }
@@ -170,7 +175,7 @@ impl Side for Narrow<'_> {
         self.side.name()
     }
 
-    fn compile<'a>(&mut self, words: &[u64], lent: Lent<'a>) -> Answered<'a> {
+    fn compile<'a>(&mut self, words: &[u64], lent: Lent<'a>) -> views::Answered<'a> {
         let Narrow { side, stack, .. } = self;
         let work = || {
             let start = now();
@@ -185,7 +190,100 @@ impl Side for Narrow<'_> {
         answered
     }
 
-    fn view(&self, answered: &Answered) -> Result<Viewed, String> {
+    fn view(&self, answered: &views::Answered) -> Result<Viewed, String> {
         self.side.view(answered)
+    }
+}
+
+/// The same for a call on a program.
+pub struct NarrowOnto<'a> {
+    pub side: &'a mut (dyn OntoCalls + Send),
+    pub stack: usize,
+    pub seconds: f64,
+}
+
+impl OntoCalls for NarrowOnto<'_> {
+    fn call(&mut self, order: &Order, tree: &[u64], strict: bool, lengths: &Lengths, memory: &mut [u64]) -> Replied {
+        let NarrowOnto { side, stack, .. } = self;
+        let work = || {
+            let start = now();
+            let replied = side.call(order, tree, strict, lengths, memory);
+            (replied, now() - start)
+        };
+        let (replied, seconds) = thread::scope(|scope| {
+            let worker = thread::Builder::new().stack_size(*stack).spawn_scoped(scope, work);
+            worker.expect("a thread").join().expect("no panic")
+        });
+        self.seconds = seconds;
+        replied
+    }
+
+    fn counts_bundles(&self) -> bool {
+        false
+    }
+}
+
+/// A bundle laid onto the least program: what it must answer is the model's answer to the bundle by itself, or after a refusal
+/// the least program and the errors. An area too short for the program is as long as the program.
+pub fn judge_onto(side: &mut dyn OntoCalls, bundle: &Hostile) -> Result<(u64, u64), String> {
+    let least = Program::least();
+    let mut areas = least.lent(&bundle.lengths);
+    areas[area::ERRORS - 1].fill(STALE);
+    let lengths: Lengths = areas.each_ref().map(Vec::len);
+    let run = compile(&bundle.words, &lengths);
+    let Run { reply, areas: mut left, .. } = run;
+    let mut totals = least.totals;
+    if reply.row == 0 {
+        totals = Totals { areas: reply.totals, entry_point: reply.entry_point, globals: reply.globals, ..totals };
+    } else {
+        let errors = std::mem::take(&mut left[area::ERRORS - 1]);
+        left = least.entries;
+        left[area::ERRORS - 1] = errors;
+    }
+    left.iter_mut().zip(lengths).for_each(|(area, length)| area.resize(length, 0));
+    let wanted = Answered { row: reply.row, place: reply.place, totals, areas: left };
+    let call = Call { order: Order::Lay(least.totals), words: bundle.words.clone(), strict: false, areas };
+    let slots = vec![STALE; 2 * wanted.totals.of(area::CONSTANTS) as usize + 1];
+    judge_in(side, &call, &wanted, &Way { lengths, slots })?;
+    Ok((wanted.row, wanted.place))
+}
+
+#[cfg(test)]
+mod tests {
+    use super::*;
+    use crate::onto_calls::Standing;
+
+    /// The reading of standing.rs answers the small ones so, and a wrong answer is seen.
+    #[test]
+    fn onto_the_least_program() {
+        struct Wrong;
+        impl OntoCalls for Wrong {
+            fn call(
+                &mut self,
+                order: &Order,
+                tree: &[u64],
+                strict: bool,
+                lengths: &Lengths,
+                memory: &mut [u64],
+            ) -> Replied {
+                let replied = Standing.call(order, tree, strict, lengths, memory);
+                memory[lengths[0]] ^= 1;
+                replied
+            }
+
+            fn counts_bundles(&self) -> bool {
+                false
+            }
+        }
+        let is_small = |bundle: &Hostile| bundle.words.len() < 4000 && bundle.lengths.iter().sum::<usize>() < 2_000_000;
+        let small = bundles(20).into_iter().filter(is_small);
+        let mut rows = std::collections::BTreeSet::new();
+        for bundle in small {
+            let mut narrow = NarrowOnto { side: &mut Standing, stack: 1 << 22, seconds: 0.0 };
+            let (row, _) = judge_onto(&mut narrow, &bundle).unwrap_or_else(|e| panic!("{}: {e}", bundle.name));
+            rows.insert(row);
+            assert!(judge_onto(&mut Wrong, &bundle).is_err(), "{}", bundle.name);
+        }
+        assert!([0, 4, 5, 6, 8, 9].iter().all(|row| rows.contains(row)), "{rows:?}");
     }
 }

@@ -27,6 +27,7 @@ pub mod onto_bodies;
 pub mod onto_calls;
 pub mod onto_grown;
 pub mod onto_real;
+pub mod onto_sample;
 pub mod onto_seen;
 pub mod onto_small;
 pub mod onto_work;

@@ -6,7 +6,7 @@ use oracle::arguments::Flag::{self, Number, Switch, Word};
 use oracle::compare::{compare, judge_side, Difference, Model, Plan, Side};
 use oracle::convert::Converters;
 use oracle::generate::{case, Sizes};
-use oracle::hostile::Narrow;
+use oracle::hostile::{judge_onto, Narrow, NarrowOnto};
 use oracle::parts::{self, Part};
 use oracle::real::Prepared;
 use oracle::records::records;
@@ -28,8 +28,9 @@ oracle case --seed S --index I [--large] [--column]
 oracle listing [--program]
     a column file on standard input, its listing out; --program gives what the program `listing`
     prints, with its buffers
-oracle hostile [--ours] [--stack BYTES] [--size N] [--locals TIMES]
+oracle hostile [--ours] [--onto] [--stack BYTES] [--size N] [--locals TIMES]
     bundles at the limits on a small stack, with seconds; --ours compares the library with the model;
+    --onto has the library lay them onto the least program;
     N is the size of those that cost its square; --locals alone makes 257 locals in a target that is
     doubled so often (24: local numbers past 2^32, 16 GB of memory)
 oracle convert [--seed S] [--count N] [--large] [--limits]
@@ -44,15 +45,21 @@ oracle strict [--seed S] [--seeds K] [--count N] [--ours]
 oracle programs [--seed S] [--count N] [--each] [--bench]
     the library's program check and the reading over N programs, six in seven damaged; or over every
     single damage of samples, N of them made by chance; or its times on programs long in one way
-oracle onto --self N [--seed S] [--plant FAULT] [--next] [--stop]; or --self N S
+oracle onto --self N [--seed S] [--plant FAULT] [--next] [--stop] [--ours]; or --self N S
     N programs from seed S on, grown by up to four bundles with refusals in between: the reading of laying on, trial and commit
     (onto.rs) against the Rust with a context that is compiled on; --plant holds a reading with a fault against it; --next
-    looks at the row of a refusal alone, so that what it leaves must be seen at the next bundle
-oracle onto --small K [--plant FAULT] [--next]
+    looks at the row of a refusal alone, so that what it leaves must be seen at the next bundle; --ours has the library lay the
+    same bundles on, and the crate's program that is kept, saved and loaded
+oracle onto --small K [--plant FAULT] [--next] [--ours]
     the same over every book of up to two definitions of a list with every book of up to K of them laid on it, in both modes
 oracle onto --calls N [--seed S] [--plant FAULT] [--ours]; or --calls N S
-    the same reading against that of standing.rs (or the library) over the calls of N sequences, odd and damaged programs
-    among them: reply and every word
+    the same reading against that of standing.rs (or the library, in memories with tables of slots and with lengths that pass
+    the end) over the calls of N sequences, odd and damaged programs among them, some in memories that end early: reply and
+    every word
+oracle onto --damages N [--seed S] [--plant FAULT] [--ours]; or --damages N S
+    the same over every single damage of two samples and of N programs made by chance, each with a bundle laid on
+oracle onto --edges [--plant FAULT] [--ours]
+    the same over bundles and programs of file numbers at the ends of sets
 oracle onto --faults
     the faults that can be planted
 oracle program-cases
@@ -174,8 +181,21 @@ fn run_listing(arguments: &Arguments) -> ExitCode {
     ExitCode::SUCCESS
 }
 
-fn run_hostile(arguments: &Arguments) -> ExitCode {
+/// One bundle by the compile call, or laid onto the least program: row, place and seconds.
+fn hostile_call(arguments: &Arguments, stack: usize, bundle: &hostile::Hostile) -> Result<(u64, u64, f64), String> {
+    if arguments.has("--onto") {
+        let mut side = onto_library();
+        let mut narrow = NarrowOnto { side: &mut *side, stack, seconds: 0.0 };
+        let (row, place) = judge_onto(&mut narrow, bundle)?;
+        return Ok((row, place, narrow.seconds));
+    }
     let mut side: Box<dyn Side + Send> = if arguments.has("--ours") { library() } else { Box::new(Model) };
+    let mut narrow = Narrow { side: &mut *side, stack, seconds: 0.0 };
+    let reply = judge_side(&mut narrow, &bundle.words, &bundle.lengths)?;
+    Ok((reply.row, reply.place, narrow.seconds))
+}
+
+fn run_hostile(arguments: &Arguments) -> ExitCode {
     let stack = arguments.number("--stack", 1 << 20) as usize;
     let mut code = ExitCode::SUCCESS;
     println!("threads with a stack of {stack} bytes, processor seconds of the call");
@@ -186,9 +206,8 @@ fn run_hostile(arguments: &Arguments) -> ExitCode {
     for bundle in bundles {
         print!("{}: {} records", bundle.name, bundle.words.len() / 4);
         std::io::stdout().flush().expect("standard output is open");
-        let mut narrow = Narrow { side: &mut *side, stack, seconds: 0.0 };
-        match judge_side(&mut narrow, &bundle.words, &bundle.lengths) {
-            Ok(reply) => println!(", row {}, place {}, {:.3} s", reply.row, reply.place, narrow.seconds),
+        match hostile_call(arguments, stack, &bundle) {
+            Ok((row, place, seconds)) => println!(", row {row}, place {place}, {seconds:.3} s"),
             Err(message) => {
                 println!(", different: {message}");
                 code = ExitCode::FAILURE;
@@ -324,19 +343,29 @@ fn run_programs(_: &Arguments) -> ExitCode {
 }
 
 #[cfg(feature = "link")]
-fn onto_library() -> Box<dyn oracle::onto_calls::OntoCalls> {
+fn onto_library() -> Box<dyn oracle::onto_calls::OntoCalls + Send> {
     Box::new(oracle::ours::Library)
 }
 
 #[cfg(not(feature = "link"))]
-fn onto_library() -> Box<dyn oracle::onto_calls::OntoCalls> {
+fn onto_library() -> Box<dyn oracle::onto_calls::OntoCalls + Send> {
+    unreachable!("`needs_library` holds it back");
+}
+
+#[cfg(feature = "link")]
+fn kept_program() -> Box<dyn oracle::onto_grown::KeptProgram> {
+    Box::new(oracle::ours::LibraryProgram::default())
+}
+
+#[cfg(not(feature = "link"))]
+fn kept_program() -> Box<dyn oracle::onto_grown::KeptProgram> {
     unreachable!("`needs_library` holds it back");
 }
 
 fn run_onto(arguments: &Arguments) -> ExitCode {
     use oracle::onto::{Fault, Reading};
-    use oracle::onto_calls::{compare_calls, OntoCalls, Standing};
-    use oracle::onto_grown::{compare_self, Look};
+    use oracle::onto_calls::{compare_calls, compare_damages, compare_edges, OntoCalls, Standing};
+    use oracle::onto_grown::{compare_grown, Look, Ours};
     use oracle::onto_small::compare_small;
     if arguments.has("--faults") {
         Fault::ALL.iter().for_each(|fault| println!("{fault:?}"));
@@ -349,26 +378,38 @@ fn run_onto(arguments: &Arguments) -> ExitCode {
     };
     let fault = arguments.word("--plant").map(Fault::named);
     let (Some(seed), false) = (seed, fault == Some(None)) else {
-        eprintln!("oracle onto: one seed, a number; `--plant` is followed by a name that `oracle onto --faults` prints");
+        eprintln!(
+            "oracle onto: one seed, a number; `--plant` is followed by a name that `oracle onto --faults` prints"
+        );
         return ExitCode::from(WRONGLY_CALLED);
     };
     let reading = Reading { fault: fault.flatten() };
     let start = Instant::now();
     println!("seed {seed}");
-    let first = if arguments.has("--calls") {
-        let mut side: Box<dyn OntoCalls> = match (reading.fault, arguments.has("--ours")) {
+    let is_ours = arguments.has("--ours");
+    let first = if ["--calls", "--damages", "--edges"].iter().any(|flag| arguments.has(flag)) {
+        let mut side: Box<dyn OntoCalls> = match (reading.fault, is_ours) {
             (Some(_), _) => Box::new(reading),
             (None, true) => onto_library(),
             (None, false) => Box::new(Standing),
         };
-        let seen = compare_calls(&mut *side, seed, arguments.number("--calls", 1000));
+        let seen = if arguments.has("--edges") {
+            compare_edges(&mut *side)
+        } else if arguments.has("--damages") {
+            compare_damages(&mut *side, seed, arguments.number("--damages", 10))
+        } else {
+            compare_calls(&mut *side, seed, arguments.number("--calls", 1000))
+        };
         seen.print();
         seen.first
     } else {
         let look = if arguments.has("--next") { Look::NextBundle } else { Look::AllLeft };
+        let mut sides = is_ours.then(|| (onto_library(), kept_program()));
+        let ours = sides.as_mut().map(|(calls, kept)| Ours { calls: &mut **calls, kept: &mut **kept });
+        let (count, stop) = (arguments.number("--self", 1000), arguments.has("--stop"));
         let seen = match arguments.has("--small") {
-            true => compare_small(reading, look, arguments.number("--small", 2) as usize),
-            false => compare_self(reading, look, seed, arguments.number("--self", 1000), arguments.has("--stop")),
+            true => compare_small(reading, look, arguments.number("--small", 2) as usize, ours),
+            false => compare_grown(reading, look, seed, count, stop, ours),
         };
         seen.print();
         seen.first
@@ -514,7 +555,12 @@ const COMMANDS: [Command; 21] = [
     ),
     ("case", &[Number("--seed"), Number("--index"), Switch("--large"), Switch("--column")], false, run_case),
     ("listing", &[Switch("--program")], false, run_listing),
-    ("hostile", &[Switch("--ours"), Number("--stack"), Number("--size"), Number("--locals")], false, run_hostile),
+    (
+        "hostile",
+        &[Switch("--ours"), Switch("--onto"), Number("--stack"), Number("--size"), Number("--locals")],
+        false,
+        run_hostile,
+    ),
     ("convert", &[Number("--seed"), Number("--count"), Switch("--large"), Switch("--limits")], false, run_convert),
     ("tables", &[Number("--seed"), Number("--count"), Switch("--limits")], false, run_tables),
     ("strict", &[Number("--seed"), Number("--seeds"), Number("--count"), Switch("--ours")], false, run_strict),
@@ -525,8 +571,10 @@ const COMMANDS: [Command; 21] = [
             Number("--self"),
             Number("--small"),
             Number("--calls"),
+            Number("--damages"),
             Number("--seed"),
             Word("--plant"),
+            Switch("--edges"),
             Switch("--faults"),
             Switch("--ours"),
             Switch("--next"),
@@ -551,7 +599,8 @@ const COMMANDS: [Command; 21] = [
 
 fn needs_library(command: &str, arguments: &Arguments) -> bool {
     match command {
-        "compare" | "hostile" | "strict" | "onto" => arguments.has("--ours"),
+        "compare" | "strict" | "onto" => arguments.has("--ours"),
+        "hostile" => arguments.has("--ours") || arguments.has("--onto"),
         "convert" | "bench" | "speed" | "tables" | "table-bench" | "errors" => true,
         "once" => !arguments.has("--original"),
         _ => false,

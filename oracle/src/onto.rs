@@ -76,10 +76,14 @@ pub enum Fault {
     StaleWhereSmaller,
     /// A commit asks for its count after the work.
     StaleAfterWork,
+    /// After a call the slots are as lent.
+    SlotsLeft,
+    /// The slots are zero after the program check too.
+    SlotsCleared,
 }
 
 impl Fault {
-    pub const ALL: [Fault; 27] = [
+    pub const ALL: [Fault; 29] = [
         Fault::MarkLeft,
         Fault::MethodLeft,
         Fault::EntryPointLeft,
@@ -107,6 +111,8 @@ impl Fault {
         Fault::TotalsBeforeRefusal,
         Fault::StaleWhereSmaller,
         Fault::StaleAfterWork,
+        Fault::SlotsLeft,
+        Fault::SlotsCleared,
     ];
 
     pub fn named(name: &str) -> Option<Fault> {

@@ -1,9 +1,10 @@
 //! Programs grown by several bundles, with refusals in between: the reading of onto.rs held against the Rust with a context
-//! that is compiled on (`onto --self`, `onto --small`). After a refusal the next bundle must fit as if nothing had been.
+//! that is compiled on (`onto --self`, `onto --small`). After a refusal the next bundle must fit as if nothing had been. With
+//! `--ours` the library makes the same calls, and a program that the crate over it keeps grows by the same bundles.
 
 use crate::areas::{answer, area, Answer, Areas, Counts, Delivery, Lengths, Reply, AREAS, ENTRY_WORDS};
 use crate::onto::{Lent, Reading};
-use crate::onto_calls::{answered, lengths_of};
+use crate::onto_calls::{answered, as_known, judge, lengths_of, OntoCalls};
 use crate::onto_real::{Grown, Kept, Laid};
 use crate::onto_seen::Seen;
 use crate::random::Random;
@@ -39,6 +40,41 @@ pub enum Look {
     NextBundle,
 }
 
+/// A program that a side keeps from bundle to bundle, in as much room as it takes.
+pub trait KeptProgram {
+    /// The least program, in place of the one that was kept.
+    fn start(&mut self);
+
+    /// Lays a bundle on: row and place.
+    fn lay_on(&mut self, tree: &[u64], strict: bool) -> (u64, u64);
+
+    /// The program as words: the twelve totals, entry point, number of global dependencies, and each area's entries.
+    fn saved(&self) -> Vec<u64>;
+
+    /// Goes on with a program of these words.
+    fn load(&mut self, words: &[u64]) -> Result<(), String>;
+}
+
+/// A library's side of a comparison with the Rust.
+pub struct Ours<'a> {
+    pub calls: &'a mut (dyn OntoCalls + 'static),
+    pub kept: &'a mut (dyn KeptProgram + 'static),
+}
+
+impl Ours<'_> {
+    /// The same for another sequence.
+    pub(crate) fn again(&mut self) -> Ours<'_> {
+        self.kept.start();
+        Ours { calls: self.calls, kept: self.kept }
+    }
+}
+
+/// The words that a side must save of a program.
+fn saved(program: &Program) -> Vec<u64> {
+    let Totals { areas, entry_point, globals, .. } = program.totals;
+    [&areas[..], &[entry_point, globals], &program.entries.concat()].concat()
+}
+
 /// A sequence of bundles laid on one program, held against the Rust.
 pub(crate) struct Sequence<'a> {
     random: Random,
@@ -53,6 +89,7 @@ pub(crate) struct Sequence<'a> {
     bundles: u64,
     /// Rows of the refusals since the last delivery.
     since: Vec<u64>,
+    ours: Option<Ours<'a>>,
 }
 
 fn lent(program: &Program, lengths: &Lengths) -> Areas {
@@ -76,7 +113,43 @@ impl<'a> Sequence<'a> {
             stands: None,
             bundles: 0,
             since: Vec::new(),
+            ours: None,
         }
+    }
+
+    pub(crate) fn with(self, ours: Option<Ours<'a>>) -> Sequence<'a> {
+        Sequence { ours, ..self }
+    }
+
+    /// The reading's answer to a call; the library's must be the right reading's.
+    fn answers(&mut self, call: &Call) -> Result<Answered, String> {
+        if let Some(ours) = &mut self.ours {
+            if let Some(call) = as_known(ours.calls, call) {
+                let judged = judge(ours.calls, &call).map_err(|message| format!("the library {message}"))?;
+                self.seen.asked += judged.asked;
+            }
+        }
+        Ok(answered(&self.reading, call))
+    }
+
+    /// The bundle onto the program that the library's side keeps: row and place as the Rust has them, and then the words of the
+    /// reading's program.
+    fn keeps(&mut self, tree: &[u64], strict: bool, wanted: (u64, u64)) -> Result<(), String> {
+        let Some(ours) = &mut self.ours else { return Ok(()) };
+        let replied = ours.kept.lay_on(tree, strict);
+        if replied != wanted {
+            return Err(format!("the program that is kept answers {replied:?}, not {wanted:?}"));
+        }
+        let words = saved(&self.program);
+        if ours.kept.saved() != words {
+            return Err(format!("the program that is kept is another after {wanted:?}"));
+        }
+        self.seen.kept += 1;
+        // Now and then as somebody else who loads it.
+        if self.random.chance(300) {
+            ours.kept.load(&words)?;
+        }
+        Ok(())
     }
 
     /// The program passes the check of the next call.
@@ -161,7 +234,7 @@ impl<'a> Sequence<'a> {
         damaged(&mut self.random, &mut areas, &mut totals);
         let Some(number) = program_check(&areas, &totals) else { return Ok(()) };
         let call = Call { order: Order::Lay(totals), words: tree.to_vec(), strict: false, areas };
-        let answered = answered(&self.reading, &call);
+        let answered = self.answers(&call)?;
         let wanted = (3, PROGRAM_PLACE + number as u64);
         if (answered.row, answered.place) != wanted || answered.areas != call.areas || answered.totals != totals {
             return Err(format!("the check of area {number} answers row {}, {}", answered.row, answered.place));
@@ -225,7 +298,7 @@ impl<'a> Sequence<'a> {
     fn tried(&mut self, call: &Call, totals: &Totals, rust: &Answer) -> Result<Call, String> {
         let trial = Call { order: Order::Trial(*totals), ..call.clone() };
         let reported = answered(&self.reading, &trial);
-        let laid = answered(&self.reading, call);
+        let laid = self.answers(call)?;
         self.seen.trials += 1;
         self.is_kept(&trial, totals, &reported)?;
         let counted = Totals { bundles: totals.bundles, ..laid.totals };
@@ -275,7 +348,7 @@ impl<'a> Sequence<'a> {
         let mut areas = lent(&self.program, &lengths_for(&mut self.random, &entries));
         areas[area::ERRORS - 1].fill(9);
         let call = Call { areas, ..call.clone() };
-        let answered = answered(&self.reading, &call);
+        let answered = self.answers(&call)?;
         self.refuses(&call, totals, &answered, (AREA_FULL, short as u64 + 1), &[])
     }
 
@@ -314,7 +387,7 @@ impl<'a> Sequence<'a> {
             self.one_short(&call, &totals, &peaks)?;
         }
         let call = if self.random.chance(400) { self.tried(&call, &totals, &rust)? } else { call };
-        let answered = answered(&self.reading, &call);
+        let answered = self.answers(&call)?;
         match &rust {
             Answer::Refused { row, place, errors } => {
                 self.refuses(&call, &totals, &answered, (*row, *place), errors)?;
@@ -322,7 +395,7 @@ impl<'a> Sequence<'a> {
                 let file_alone = Kept { files: kept.files, ..Kept::default() };
                 self.seen.half_books += u64::from(kept != file_alone);
                 self.seen.half_changed += u64::from(kept.methods_changed || kept.entry_point_changed);
-                Ok(())
+                self.keeps(tree, strict, (*row, *place))
             }
             Answer::Delivered(theirs) => {
                 self.delivers(&call, &totals, &answered, theirs)?;
@@ -330,7 +403,8 @@ impl<'a> Sequence<'a> {
                 if needs.iter().any(|&i| peaks[i] != answered.totals.areas[i]) {
                     return Err(format!("the work uses {peaks:?} entries, not {:?}", answered.totals.areas));
                 }
-                self.grows(laid, &answered, theirs.clone())
+                self.grows(laid, &answered, theirs.clone())?;
+                self.keeps(tree, strict, (0, 0))
             }
         }
     }
@@ -368,7 +442,8 @@ impl<'a> Sequence<'a> {
         let totals = Totals { bundles: 0, ..Totals::default() };
         let call = Call { order: Order::Fresh, words: tree.to_vec(), strict: false, areas };
         self.delivers(&call, &totals, &first, &theirs)?;
-        self.grows(laid, &first, theirs)
+        self.grows(laid, &first, theirs)?;
+        self.keeps(tree, false, (0, 0))
     }
 
     /// Rows 2 to 5 are not the Rust's.
@@ -376,8 +451,9 @@ impl<'a> Sequence<'a> {
         let areas = lent(&self.program, &[40; AREAS]);
         let totals = self.program.totals;
         let call = Call { order: Order::Lay(totals), words: tree.to_vec(), strict: false, areas };
-        let answered = answered(&self.reading, &call);
-        self.refuses(&call, &totals, &answered, row, &[])
+        let answered = self.answers(&call)?;
+        self.refuses(&call, &totals, &answered, row, &[])?;
+        self.keeps(tree, false, row)
     }
 
     pub(crate) fn bundle(&mut self, tree: &[u64], strict: bool) -> Result<(), String> {
@@ -427,13 +503,19 @@ fn differing(ours: &Delivery, theirs: &Delivery) -> String {
 }
 
 /// One sequence: a program of up to four bundles, with refusals in between.
-fn sequence(reading: Reading, look: Look, seed: u64, index: u64, seen: &mut Seen) -> Result<(), String> {
+fn sequence(
+    reading: Reading,
+    look: Look,
+    (seed, index): (u64, u64),
+    seen: &mut Seen,
+    ours: Option<Ours>,
+) -> Result<(), String> {
     let mut random = Random::for_case(seed, index);
     let this = random.pick(&[7, 8, 3, 500, MAX_TEXT]);
     let books = shelf(&mut random);
     let wanted = random.between(1, 4);
     let strict = random.pick(&[0, 0, 200, 1000]);
-    let mut sequence = Sequence::new(random, reading, look, seen, this);
+    let mut sequence = Sequence::new(random, reading, look, seen, this).with(ours);
     if sequence.random.chance(500) {
         let tree = with_this(bundle(&mut sequence.random, &sequence.program, &books), this);
         if check(&tree).is_ok_and(|records| twice(&records).is_none()) {
@@ -455,10 +537,16 @@ fn sequence(reading: Reading, look: Look, seed: u64, index: u64, seen: &mut Seen
 
 /// The reading over so many sequences.
 pub fn compare_self(reading: Reading, look: Look, seed: u64, count: u64, stop: bool) -> Seen {
+    compare_grown(reading, look, seed, count, stop, None)
+}
+
+/// The same with a library beside it.
+pub fn compare_grown(reading: Reading, look: Look, seed: u64, count: u64, stop: bool, mut ours: Option<Ours>) -> Seen {
     let mut seen = Seen::default();
     for index in 0..count {
         seen.sequences += 1;
-        if let Err(message) = sequence(reading, look, seed, index, &mut seen) {
+        let again = ours.as_mut().map(Ours::again);
+        if let Err(message) = sequence(reading, look, (seed, index), &mut seen, again) {
             seen.differences += 1;
             seen.first.get_or_insert(format!("sequence {index}: {message}"));
             if stop {

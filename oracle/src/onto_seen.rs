@@ -26,6 +26,9 @@ pub struct Seen {
     /// Bundles that the Rust can not hold, and those in which `emit_return` panics.
     pub inexpressible: u64,
     pub panicked: u64,
+    /// Calls of a library on the same programs, and bundles laid on the program that its side keeps.
+    pub asked: u64,
+    pub kept: u64,
     pub differences: u64,
     pub first: Option<String>,
 }
@@ -49,6 +52,9 @@ impl Seen {
             "half books of the Rust {}, of these with what stood changed {}; bundles it can not hold {}, its panic {}",
             self.half_books, self.half_changed, self.inexpressible, self.panicked
         );
+        if self.asked > 0 {
+            println!("calls of the library {}, bundles on the program that is kept {}", self.asked, self.kept);
+        }
         println!("differences {}", self.differences);
     }
 }

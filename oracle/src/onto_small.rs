@@ -1,7 +1,7 @@
 //! All small books laid after each other: the reading of onto.rs held against the Rust (`onto --small`).
 
 use crate::onto::{Lent, Reading};
-use crate::onto_grown::{Look, Sequence};
+use crate::onto_grown::{Look, Ours, Sequence};
 use crate::onto_seen::Seen;
 use crate::random::Random;
 use crate::records::{flatten, kind, Node, MAIN};
@@ -70,7 +70,7 @@ fn is_delivered(body: &[Node]) -> bool {
 
 /// A book laid after another, in both modes: book 2 with up to two such definitions where it is delivered, book 3 with up to
 /// `most`; then a third, 5, that includes 2, gives the model of 2 a method and reads 9, whatever became of the second.
-pub fn compare_small(reading: Reading, look: Look, most: usize) -> Seen {
+pub fn compare_small(reading: Reading, look: Look, most: usize, mut ours: Option<Ours>) -> Seen {
     let definitions = small_definitions();
     let third = [11, 3, 7].map(|at| definitions[at].clone());
     let seconds = bodies(&definitions, most);
@@ -79,7 +79,8 @@ pub fn compare_small(reading: Reading, look: Look, most: usize) -> Seen {
         for (other, second) in (0..).zip(&seconds) {
             for strict in [false, true] {
                 seen.sequences += 1;
-                let mut sequence = Sequence::new(Random::for_case(index, other), reading, look, &mut seen, 7);
+                let sequence = Sequence::new(Random::for_case(index, other), reading, look, &mut seen, 7);
+                let mut sequence = sequence.with(ours.as_mut().map(Ours::again));
                 let trees = [tree(2, &first), tree(3, second), tree(5, &third)];
                 let laid = trees.iter().try_for_each(|tree| sequence.bundle(tree, strict));
                 if let Err(message) = laid.and_then(|()| sequence.ends()) {

@@ -1,17 +1,18 @@
 //! The library of this repository through the crate `rust/`, behind the feature `link`. The crate's
 //! build script links it.
 
-use crate::areas::{Lengths, Lent};
+use crate::areas::{Lengths, Lent, AREAS};
 use crate::compare::Side;
 use crate::convert::Converters;
 use crate::error_calls::ErrorCalls;
 use crate::onto_calls::{OntoCalls, Replied};
+use crate::onto_grown::KeptProgram;
 use crate::program_calls::ProgramCalls;
 use crate::standing::{Order, Totals as Standing};
 use crate::strict_calls::Modes;
 use crate::table_calls::TableCalls;
 use crate::views::Answered;
-use clover_back_end::{calls, Converted, Mode, Totals};
+use clover_back_end::{calls, Converted, Mode, StandingProgram, Totals};
 
 pub struct Library;
 
@@ -27,8 +28,7 @@ impl Side for Library {
 
 impl Modes for Library {
     fn compile_in<'a>(&mut self, strict: bool, words: &[u64], lent: Lent<'a>) -> Answered<'a> {
-        let mode = if strict { Mode::Strict } else { Mode::Present };
-        calls::compile_in(mode, words, lent.lengths, lent.memory)
+        calls::compile_in(mode(strict), words, lent.lengths, lent.memory)
     }
 }
 
@@ -68,35 +68,79 @@ impl TableCalls for Library {
     }
 }
 
+/// The number of bundles, which no call of this layout has (2026-08), left out.
+fn crates(totals: &Standing) -> Totals {
+    let mut words = [0; Totals::WORDS];
+    words[..AREAS].copy_from_slice(&totals.areas);
+    words[AREAS..].copy_from_slice(&[totals.entry_point, totals.globals]);
+    Totals::from_words(words)
+}
+
+fn standing(totals: Totals) -> Standing {
+    let words = totals.words();
+    let areas = std::array::from_fn(|i| words[i]);
+    Standing { areas, entry_point: totals.entry_point, globals: totals.global_dependencies, bundles: 0 }
+}
+
+fn mode(strict: bool) -> Mode {
+    if strict {
+        Mode::Strict
+    } else {
+        Mode::Present
+    }
+}
+
 impl ProgramCalls for Library {
     fn check_program(&mut self, memory: &[u64], lengths: &Lengths, totals: &Standing) -> [u64; 2] {
-        let [code, constants, functions, models, properties, methods, context_locals, public_names, ..] = totals.areas;
-        let [.., scope_names, breaks, errors, books] = totals.areas;
-        let totals = Totals {
-            code,
-            constants,
-            functions,
-            models,
-            properties,
-            methods,
-            context_locals,
-            public_names,
-            scope_names,
-            breaks,
-            errors,
-            books,
-            entry_point: totals.entry_point,
-            global_dependencies: totals.globals,
-        };
-        let checked = calls::check_program(memory, *lengths, totals);
+        let checked = calls::check_program(memory, *lengths, crates(totals));
         [checked.number, checked.place as u64]
     }
 }
 
-/// `clover_lay_on`, `clover_trial` and `clover_commit`, which the library does not export yet: this one function is to be
-/// filled in when it does, and `oracle onto --calls N --ours` compares.
+/// `clover_lay_on`; the library has no trial and no commit (2026-08).
 impl OntoCalls for Library {
-    fn call(&mut self, order: &Order, _: &[u64], _: bool, _: &Lengths, _: &mut [u64]) -> Replied {
-        unimplemented!("the library has no call for {order:?}")
+    fn call(&mut self, order: &Order, tree: &[u64], strict: bool, lengths: &Lengths, memory: &mut [u64]) -> Replied {
+        let Order::Lay(totals) = order else { unimplemented!("the library has no call for {order:?}") };
+        let reply = calls::lay_on(mode(strict), tree, crates(totals), *lengths, memory).reply;
+        Replied { row: reply.number, place: reply.place, totals: standing(reply.totals) }
+    }
+
+    fn counts_bundles(&self) -> bool {
+        false
+    }
+
+    fn is_lent_every_way(&self) -> bool {
+        true
+    }
+}
+
+/// A program that the crate keeps.
+pub struct LibraryProgram(StandingProgram);
+
+impl Default for LibraryProgram {
+    fn default() -> LibraryProgram {
+        LibraryProgram(StandingProgram::least())
+    }
+}
+
+impl KeptProgram for LibraryProgram {
+    fn start(&mut self) {
+        *self = LibraryProgram::default();
+    }
+
+    fn lay_on(&mut self, tree: &[u64], strict: bool) -> (u64, u64) {
+        let laid = self.0.lay_on(tree, mode(strict));
+        laid.map_or_else(|refusal| (refusal.row(), refusal.place()), |()| (0, 0))
+    }
+
+    /// Without the layout.
+    fn saved(&self) -> Vec<u64> {
+        self.0.to_words().split_off(1)
+    }
+
+    fn load(&mut self, words: &[u64]) -> Result<(), String> {
+        let words = [&[calls::LAYOUT][..], words].concat();
+        self.0 = StandingProgram::from_words(&words).map_err(|error| error.to_string())?;
+        Ok(())
     }
 }

@@ -5,6 +5,7 @@ use crate::areas::{answer, Lengths, AREAS, ENTRY_WORDS};
 use crate::columns::{column_to_records, damaged, lines, records_to_column, LINE_BYTES};
 use crate::generate::{case, Sizes};
 use crate::model::{compile, compile_by, Rules, Run};
+use crate::onto_sample;
 use crate::pieces::{self, document, function, include, named};
 use crate::random::Random;
 use crate::real::{run, Outcome};
@@ -25,12 +26,12 @@ const COLUMN_RECORDS: usize = 12;
 /// File name to content, in order of name.
 pub type Files = BTreeMap<String, Vec<u8>>;
 
-fn numbers(list: impl IntoIterator<Item = u64>) -> String {
+pub(crate) fn numbers(list: impl IntoIterator<Item = u64>) -> String {
     list.into_iter().map(|number| number.to_string()).collect::<Vec<_>>().join(" ")
 }
 
 /// Count, then the list up to its last number that is not 0.
-fn prefix(list: &[u64]) -> String {
+pub(crate) fn prefix(list: &[u64]) -> String {
     let length = list.iter().rposition(|&word| word != 0).map_or(0, |last| last + 1);
     numbers(std::iter::once(length as u64).chain(list[..length].iter().copied()))
 }
@@ -351,6 +352,9 @@ pub fn files() -> Files {
     let (strict, cases) = strict_cases();
     split(&mut files, "strict", &cases);
     files.insert("strict.txt".to_string(), (strict.join("\n") + "\n").into_bytes());
+    let (laid, cases) = onto_sample::cases();
+    split(&mut files, "onto", &cases);
+    files.insert("onto.txt".to_string(), (laid.join("\n") + "\n").into_bytes());
     split(&mut files, "to-records", &column_cases());
     split(&mut files, "to-column", &line_cases());
     add_listings(&mut files);

@@ -32,7 +32,7 @@ pub fn lengths_of_tables(entries: usize, random: &mut Random) -> [usize; 6] {
 }
 
 /// What a table may hold before a call: empty slots, numbers of the pool and just beyond, and any words.
-fn stale(slots: usize, entries: usize, random: &mut Random) -> Vec<u64> {
+pub(crate) fn stale(slots: usize, entries: usize, random: &mut Random) -> Vec<u64> {
     let word = |random: &mut Random| match random.below(4) {
         0 => 0,
         1 | 2 => random.between(1, entries as u64 + 2),

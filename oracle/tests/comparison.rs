@@ -65,7 +65,7 @@ fn the_sample_is_current() {
             .map(|(_, content)| content.len())
             .sum()
     };
-    assert!(size(false) < 300_000 && size(true) < 1_500_000);
+    assert!(size(false) < 400_000 && size(true) < 1_500_000);
     for (name, content) in &files {
         let kept = std::fs::read(folder.join(name)).unwrap_or_else(|e| panic!("{name}: {e}; run the sample command"));
         assert!(kept == *content, "{name} is not what the sample command writes");

@@ -109,7 +109,7 @@ impl Program {
     fn call(&self, order: Order, words: &[u64], strict: bool) -> Answered {
         let call = Call { order, words: words.to_vec(), strict, areas: self.areas.clone() };
         // The other reading, of standing.rs, answers alike.
-        judge(&mut Standing, &call).expect("both readings")
+        judge(&mut Standing, &call).expect("both readings").answered
     }
 
     fn lays(&self, bundle: &[Node]) -> Answered {

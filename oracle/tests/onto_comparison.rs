@@ -116,7 +116,7 @@ fn grown_programs_are_the_rusts() {
 
 #[test]
 fn small_books_laid_after_each_other() {
-    let seen = compare_small(RIGHT, Look::AllLeft, 2);
+    let seen = compare_small(RIGHT, Look::AllLeft, 2, None);
     assert_eq!(seen.first, None);
     // 241 books of up to two of the 15 definitions, in two modes, on each of those that are delivered.
     assert!(seen.sequences % (2 * 241) == 0 && seen.sequences > 10_000, "{seen:?}");
@@ -130,8 +130,9 @@ fn both_readings_are_alike() {
     assert!(seen.calls > 1500 && seen.delivered > 500, "{seen:?}");
 }
 
-/// Programs that books make have no two constants to share but by a fault, so that the Rust says nothing of this one.
-const NOT_THE_RUSTS: [Fault; 1] = [Fault::LastShared];
+/// Programs that books make have no two constants to share but by a fault, and the Rust has no slots, so that it says nothing of
+/// these.
+const NOT_THE_RUSTS: [Fault; 3] = [Fault::LastShared, Fault::SlotsLeft, Fault::SlotsCleared];
 
 #[test]
 fn planted_faults_are_seen_by_the_rust() {

@@ -112,8 +112,30 @@ fn weight(kind: Option<Kind>) -> (usize, usize) {
     }
 }
 
+/// Entries that most bundles of these records take.
+pub(crate) fn entries_for(tree: &[u64]) -> [usize; AREAS] {
+    let kinds = || tree.chunks_exact(RECORD_WORDS).map(|record| Kind::from_number(record[0]));
+    let count = |wanted: &[Kind]| kinds().flatten().filter(|kind| wanted.contains(kind)).count();
+    let (code, constants) = kinds().map(weight).fold((8, 8), |sum, more| (sum.0 + more.0, sum.1 + more.1));
+    let functions = count(&[Kind::Function, Kind::PublicFunction]);
+    let models = count(&[Kind::Model, Kind::PublicModel]);
+    let names = count(&[Kind::Name, Kind::ThisParameter]);
+    Area::each(|area| match area {
+        Area::Code => code,
+        Area::Constants => constants,
+        Area::Functions | Area::Methods => functions,
+        Area::Models => models,
+        Area::Properties | Area::ScopeNames => names,
+        Area::ContextLocals => names + functions + models,
+        Area::PublicNames => count(&[Kind::PublicFunction, Kind::PublicModel]),
+        Area::Breaks => count(&[Kind::Break]),
+        Area::Errors => 64,
+        Area::Books => count(&[Kind::Document]),
+    })
+}
+
 /// Words of areas with so many entries, and of their slots.
-fn words_for(entries: [usize; AREAS]) -> usize {
+pub(crate) fn words_for(entries: [usize; AREAS]) -> usize {
     let areas: usize = Area::each(|area| entries[area.index()] * area.entry_words()).iter().sum();
     areas + slots_for(entries[Area::Constants.index()])
 }
@@ -128,24 +150,7 @@ impl Areas {
     /// its target twice, so that code can double at every second level. Where an area is full,
     /// [`grow`](Areas::grow) it.
     pub fn for_tree(tree: &[u64]) -> Areas {
-        let kinds = || tree.chunks_exact(RECORD_WORDS).map(|record| Kind::from_number(record[0]));
-        let count = |wanted: &[Kind]| kinds().flatten().filter(|kind| wanted.contains(kind)).count();
-        let (code, constants) = kinds().map(weight).fold((8, 8), |sum, more| (sum.0 + more.0, sum.1 + more.1));
-        let functions = count(&[Kind::Function, Kind::PublicFunction]);
-        let models = count(&[Kind::Model, Kind::PublicModel]);
-        let names = count(&[Kind::Name, Kind::ThisParameter]);
-        Areas::with_entries(Area::each(|area| match area {
-            Area::Code => code,
-            Area::Constants => constants,
-            Area::Functions | Area::Methods => functions,
-            Area::Models => models,
-            Area::Properties | Area::ScopeNames => names,
-            Area::ContextLocals => names + functions + models,
-            Area::PublicNames => count(&[Kind::PublicFunction, Kind::PublicModel]),
-            Area::Breaks => count(&[Kind::Break]),
-            Area::Errors => 64,
-            Area::Books => count(&[Kind::Document]),
-        }))
+        Areas::with_entries(entries_for(tree))
     }
 
     /// Makes an area twice as long and at least 64 entries; the table of slots grows with the constants.
@@ -154,7 +159,8 @@ impl Areas {
         *self = Areas::with_entries(self.grown(area));
     }
 
-    fn grown(&self, area: Area) -> [usize; AREAS] {
+    /// The room of each area, once an area is grown.
+    pub(crate) fn grown(&self, area: Area) -> [usize; AREAS] {
         let mut entries = self.entries;
         entries[area.index()] = (2 * entries[area.index()]).max(64);
         entries
@@ -164,6 +170,20 @@ impl Areas {
     #[cfg(feature = "link")]
     pub(crate) fn len_grown(&self, area: Area) -> usize {
         words_for(self.grown(area))
+    }
+
+    /// The same words in areas with room for so many entries, in none for fewer than here. The last call's reply is given up.
+    #[cfg(feature = "link")]
+    pub(crate) fn moved(&self, entries: [usize; AREAS]) -> Areas {
+        let mut moved = Areas::with_entries(entries);
+        let mut rest = &mut moved.memory[..];
+        for (&area, words) in Area::ALL.iter().zip(areas_in(self.lengths(), &self.memory)) {
+            let length = entries[area.index()] * area.entry_words();
+            let (longer, behind) = std::mem::take(&mut rest).split_at_mut(length);
+            longer[..words.len()].copy_from_slice(words);
+            rest = behind;
+        }
+        moved
     }
 
     /// Room of an area in entries.

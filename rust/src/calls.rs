@@ -19,7 +19,7 @@ use crate::reply::{Answer, Checked, Converted, Reply, Tabled, Version};
 use std::sync::Once;
 
 /// The layout that this crate was written for. The first call holds the library's to it.
-pub const LAYOUT: u64 = 4;
+pub const LAYOUT: u64 = 5;
 
 extern "C" {
     fn clover_version() -> Version;
@@ -47,6 +47,13 @@ extern "C" {
     fn clover_compile(
         tree: *const u64, tree_words: usize,
         mode: u64,
+        lengths: Lengths,
+        memory: *mut u64, memory_words: usize,
+    ) -> Reply;
+    fn clover_lay_on(
+        tree: *const u64, tree_words: usize,
+        mode: u64,
+        standing: Totals,
         lengths: Lengths,
         memory: *mut u64, memory_words: usize,
     ) -> Reply;
@@ -155,5 +162,33 @@ pub fn compile_in<'a>(mode: Mode, tree: &[u64], lengths: [usize; AREAS], memory:
     let (words, size) = (Lengths(lengths), memory.len());
     // Both slices outlive the call, and the memory is another than the tree.
     let reply = unsafe { clover_compile(tree.as_ptr(), tree.len(), mode.word(), words, memory.as_mut_ptr(), size) };
+    Answer { reply, areas: areas_in(lengths, memory) }
+}
+
+/// Lays a bundle onto the program that stands in the areas of one memory and has these totals. First of all the program is
+/// checked as [`check_program`] does: where it fails, every word stays as it is. A delivery is what stood and what the bundle
+/// adds, then zeros. Any other refusal leaves the program, and in area 11 the errors of rows 7 and 8 and zeros. After a refusal
+/// the reply's totals are those lent. What is left over behind the last area is the table of slots, as in [`compile_in`]: zeros
+/// after every call but the check's refusal. What area 11 holds before, and its total, do not matter.
+pub fn lay_on<'a>(
+    mode: Mode,
+    tree: &[u64],
+    standing: Totals,
+    lengths: [usize; AREAS],
+    memory: &'a mut [u64],
+) -> Answer<'a> {
+    hold_to_layout();
+    let (words, size) = (Lengths(lengths), memory.len());
+    // Both slices outlive the call, and the memory is another than the tree.
+    #[rustfmt::skip]
+    let reply = unsafe {
+        clover_lay_on(
+            tree.as_ptr(), tree.len(),
+            mode.word(),
+            standing,
+            words,
+            memory.as_mut_ptr(), size,
+        )
+    };
     Answer { reply, areas: areas_in(lengths, memory) }
 }

@@ -14,33 +14,44 @@ use crate::refusal::Refusal;
 use crate::table::TABLE_LINE_BYTES;
 use crate::texts::Text;
 
-/// The refusal with the rule that a record breaks, or the name that is not public.
-fn with_reason(refusal: Refusal, tree: &[u64]) -> Refusal {
+/// The refusal with the rule that a record breaks, or the name that is not public. Where the bundle was laid onto a program,
+/// that is the program as it stands.
+pub(crate) fn with_reason(refusal: Refusal, tree: &[u64], standing: Option<Program<'_>>) -> Refusal {
     match refusal {
         Refusal::BadShape { record, .. } => Refusal::BadShape { record, reason: ShapeFault::of(tree, record) },
         Refusal::NameNotPublic { record, .. } => {
-            Refusal::NameNotPublic { record, name: first_not_public(tree, record) }
+            Refusal::NameNotPublic { record, name: first_not_public(tree, record, standing) }
         }
         other => other,
     }
 }
 
-/// The first name that the include at a record lists and that no public model or function of its file's document has.
-fn first_not_public(tree: &[u64], record: u64) -> Option<Text> {
-    let definitions = || documents(tree).flat_map(|document| document.children());
-    let include = definitions().find(|definition| definition.index() as u64 == record)?;
-    let book = documents(tree).find(|document| document.value() == include.value())?;
-    let public = |name: u64| {
-        let named = |definition: &Node| definition.value() == name;
-        let kinds = [Some(Kind::PublicModel), Some(Kind::PublicFunction)];
-        book.children().any(|definition| kinds.contains(&definition.kind()) && named(&definition))
-    };
-    include.children().step_by(2).find(|name| !public(name.value()))?.text()
+/// The first name that the include at a record lists and that is not public in its file.
+fn first_not_public(tree: &[u64], record: u64, standing: Option<Program<'_>>) -> Option<Text> {
+    let mut definitions = documents(tree).flat_map(|document| document.children());
+    let include = definitions.find(|definition| definition.index() as u64 == record)?;
+    let file = include.text()?;
+    let public = standing.and_then(|program| standing_names(program, file)).or_else(|| names_in(tree, file))?;
+    include.children().step_by(2).filter_map(|name| name.text()).find(|name| !public.contains(name))
+}
+
+/// The public names of a book that stands; a copy of it in the bundle does not count.
+fn standing_names(program: Program<'_>, file: Text) -> Option<Vec<Text>> {
+    let index = program.books().position(|book| book == file)? as u64;
+    Some(program.public_names().filter(|public| public.file == index).map(|public| public.name).collect())
+}
+
+/// The public models and functions of a file's document.
+fn names_in(tree: &[u64], file: Text) -> Option<Vec<Text>> {
+    let book = documents(tree).find(|document| document.text() == Some(file))?;
+    let kinds = [Some(Kind::PublicModel), Some(Kind::PublicFunction)];
+    let public = |definition: &Node| kinds.contains(&definition.kind());
+    Some(book.children().filter(public).filter_map(|definition| definition.text()).collect())
 }
 
 /// The shape check: rows 2 to 4 on any words.
 pub fn check(tree: &[u64]) -> Result<(), Refusal> {
-    calls::check(tree).result().map_err(|refusal| with_reason(refusal, tree))
+    calls::check(tree).result().map_err(|refusal| with_reason(refusal, tree, None))
 }
 
 /// A column file to records, or rows 1 to 4.
@@ -49,7 +60,7 @@ pub fn columns_to_records(file: &[u8]) -> Result<Vec<u64>, Refusal> {
     let converted = calls::columns_to_records(file, &mut out).records();
     let records = converted.map_err(|refusal| match refusal {
         Refusal::BadLine { line, .. } => Refusal::BadLine { line, reason: LineFault::of(file, line) },
-        other => with_reason(other, &words(file).unwrap_or_default()),
+        other => with_reason(other, &words(file).unwrap_or_default(), None),
     })?;
     out.truncate(records * RECORD_WORDS);
     Ok(out)
@@ -59,7 +70,7 @@ pub fn columns_to_records(file: &[u8]) -> Result<Vec<u64>, Refusal> {
 pub fn records_to_columns(tree: &[u64]) -> Result<Vec<u8>, Refusal> {
     let mut out = vec![0; tree.len() / RECORD_WORDS * LINE_BYTES];
     let converted = calls::records_to_columns(tree, &mut out).records();
-    let records = converted.map_err(|refusal| with_reason(refusal, tree))?;
+    let records = converted.map_err(|refusal| with_reason(refusal, tree, None))?;
     out.truncate(records * LINE_BYTES);
     Ok(out)
 }
@@ -86,7 +97,7 @@ pub fn table_to_records(table: &[u8], file: Text) -> Result<Vec<u64>, Refusal> {
 pub fn records_to_table(tree: &[u64]) -> Result<(Vec<u8>, Text), Refusal> {
     let mut out = vec![0; tree.len() / (3 * RECORD_WORDS) * TABLE_LINE_BYTES];
     let tabled = calls::records_to_table(tree, &mut out).lines();
-    let (lines, file) = tabled.map_err(|refusal| with_reason(refusal, tree))?;
+    let (lines, file) = tabled.map_err(|refusal| with_reason(refusal, tree, None))?;
     out.truncate(lines * TABLE_LINE_BYTES);
     Ok((out, file))
 }
@@ -119,7 +130,7 @@ impl Areas {
         let answer = calls::compile_in(mode, tree, lengths, self.lend());
         let (reply, refusal) = (answer.reply, answer.program().err());
         self.keep(reply);
-        refusal.map_or(Ok(()), |refusal| Err(with_reason(refusal, tree)))
+        refusal.map_or(Ok(()), |refusal| Err(with_reason(refusal, tree, None)))
     }
 
     /// The same, and where an area is full it is [grown](Areas::grow) and the bundle compiled again,

@@ -3,7 +3,8 @@
 //!
 //! A bundle of books goes in as records, four words each ([`records`] writes them); a program comes
 //! out in memory that the caller lends ([`Areas`], or a slice of its own through `calls`), read through
-//! [`Program`]. Texts are numbers throughout; a [`Texts`] knows what they say.
+//! [`Program`]. Texts are numbers throughout; a [`Texts`] knows what they say. Later bundles are laid onto
+//! a program that stands (`StandingProgram`), which can be saved and loaded.
 //!
 //! ```
 //! # #[cfg(feature = "link")]
@@ -61,6 +62,8 @@ pub mod records;
 mod refusal;
 mod reply;
 #[cfg(feature = "link")]
+mod saved;
+#[cfg(feature = "link")]
 mod standing;
 mod table;
 mod texts;
@@ -83,6 +86,8 @@ pub use program::{ContextLocal, Function, Method, Model, Program, PublicName, To
 pub use refusal::{Error, ErrorKind, Refusal, Token};
 pub use reply::{Answer, Checked, Converted, Reply, Tabled, Version};
 #[cfg(feature = "link")]
-pub use standing::check_program;
+pub use saved::LoadError;
+#[cfg(feature = "link")]
+pub use standing::{check_program, StandingProgram};
 pub use table::TABLE_LINE_BYTES;
 pub use texts::{Text, TextTable, Texts, TextsError};

@@ -59,6 +59,39 @@ impl Totals {
             Area::Books => self.books,
         }
     }
+
+    /// How many numbers there are.
+    pub const WORDS: usize = AREAS + 2;
+
+    /// All of them: the areas' totals in the order of their numbers, the entry point, the number of global dependencies.
+    pub fn words(&self) -> [u64; Totals::WORDS] {
+        std::array::from_fn(|at| match Area::ALL.get(at) {
+            Some(&area) => self.of(area),
+            None if at == AREAS => self.entry_point,
+            None => self.global_dependencies,
+        })
+    }
+
+    /// From the numbers in that order.
+    pub fn from_words(words: [u64; Totals::WORDS]) -> Totals {
+        let of = |area: Area| words[area.index()];
+        Totals {
+            code: of(Area::Code),
+            constants: of(Area::Constants),
+            functions: of(Area::Functions),
+            models: of(Area::Models),
+            properties: of(Area::Properties),
+            methods: of(Area::Methods),
+            context_locals: of(Area::ContextLocals),
+            public_names: of(Area::PublicNames),
+            scope_names: of(Area::ScopeNames),
+            breaks: of(Area::Breaks),
+            errors: of(Area::Errors),
+            books: of(Area::Books),
+            entry_point: words[AREAS],
+            global_dependencies: words[AREAS + 1],
+        }
+    }
 }
 
 /// A program in the areas that were lent for it. Files are indices of [`books`](Program::books),
@@ -232,6 +265,10 @@ impl<'a> Function<'a> {
     pub fn code(&self) -> &'a [u64] {
         let words = Area::Code.entry_words();
         let (first, count) = (self.entry[4] as usize, self.entry[5] as usize);
+        // A function without instructions may start anywhere in a program that somebody lent.
+        if count == 0 {
+            return &[];
+        }
         &self.code[first * words..(first + count) * words]
     }
 
@@ -432,6 +469,23 @@ mod tests {
         let first = program.function(0).expect("the first");
         assert_eq!((first.rescue_position(), first.is_instance(), first.instructions().len()), (2, true, 2));
         assert!(program.function(2).is_none());
+    }
+
+    #[test]
+    fn totals_are_fourteen_words() {
+        let words = std::array::from_fn(|at| 100 + at as u64);
+        let totals = Totals::from_words(words);
+        assert_eq!(totals.words(), words);
+        assert!(Area::ALL.iter().all(|&area| totals.of(area) == 99 + area.number()));
+        assert_eq!((totals.entry_point, totals.global_dependencies), (112, 113));
+    }
+
+    #[test]
+    fn a_function_without_instructions_starts_anywhere() {
+        let areas = areas(&[(Area::Functions, &[0, 0, 0, 0, u64::MAX, 0, 0, 3])]);
+        let program = program(&areas, Totals { functions: 1, ..Totals::default() });
+        let function = program.function(0).expect("one function");
+        assert_eq!((function.code().len(), function.instructions().len()), (0, 0));
     }
 
     #[test]

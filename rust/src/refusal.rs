@@ -14,7 +14,7 @@ use std::fmt;
 const LINE_BUFFER: u64 = 13;
 
 /// What row 3 of the program check adds to an area's number: no record has so large an index.
-pub(crate) const PROGRAM_PLACE: u64 = 1_048_576;
+const PROGRAM_PLACE: u64 = 1_048_576;
 
 /// Why a call delivers nothing. Each case is a row of docs/FORMAT.md, 'Refusals', with what its place
 /// means.
@@ -47,7 +47,7 @@ pub enum Refusal {
         /// The second of them.
         record: u64,
     },
-    /// Row 6: a needed book is not in the bundle.
+    /// Row 6: a needed book is not in the bundle, nor does it stand.
     BookMissing {
         /// Its file.
         file: Text,
@@ -76,7 +76,7 @@ pub enum Refusal {
         /// The first such error of the list, from 0.
         index: u64,
     },
-    /// Row 3 of the program check: an area of a standing program fails.
+    /// Row 3 of the program check, which laying on makes first of all: an area of a standing program fails.
     BadProgram {
         /// The first such area.
         area: Area,
@@ -105,7 +105,10 @@ impl Refusal {
             0 => return None,
             1 => Refusal::BadLine { line: place, reason: None },
             2 => Refusal::BadLength,
-            3 => Refusal::BadShape { record: place, reason: None },
+            3 => match place.checked_sub(PROGRAM_PLACE).and_then(Area::from_number) {
+                Some(area) => Refusal::BadProgram { area },
+                None => Refusal::BadShape { record: place, reason: None },
+            },
             4 => Refusal::TooDeep { record: place },
             5 => Refusal::BookTwice { record: place },
             6 => Refusal::BookMissing { file: Text::from_number(place) },
@@ -383,6 +386,8 @@ mod tests {
     #[test]
     fn the_area_of_a_program_is_spelt() {
         let functions = Refusal::BadProgram { area: Area::Functions };
+        assert_eq!(Refusal::of(3, 1_048_579, &[]).as_ref(), Some(&functions));
+        assert_eq!(Refusal::of(3, 1_048_575, &[]), Some(Refusal::BadShape { record: 1_048_575, reason: None }));
         assert_eq!((functions.row(), functions.place(), functions.record()), (3, 1_048_579, None));
         assert_eq!(functions.to_string(), "bad shape: area 3, functions, is no part of a program");
     }

@@ -2,7 +2,7 @@
 
 use crate::areas::{Area, AREAS};
 use crate::program::{Program, Totals};
-use crate::refusal::{Refusal, PROGRAM_PLACE};
+use crate::refusal::Refusal;
 use crate::texts::Text;
 
 /// Which library is linked.
@@ -33,13 +33,7 @@ impl Checked {
 
     /// Of the program check: the area that fails.
     pub fn program_result(self) -> Result<(), Refusal> {
-        match self.number {
-            0 => Ok(()),
-            _ => {
-                let area = Area::from_number(self.place as u64 - PROGRAM_PLACE);
-                Err(Refusal::BadProgram { area: area.expect("row 3 of the program check has an area") })
-            }
-        }
+        self.result()
     }
 }
 
@@ -93,7 +87,7 @@ impl Tabled {
     }
 }
 
-/// Of the compile call.
+/// Of the compile call and of laying on.
 #[repr(C)]
 #[derive(Clone, Copy, Debug, Default, PartialEq, Eq)]
 pub struct Reply {
@@ -101,11 +95,11 @@ pub struct Reply {
     pub number: u64,
     /// The refusal's place, or 0.
     pub place: u64,
-    /// All 0 after a refusal.
+    /// After a refusal all 0, of laying on as they were lent.
     pub totals: Totals,
 }
 
-/// A compile call's reply, and the areas whole as it left them: entries, then zeros.
+/// The reply of a compile call or of laying on, and the areas whole as it left them: entries, then zeros.
 #[derive(Clone, Copy, Debug)]
 pub struct Answer<'a> {
     /// The reply.
@@ -115,7 +109,7 @@ pub struct Answer<'a> {
 }
 
 impl<'a> Answer<'a> {
-    /// The program, or why there is none. The reply and the words must be those of one call: other
+    /// The program, or why nothing is delivered. The reply and the words must be those of one call: other
     /// ones may panic here or in the views.
     pub fn program(&self) -> Result<Program<'a>, Refusal> {
         let Reply { number, place, totals } = self.reply;

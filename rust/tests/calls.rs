@@ -44,7 +44,7 @@ fn full(area: Area) -> Reply {
 #[test]
 fn the_library_is_of_this_layout() {
     let linked = calls::version();
-    assert_eq!((linked.version, linked.layout), (4, calls::LAYOUT));
+    assert_eq!((linked.version, linked.layout), (5, calls::LAYOUT));
 }
 
 #[test]

@@ -134,3 +134,32 @@ fn the_example_of_errors_in_words_is_written() {
     assert_eq!(kinds, [1, 11, 12, 13, 14, 15, 16, 30, 35, 40, 41]);
     assert!(page().contains("of kinds 1, 11 to 16, 30, 35, 40 and 41 a text"));
 }
+
+/// The example of 'Laying on', and the least program of 'A program saved'.
+#[cfg(feature = "link")]
+#[test]
+fn the_examples_of_laying_on_are_so() {
+    use clover_back_end::{Mode, Refusal, StandingProgram};
+    let lines =
+        |words: &[u64]| words.chunks(4).map(|record| format!("`{}`", spaced(record))).collect::<Vec<_>>().join(", ");
+    let mut program = StandingProgram::compiled(&[1, 1, 0, 2], Mode::Present).expect("delivered");
+    let totals = |program: &StandingProgram| (program.totals().constants, program.totals().books);
+    assert_eq!((totals(&program), program.totals().words().iter().sum::<u64>()), ((3, 1), 4));
+    let missing = [1, 2, 0, 3, 11, 1, 0, 8];
+    let refusal = program.lay_on(&missing, Mode::Present).expect_err("file 8 is missing");
+    assert_eq!((refusal, totals(&program)), (Refusal::BookMissing { file: Text::from_number(8) }, (3, 1)));
+    let including = [1, 2, 0, 3, 11, 1, 0, 2];
+    program.lay_on(&including, Mode::Present).expect("delivered");
+    assert_eq!((totals(&program), program.program().words(Area::Books)), ((3, 2), &[2, 3][..]));
+    let page = page();
+    assert!(page.contains(&format!("The bundle {}, file 3 with", lines(&including))), "{}", lines(&including));
+    assert!(page.contains(&format!("The bundle {}\nis refused", lines(&missing))), "{}", lines(&missing));
+    let least = StandingProgram::least().to_words();
+    let parts = [&least[..1], &least[1..15], &least[15..]].map(|part| format!("`{}`", spaced(part))).join(", ");
+    assert!(page.contains(&format!("The least program is {parts}.")), "{parts}");
+}
+
+#[cfg(feature = "link")]
+fn spaced(words: &[u64]) -> String {
+    words.iter().map(u64::to_string).collect::<Vec<_>>().join(" ")
+}

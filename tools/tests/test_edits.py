@@ -1,4 +1,4 @@
-"""Every must-fail edit fits: each of its `old:` texts stands once in the file that it names. `rt must-fail` asks the same, but only after all crates are proved."""
+"""Every must-fail edit fits: each of its `old:` texts stands once in the file that it names. `rt must-fail` asks the same, but only after all crates are proved, and of those in must-fail-by-hand/, which tools/try-edit tries, never."""
 import pathlib
 import unittest
 
@@ -17,7 +17,7 @@ def changes(text):
 
 class Edits(unittest.TestCase):
     def test_old_texts_stand_once(self):
-        edits = sorted(CRATES.glob("*/must-fail/*.edit"))
+        edits = sorted([*CRATES.glob("*/must-fail/*.edit"), *CRATES.glob("*/must-fail-by-hand/*.edit")])
         self.assertTrue(edits)
         for edit in edits:
             found = list(changes(edit.read_text()))

@@ -1,14 +1,18 @@
-// The compile call on the oracle's stored cases, `oracle/sample/compile-N.txt`, which `tools/book-cases` puts into `stdin`. A case is a line with the
-// bytes of its name and of its numbers, then both. A memory of stale words is lent; the reply and every word of the memory must be as stored: the areas one
-// after the other, zeros after a list's end and behind the last area. A line with the reply is written for each case, below it one for each part that
-// differs, and the counts at the end.
+// The compile call and laying on, on the oracle's stored cases, `oracle/sample/compile-N.txt`, `strict-N.txt` and `onto-N.txt`, which `tools/book-cases` puts
+// into `stdin`. A case is a line with the bytes of its name and of its numbers, then both. To the compile call a memory of stale words is lent; to laying on
+// one with the areas that are stored, zeros after a list's end, and stale words behind the last area. The reply and every word of the memory must be as
+// stored: the areas one after the other, zeros after a list's end and behind the last area, or there the stale words where the program that stands is
+// refused. A line with the reply is written for each case, below it one for each part that differs, and the counts at the end.
 ghost use Prim.Native.Nat.{_≤_};
 ghost use lib.ListN.{length};
 use book_compiler::compile;
+use book_compiler::lay_on;
 use case_numbers::parse;
 use libc::STDIN_FILENO;
 use libc::STDOUT_FILENO;
+use words::reply::BAD_SHAPE;
 use words::reply::Reply;
+use words::reply::Totals;
 
 // What `next` answers.
 const AS_STORED: u64 = 0;
@@ -16,6 +20,9 @@ const AS_STORED: u64 = 0;
 const DIFFERS: u64 = 1;
 
 const NO_CASE: u64 = 2;
+
+// The first call that lays on.
+const LAY_ON: u64 = 2;
 
 const MOST_CASES: u64 = 10000;
 
@@ -30,6 +37,12 @@ const AREAS: u64 = 12;
 const REPLY_WORDS: u64 = 16;
 
 const MOST_NUMBERS: usize = 1024;
+
+// What memory holds that nothing was put into.
+const STALE: u64 = 7777777;
+
+// Row 3 has a place past this one where it is the program that stands.
+const PROGRAM_PLACE: u64 = 1048576;
 
 // A place past every number.
 const NOWHERE: usize = 18446744073709551615;
@@ -64,8 +77,8 @@ fn after(numbers: &[u64], at: usize) -> usize
     NOWHERE
 }
 
-// Word i of the n that stand after a place; 0 past them.
-fn stored(numbers: &[u64], at: usize, n: u64, i: usize) -> u64 {
+// Word i of the n that stand after a place; past them another.
+fn stored(numbers: &[u64], at: usize, n: u64, i: usize, past: u64) -> u64 {
     if (i as u64) < n {
         if at < numbers.len() {
             let left = numbers.len() - at;
@@ -74,7 +87,7 @@ fn stored(numbers: &[u64], at: usize, n: u64, i: usize) -> u64 {
             }
         }
     }
-    0
+    past
 }
 
 fn say_difference(part: u64, i: usize, is: u64, was: u64) {
@@ -89,15 +102,15 @@ fn say_difference(part: u64, i: usize, is: u64, was: u64) {
     say(b"\n");
 }
 
-// The words of a part, 0 the reply, 13 what is left over and else an area, are the n that stand after a place, and then zeros.
-fn same(part: u64, words: &[u64], numbers: &[u64], at: usize, n: u64) -> bool {
+// The words of a part, 0 the reply, 13 what is left over and else an area, are the n that stand after a place, and past them another.
+fn same(part: u64, words: &[u64], numbers: &[u64], at: usize, n: u64, past: u64) -> bool {
     if (words.len() as u64) < n {
         say_difference(part, words.len(), 0, n);
         return false;
     }
     let mut i: usize = 0;
     while i < words.len() {
-        let was = stored(numbers, at, n, i);
+        let was = stored(numbers, at, n, i, past);
         if words[i] != was {
             say_difference(part, i, words[i], was);
             return false;
@@ -128,7 +141,7 @@ fn same_reply(reply: Reply, numbers: &[u64], at: usize) -> bool {
         totals.entry_point,
         totals.global_dependencies,
     ];
-    same(0, &words, numbers, at, REPLY_WORDS)
+    same(0, &words, numbers, at, REPLY_WORDS, 0)
 }
 
 // Where a part of so many words ends that starts in a memory of so many: a length that passes the memory's end is cut there.
@@ -142,9 +155,9 @@ fn end_of(start: usize, words: usize, size: usize) -> usize
     size
 }
 
-// The areas of these lengths, which stand from a place on, follow each other in the memory and are the lists from another place on; what is left over is
-// zeros, and no number stands after the lists.
-fn same_areas(memory: &[u64], numbers: &[u64], lengths: usize, lists: usize) -> bool
+// The areas of these lengths, which stand from a place on, follow each other in the memory and are the lists from another place on, and then zeros; what is
+// left over is one word again and again, and no number stands after the lists.
+fn same_areas(memory: &[u64], numbers: &[u64], lengths: usize, lists: usize, left: u64) -> bool
     requires { ⌜ lengths ≤ 1024 ⌝ }
 {
     let size = memory.len();
@@ -157,12 +170,12 @@ fn same_areas(memory: &[u64], numbers: &[u64], lengths: usize, lists: usize) -> 
         let end = end_of(start, words, size);
         let n = number_at(numbers, list);
         area += 1;
-        let is = same(area, &memory[start..end], numbers, list, n);
+        let is = same(area, &memory[start..end], numbers, list, n, 0);
         fine = fine && is;
         start = end;
         list = after(numbers, list);
     }
-    let rest = same(area + 1, &memory[start..], numbers, 0, 0);
+    let rest = same(area + 1, &memory[start..], numbers, 0, 0, left);
     if list != numbers.len() {
         say(b"  the numbers end elsewhere\n");
         return false;
@@ -198,27 +211,134 @@ fn lengths_at(numbers: &[u64], at: usize) -> [usize; 12]
     ]
 }
 
-// The compile call with lengths that stand from a place on, and what it must leave: the reply after the last length, and the lists.
-fn judge(tree: &[u64], strict: bool, memory: &mut [u64], numbers: &[u64], at: usize) -> bool
+// The totals of a program that stands, from a place on.
+fn totals_at(numbers: &[u64], at: usize) -> Totals
+    requires { ⌜ at ≤ 2048 ⌝ }
+{
+    Totals {
+        code: number_at(numbers, at),
+        constants: number_at(numbers, at + 1),
+        functions: number_at(numbers, at + 2),
+        models: number_at(numbers, at + 3),
+        properties: number_at(numbers, at + 4),
+        methods: number_at(numbers, at + 5),
+        context_locals: number_at(numbers, at + 6),
+        public_names: number_at(numbers, at + 7),
+        scope_names: number_at(numbers, at + 8),
+        breaks: number_at(numbers, at + 9),
+        errors: number_at(numbers, at + 10),
+        books: number_at(numbers, at + 11),
+        entry_point: number_at(numbers, at + 12),
+        global_dependencies: number_at(numbers, at + 13),
+    }
+}
+
+// The n words that stand after a place are put into an area, and then zeros.
+fn put(words: &mut [u64], numbers: &[u64], at: usize, n: u64) {
+    let mut i: usize = 0;
+    while i < words.len() {
+        words[i] = stored(numbers, at, n, i, 0);
+        i += 1;
+    }
+}
+
+// The areas of these lengths, which stand from a place on, get the lists from another place on. The answer is the place after these.
+fn put_areas(memory: &mut [u64], numbers: &[u64], lengths: usize, lists: usize) -> usize
+    requires { ⌜ (lengths ≤ 1024) × (1 ≤ lists) ⌝ }
+    ensures { λ r. ⌜ 1 ≤ r ⌝ }
+{
+    let mut area: u64 = 0;
+    let mut start: usize = 0;
+    let mut list = lists;
+    while area < AREAS {
+        let words = number_at(numbers, lengths + area as usize) as usize;
+        let end = end_of(start, words, memory.len());
+        put(
+            &mut memory[start..end],
+            numbers,
+            list,
+            number_at(numbers, list),
+        );
+        area += 1;
+        start = end;
+        list = after(numbers, list);
+    }
+    list
+}
+
+// What a call must leave: the reply after a place, and the lists behind it for the areas whose lengths stand from another place on.
+fn as_stored(
+    reply: Reply,
+    memory: &[u64],
+    numbers: &[u64],
+    lengths: usize,
+    at: usize,
+    left: u64,
+) -> bool
+    requires { ⌜ (lengths ≤ 1024) × (at ≤ 2048) ⌝ }
+{
+    say_reply(reply);
+    let is_reply = same_reply(reply, numbers, at);
+    let are_areas = same_areas(memory, numbers, lengths, at + 17, left);
+    is_reply && are_areas
+}
+
+// The compile call with lengths that stand from a place on; the reply stands after the last.
+fn judge_compile(tree: &[u64], strict: bool, memory: &mut [u64], numbers: &[u64], at: usize) -> bool
     requires { ⌜ at ≤ 1024 ⌝ }
 {
     let lengths = lengths_at(numbers, at);
     let reply = compile(tree, strict, lengths, memory);
-    say_reply(reply);
-    let is_reply = same_reply(reply, numbers, at + 11);
-    let are_areas = same_areas(memory, numbers, at, at + 28);
-    is_reply && are_areas
+    as_stored(reply, memory, numbers, at, at + 11, 0)
+}
+
+// What the slots must hold after laying on, where the reply stands after a place: the program check comes first, and writes nothing.
+fn slots_left(numbers: &[u64], at: usize) -> u64
+    requires { ⌜ at ≤ 2048 ⌝ }
+{
+    if number_at(numbers, at + 1) == BAD_SHAPE {
+        if number_at(numbers, at + 2) > PROGRAM_PLACE {
+            return STALE;
+        }
+    }
+    0
+}
+
+// Laying on with lengths that stand from a place on, behind them the totals and the areas of the program that stands, and the reply.
+fn judge_lay_on(tree: &[u64], strict: bool, memory: &mut [u64], numbers: &[u64], at: usize) -> bool
+    requires { ⌜ at ≤ 1024 ⌝ }
+{
+    let lengths = lengths_at(numbers, at);
+    let standing = totals_at(numbers, at + 12);
+    let end = put_areas(memory, numbers, at, at + 26);
+    if end > MOST_NUMBERS {
+        say(b"  no case\n");
+        return false;
+    }
+    let reply = lay_on(tree, strict, standing, lengths, memory);
+    as_stored(
+        reply,
+        memory,
+        numbers,
+        at,
+        end - 1,
+        slots_left(numbers, end - 1),
+    )
 }
 
 // Lends a memory of so many words.
-fn lend(tree: &[u64], strict: bool, size: usize, numbers: &[u64], at: usize) -> bool
+fn lend(tree: &[u64], call: u64, size: usize, numbers: &[u64], at: usize) -> bool
     requires { ⌜ (at ≤ 1024) × (size ≤ 6144) ⌝ }
 {
     let mut memory = [7777777; 6144];
-    judge(tree, strict, &mut memory[0..size], numbers, at)
+    let strict = call % 2 == 1;
+    if call < LAY_ON {
+        return judge_compile(tree, strict, &mut memory[0..size], numbers, at);
+    }
+    judge_lay_on(tree, strict, &mut memory[0..size], numbers, at)
 }
 
-fn case_in(strict: bool, size: u64, numbers: &[u64]) -> u64 {
+fn case_in(call: u64, size: u64, numbers: &[u64]) -> u64 {
     let end = after(numbers, 0);
     if end > MOST_NUMBERS {
         say(b"  no case\n");
@@ -232,22 +352,22 @@ fn case_in(strict: bool, size: u64, numbers: &[u64]) -> u64 {
         say(b"  no room\n");
         return DIFFERS;
     }
-    if lend(&numbers[1..end], strict, size as usize, numbers, end) {
+    if lend(&numbers[1..end], call, size as usize, numbers, end) {
         return AS_STORED;
     }
     DIFFERS
 }
 
-// The first number is the mode, 0 present, else strict; the second the words of the memory.
+// The first number is the call: 0 the compile call, 1 that in strict mode; 2 laying on, 3 that in strict mode. The second is the words of the memory.
 fn case(numbers: &[u64]) -> u64 {
     let end = numbers.len();
     if end < 2 {
         say(b"  no case\n");
         return DIFFERS;
     }
-    let strict = number_at(numbers, 0) != 0;
+    let call = number_at(numbers, 0);
     let size = number_at(numbers, 1);
-    case_in(strict, size, &numbers[2..end])
+    case_in(call, size, &numbers[2..end])
 }
 
 fn read_name(name: &mut [u8]) {

@@ -9,7 +9,7 @@ use lib.Dec.{eqb}
 use borrow.Author.Tests.{eqb-true, eqb-false}
 use Rattle.words.specs.Ast.{Token}
 use Rattle.words.specs.Areas.{codeArea, constantsArea, functionsArea, modelsArea, propertiesArea, methodsArea, contextLocalsArea, publicNamesArea}
-use Rattle.words.specs.Areas.{scopeNamesArea, breaksArea, errorsArea}
+use Rattle.words.specs.Areas.{scopeNamesArea, breaksArea, errorsArea, entryField}
 use Rattle.words.specs.Record.{tokenAt, valueAt}
 use Rattle.tree.specs.At.{DefinitionAt}
 use Rattle.definition.specs.FunctionState.{Entry, findName}
@@ -21,20 +21,41 @@ use Rattle.building.specs.declared.scopes.Found.{Found}
 use Rattle.building.specs.declared.scopes.Found.the-variants.{At, Nothing}
 use Rattle.building.specs.Found.{foundOf}
 use Rattle.compiler_laws.specs.declared.book.Book as struct
-use Rattle.compiler_laws.specs.ModelSteps.{FindsModel}
+use Rattle.compiler_laws.specs.ModelSteps.{FindsModel, modelAtC}
+use Rattle.undo.specs.Notes.{plainMarks}
+use Rattle.undo.proofs.PlainMarks.{plain-marks-kind, plain-marks-value}
 use Rattle.compiler_laws.proofs.UnchangedByModels.{unchanged-methods, unchanged-find-model}
 use Rattle.compiler_laws.proofs.MapEntries.{found-at, found-none}
 use Rattle.compiler_laws.proofs.MethodsTogether.{methods-none, keeping-marked}
 use Rattle.compiler_laws.proofs.ModelsFound as area
-use Rattle.book_compiler.specs.RepresentsBook.{BookMemory, areaOf, RepresentsBook}
+use Rattle.book_compiler.specs.RepresentsBook.{BookMemory, areaOf, saidBy, RepresentsBook}
 use Rattle.book_compiler.specs.BookLeaves.{PushesBookError, FindsBookLocal, FindsLocalModel, CopiesBookMethods}
 use Rattle.book_compiler.specs.DefinitionSteps.{FindsModelIndex, CompilesApplyDefinition}
+use Rattle.book_compiler.proofs.Stood.{stood-nothing}
+use Rattle.book_compiler.proofs.StoodBooks.{grows-same, behind-same, behind-grown}
 use Rattle.book_compiler.proofs.BookParts.{area-map, area-seeks, represents-longer, represents-unfilled, represents-same}
 use Rattle.book_compiler.proofs.BookLeaves.{methods-copied}
 
+-- a search for a model changes no method
+find-context : (t : Token) (w : Book) → findModelIndexByLocalName t w .book .context ≡ w .context
+unfolding findModelIndexByLocalName
+find-context t w = go (findName (t .value) (w .compiler .locals))
+  where
+    by : (o : Option ℕ) → findModelBy o t w .book .context ≡ w .context
+    by none = refl
+    by (some m) = refl
+
+    go : (o : Option ℕ) → findModelIn o t w .book .context ≡ w .context
+    go none = refl
+    go (some local) = by (modelOf (getLocalValue local (w .context)))
+
+-- what is noted of a mark is not read where a model is looked for
+model-said : {found : Found} (i : ℕ) (l k : List ℕ) → found ≡ foundOf (modelAtC i l k) → found ≡ foundOf (modelAtC i l (plainMarks k))
+model-said i l k q = rw (plain-marks-kind (entryField 4 i 3 l) k, plain-marks-value (entryField 4 i 3 l) k) q
+
 -- `find_model_index_by_local_name`: the laws of `compiler_laws`, on the errors
 abbrev FindsIn : List ℕ → ℕ → BookMemory → List ℕ → Found → struct.Book → List ℕ → Type 0
-FindsIn tree at m e found s′ e′ = FindsModel tree at (m .book) (areaOf m contextLocalsArea) (areaOf m constantsArea) e found s′ e′
+FindsIn tree at m e found s′ e′ = FindsModel tree at (m .book) (areaOf m contextLocalsArea) (saidBy m constantsArea) e found s′ e′
 
 module _ {tree : List ℕ} {at : ℕ} {m : BookMemory} where
   pub find-full : (m .book .full ≡ 0 → ⊥) → {g : Found} → FindsModelIndex tree at g m m
@@ -49,51 +70,45 @@ module _ {tree : List ℕ} {at : ℕ} {m : BookMemory} where
     pub find-lost : g ≡ Nothing → {m′ : BookMemory} → PushesBookError 10 (tokenAt tree at) m m′
         → FindsModelIndex tree at Nothing m m′
     find-lost lost {m′} E = record {
-      seeks = area-seeks (omega arith) refl (E .constants)
+      seeks = area-seeks (omega arith) refl (E .counts)
           (area-map {R′ = λ e e′. FindsIn tree at m e Nothing (m′ .book) e′} (λ f x r. area.find-lost z value (searched .reads .on f) lost r) (E .acts))
-          (λ x r. r .seeks (areaOf m codeArea) (areaOf m functionsArea) (areaOf m modelsArea) (areaOf m propertiesArea) (areaOf m methodsArea)
-          (areaOf m publicNamesArea) (areaOf m scopeNamesArea) (areaOf m breaksArea));
+          (λ κ ps others b H e r. stood-nothing e (H .preserves .nothing .errors))
+          (λ x r. r .seeks (areaOf m codeArea) (areaOf m functionsArea) (areaOf m modelsArea) (areaOf m propertiesArea) (saidBy m methodsArea)
+          (areaOf m publicNamesArea) (areaOf m scopeNamesArea) (areaOf m breaksArea))
+          (λ w. grows-same (unchanged-find-model (tokenAt tree at) w) (find-context (tokenAt tree at) w));
     }
 
     module _ {i : ℕ} (at-i : g ≡ At i) {r : Found} (model : FindsLocalModel i r m) where
       pub find-other : r ≡ Nothing → {m′ : BookMemory} → PushesBookError 9 (tokenAt tree at) m m′
           → FindsModelIndex tree at Nothing m m′
       find-other lost {m′} E = record {
-        seeks = area-seeks (omega arith) refl (E .constants)
+        seeks = area-seeks (omega arith) refl (E .counts)
             (area-map {R′ = λ e e′. FindsIn tree at m e Nothing (m′ .book) e′}
-            (λ f x r. area.find-other z value (searched .reads .on f) at-i (model .reads .on f) lost r) (E .acts))
-            (λ x r. r .seeks (areaOf m codeArea) (areaOf m functionsArea) (areaOf m modelsArea) (areaOf m propertiesArea) (areaOf m methodsArea)
-            (areaOf m publicNamesArea) (areaOf m scopeNamesArea) (areaOf m breaksArea));
+            (λ f x r. area.find-other z value (searched .reads .on f) at-i
+            (model-said i (areaOf m contextLocalsArea) (areaOf m constantsArea) (model .reads .on f)) lost r) (E .acts))
+            (λ κ ps others b H e r. stood-nothing e (H .preserves .nothing .errors))
+            (λ x r. r .seeks (areaOf m codeArea) (areaOf m functionsArea) (areaOf m modelsArea) (areaOf m propertiesArea) (saidBy m methodsArea)
+            (areaOf m publicNamesArea) (areaOf m scopeNamesArea) (areaOf m breaksArea))
+            (λ w. grows-same (unchanged-find-model (tokenAt tree at) w) (find-context (tokenAt tree at) w));
       }
 
       pub find-there : {j : ℕ} → r ≡ At j → FindsModelIndex tree at r m m
       find-there at-j = record {
         seeks = record {
-          meets = λ κ ps others w H. represents-same H (finds κ ps others w H .seeks (areaOf m codeArea) (areaOf m functionsArea) (areaOf m modelsArea)
-              (areaOf m propertiesArea) (areaOf m methodsArea) (areaOf m publicNamesArea) (areaOf m scopeNamesArea) (areaOf m breaksArea)
+          meets = λ κ ps others w H. represents-same H (λ y. behind-same (find-context (tokenAt tree at) w) (H .behind y))
+              (finds κ ps others w H .seeks (areaOf m codeArea) (areaOf m functionsArea) (areaOf m modelsArea)
+              (areaOf m propertiesArea) (saidBy m methodsArea) (areaOf m publicNamesArea) (areaOf m scopeNamesArea) (areaOf m breaksArea)
               .meets κ ps w (H .keeping));
           sought = λ κ ps others w H q. finds κ ps others w H .seeks (areaOf m codeArea) (areaOf m functionsArea) (areaOf m modelsArea)
-              (areaOf m propertiesArea) (areaOf m methodsArea) (areaOf m publicNamesArea) (areaOf m scopeNamesArea) (areaOf m breaksArea)
+              (areaOf m propertiesArea) (saidBy m methodsArea) (areaOf m publicNamesArea) (areaOf m scopeNamesArea) (areaOf m breaksArea)
               .sought κ ps w (H .keeping) q;
         };
       }
         where
           finds : (κ : Limits) (ps : List ℕ) (others : ℕ → List ℕ) (w : Book) → RepresentsBook κ ps others m w
               → FindsIn tree at m (areaOf m errorsArea) r (m .book) (areaOf m errorsArea)
-          finds κ ps others w H = area.find-there z value (searched .reads .on (H .fits)) at-i (model .reads .on (H .fits)) at-j
-
--- a search for a model changes no method
-find-context : (t : Token) (w : Book) → findModelIndexByLocalName t w .book .context ≡ w .context
-unfolding findModelIndexByLocalName
-find-context t w = go (findName (t .value) (w .compiler .locals))
-  where
-    by : (o : Option ℕ) → findModelBy o t w .book .context ≡ w .context
-    by none = refl
-    by (some m) = refl
-
-    go : (o : Option ℕ) → findModelIn o t w .book .context ≡ w .context
-    go none = refl
-    go (some local) = by (modelOf (getLocalValue local (w .context)))
+          finds κ ps others w H = area.find-there z value (searched .reads .on (H .fits)) at-i
+              (model-said i (areaOf m contextLocalsArea) (areaOf m constantsArea) (model .reads .on (H .fits))) at-j
 
 -- `compile_apply_definition`
 module _ {tree : List ℕ} {at end : ℕ} {m : BookMemory} where
@@ -146,7 +161,7 @@ module _ {tree : List ℕ} {at end : ℕ} {m : BookMemory} where
         go κ ps others w x (some j) es z a d is H =
             let no-source : x ≡ none = found-none x a lost in
             let empty : es ≡ [] = is ∙ ap (λ (o : Option ℕ). methodsOf o (w .context)) no-source in
-            rw empty (represents-same H (methods-none j w (H .keeping)))
+            rw empty (represents-same H (λ y. behind-grown refl (omega arith) (omega arith) (H .behind y)) (methods-none j w (H .keeping)))
 
     -- without a target nothing is
     pub apply-nowhere : to ≡ Nothing → CompilesApplyDefinition tree at end m m₂
@@ -162,4 +177,5 @@ module _ {tree : List ℕ} {at end : ℕ} {m : BookMemory} where
         rw (found-at y d at-t, same-es) (methods-copied M .meets κ ps others w H))
         (λ κ ps others w y es ne H.
         let H′ = methods-copied M .meets κ ps others w H in
-        represents-same H′ (keeping-marked (more same) (unchanged-methods y es w .uses) ne (H .keeping) (H′ .keeping)))
+        represents-same H′ (λ y. absurd (ne (represents-unfilled (more same) H H′ y)))
+        (keeping-marked (more same) (unchanged-methods y es w .uses) ne (H .keeping) (H′ .keeping)))

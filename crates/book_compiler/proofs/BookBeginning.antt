@@ -15,20 +15,22 @@ use Rattle.words.specs.Areas.{constantsArea, booksArea}
 use Rattle.words.specs.Record.{mostRecords}
 use Rattle.definition.specs.Uses.{Use, using′, Limits, firstOver}
 use Rattle.definition.specs.Book.{Context, newContext, opened, bookCount, compileDefinition}
-use Rattle.definition.specs.DependencySolver.{needed, compileNeeded, loadedOf}
+use Rattle.definition.specs.DependencySolver.{Worked, needed, compileNeeded, loadedOf}
 use Rattle.definition_laws.proofs.Limits.{fine-limited}
 use Rattle.definition_laws.proofs.Counts.{loaded-length}
 use Rattle.building.specs.declared.taking.Taken.{Taken}
-use Rattle.building.specs.Taking.{taken}
-use Rattle.building.specs.RepresentsMachine.{Marks}
+use Rattle.building.specs.Taking.{Took, taken, takenOf}
+use Rattle.building.specs.RepresentsMachine.{Marks, Sized}
+use Rattle.undo.specs.Notes.{plainMarks, plainMethods}
+use Rattle.undo.proofs.PlainMarks.{plain-marks-length, plain-marks-took, plain-marks-zero}
 use Rattle.building.proofs.Notes.{over-longer}
 use Rattle.compiler_laws.specs.declared.book.Book as struct
-use Rattle.compiler_laws.specs.BookAreas.{BookAreas, bookAreas, RepresentsAreas}
+use Rattle.compiler_laws.specs.BookAreas.{BookAreas, bookAreas, Fitted, RepresentsAreas}
 use Rattle.compiler_laws.specs.OpenedBooks.{Resting, openedBook, nobody}
 use Rattle.compiler_laws.proofs.UnchangedByBooks.{Unchanged}
 use Rattle.compiler_laws.specs.FileSets.{setSize, Ascends, Below}
 use Rattle.compiler_laws.specs.SolverSteps.{waiting, TakesBooks}
-use Rattle.compiler_laws.specs.BooksInOrder.{Zero, begunBook, FirstConstants, Accepted, Cleared}
+use Rattle.compiler_laws.specs.BooksInOrder.{Zero, begunBook, FirstConstants, Accepted, Cleared, Emptied}
 use Rattle.compiler_laws.proofs.CallBeginning.{mark-constants, mark-books, no-mark, books-there, fresh-resting, zero-drop}
 use Rattle.compiler_laws.proofs.WaitingBooks.{taken-wait}
 use Rattle.compiler_laws.proofs.BooksNeeded.{set-empty, needed-ascends, needed-below}
@@ -38,11 +40,13 @@ use Rattle.constant_slots.specs.Plain.{poolOf}
 use Rattle.constant_slots.specs.Slots.{slotsOf}
 use Rattle.book_compiler.specs.Leaves.{FillsSlots}
 use Rattle.book_compiler.specs.RepresentsBook.{BookMemory, bookLaid, bookView, isBookArea}
-use Rattle.book_compiler.specs.BookOrder.{LentPart, AtRest, Lent, Driving, Drives, Begins, neededWork, CompilesNeeded, Works}
+use Rattle.book_compiler.specs.BookOrder.{LentPart, AtRest, fresh, Lent, Outcome, Driving, Drives, Begins, neededWork, CompilesNeeded, Works}
 use Rattle.book_compiler.proofs.Parts.{slots-count}
 use Rattle.book_compiler.proofs.SlotFilling.{slots-filled}
+use Rattle.book_compiler.proofs.Stood.{stood-nothing}
 use Rattle.book_compiler.proofs.BookParts.{not-part}
-use Rattle.book_compiler.proofs.LentParts.{lent-does, lent-part, lent-other, lent-length, lent-fits, still-at-rest, part-lengths, zero-part}
+use Rattle.book_compiler.proofs.LentParts.{lent-does, lent-part, lent-other, lent-length, lent-fits, stood-beside, still-at-rest}
+use Rattle.book_compiler.proofs.LentParts.{part-lengths, zero-part}
 
 -- a memory of zeros has areas of zeros
 pub cleared-parts : (a : List ℕ) {w : List ℕ} → Zero w
@@ -82,6 +86,7 @@ withFull s full = record {
   «first_local» = s .«first_local»;
   «first_public» = s .«first_public»;
   «entry_point» = s .«entry_point»;
+  «standing_methods» = s .«standing_methods»;
   strict = s .strict;
 }
 
@@ -143,7 +148,14 @@ marked-at-rest {s = s} {context = context} L marks before H =
     let R = still-at-rest L H .represents .ready in
     record {
       represents = record {
-        ready = record { fits = R .fits; preserves = record { same = R .preserves .same }; keeping = renoted s context marks before (R .keeping); slots = R .slots };
+        ready = record {
+          fits = R .fits;
+          preserves = record { same = R .preserves .same; stood = R .preserves .stood; nothing = R .preserves .nothing };
+          behind = λ z. R .behind (before z);
+          keeping = renoted s context marks before (R .keeping);
+          standing = R .standing;
+          slots = R .slots;
+        };
       };
     }
 
@@ -227,6 +239,8 @@ module _ {tree chosen a w w₁ : List ℕ} {s : struct.Book} {stand : ℕ} {r : 
           full = rw full-is (over-longer κ (drive-longer calm (length (needed (loadedOf context) root others)) (root ∷ others) (loadedOf context)
               (needed (loadedOf context) root others) context (noted A H)) (marks A H) ne);
           came = λ z. absurd (ne (sym full-is ∙ z));
+          stood = stood-beside parts (part a booksArea w₁) (still-at-rest B (H .resting) .represents .ready .preserves .stood);
+          named = books A H .named;
         };
   }
 
@@ -235,8 +249,9 @@ module _ {tree chosen a w w₁ : List ℕ} {s : struct.Book} {stand : ℕ} {r : 
       → CompilesNeeded tree chosen set stand (bookLaid s a w) m′ row place
   needed-on {set} {s₁} s-is z {m′} {row} {place} D = record {
     works = λ root others κ parts context uses rest A long H.
-        subst (λ (y : struct.Book). Drives tree (length tree / 4) stand (r .count) set (bookLaid y a w₁) m′ row place) s-is D .drives (root ∷ others)
-        (numbers A H) (drop (length (numbers A H)) rest) (loadedOf context) κ parts context (noted A H) (begins A H z long);
+        let O = subst (λ (y : struct.Book). Drives tree (length tree / 4) stand (r .count) set (bookLaid y a w₁) m′ row place) s-is D .drives (root ∷ others)
+        (numbers A H) (drop (length (numbers A H)) rest) (loadedOf context) κ parts context (noted A H) (begins A H z long) in
+        record { full = O .full; came = O .came; stood = O .stood; named = λ k h. O .named k h ∙ books A H .named k h };
   }
 
 -- more records than row 2 lets pass
@@ -244,14 +259,59 @@ pub needed-huge : {tree chosen set : List ℕ} {stand : ℕ} {m m′ : BookMemor
     → CompilesNeeded tree chosen set stand m m′ row place
 needed-huge {tree = tree} h = record { works = λ root others κ parts context uses rest A long H. absurd (omega (arith, fine-limit tree (A .fine))) }
 
+-- the same of what area 2 says
+pub took-plain : {full count kind value : ℕ} {l l′ : List ℕ} {r : Taken} → Took constantsArea full count (kind ∷ value ∷ 0 ∷ []) l r l′
+    → Took constantsArea full count (kind ∷ value ∷ 0 ∷ []) (plainMarks l) r (plainMarks l′)
+took-plain {full} {count} {kind} {value} {l} T = record {
+  reply = T .reply ∙ ap (takenOf constantsArea 3 full count) (sym (plain-marks-length l));
+  words = ap plainMarks (T .words) ∙ plain-marks-took full count kind value l;
+}
+
+zero-plain : (k : List ℕ) → Zero k → Zero (plainMarks k)
+zero-plain k z =
+    let is : plainMarks k ≡ replicate (length k) 0 = ap plainMarks z ∙ plain-marks-zero (length k) in
+    is ∙ ap (λ (n : ℕ). replicate n 0) (sym (plain-marks-length k))
+
+emptied-plain : {c k f m p t l u n b o : List ℕ} → Emptied c k f m p t l u n b o → Zero (plainMarks k) → Emptied c (plainMarks k) f m p t l u n b o
+emptied-plain E z = record {
+  code = E .code;
+  constants = z;
+  functions = E .functions;
+  models = E .models;
+  properties = E .properties;
+  methods = E .methods;
+  locals = E .locals;
+  publics = E .publics;
+  names = E .names;
+  breaks = E .breaks;
+  books = E .books;
+}
+
+fitted-plain : {κ : Limits} {s : struct.Book} {c k f m p t l u n b e : List ℕ} → Fitted κ (bookAreas s c k f m p t l u n b e)
+    → Fitted κ (bookAreas s c (plainMarks k) f m p t l u n b e)
+fitted-plain {k = k} F = record {
+  code = F .code;
+  constants = rw (plain-marks-length k) (F .constants);
+  functions = F .functions;
+  models = F .models;
+  properties = F .properties;
+  methods = F .methods;
+  locals = F .locals;
+  publics = F .publics;
+  names = F .names;
+  breaks = F .breaks;
+  errors = F .errors;
+  others = F .others;
+}
+
 -- a memory of zeros with the three constants and their slots
-module _ (strict : Bool) {a w w₁ w₂ : List ℕ} {x : Taken} (C : LentPart constantsArea (λ k k′. FirstConstants k x k′) a w w₁)
+module _ (strict : Bool) {a w w₁ w₂ : List ℕ} {x : Taken} (C : LentPart constantsArea (λ k k′. FirstConstants (plainMarks k) x (plainMarks k′)) a w w₁)
     (S : FillsSlots (x .count) a w₁ w₂) where
   module _ (f : Fits a (length w)) (zeros : Zero w) (κ : Limits) (lent : (s : struct.Book) → Lent κ (bookLaid s a w)) where
     abbrev start : struct.Book
     start = begunBook strict x (x .count)
 
-    constants : FirstConstants (part a constantsArea w) x (part a constantsArea w₁)
+    constants : FirstConstants (plainMarks (part a constantsArea w)) x (plainMarks (part a constantsArea w₁))
     constants = lent-does (omega arith) f C
 
     f₁ : Fits a (length w₁)
@@ -264,10 +324,11 @@ module _ (strict : Bool) {a w w₁ w₂ : List ℕ} {x : Taken} (C : LentPart co
     stays j g k m = lent-other (omega arith) f₁ filled j g k ∙ lent-other (omega arith) f C j g m
 
     -- the parts, but for constants and slots, are as they were
-    begun-view : (s : struct.Book) → bookView (bookLaid s a w₂)
-        ≡ bookAreas s (part a 1 w) (part a 2 w₁) (part a 3 w) (part a 4 w) (part a 5 w) (part a 6 w) (part a 7 w) (part a 8 w) (part a 9 w) (part a 10 w)
-        (part a 11 w)
-    begun-view s =
+    begun-view : bookView (bookLaid (openedBook start 0) a w₂)
+        ≡ bookAreas (openedBook start 0) (part a 1 w) (plainMarks (part a 2 w₁)) (part a 3 w) (part a 4 w) (part a 5 w) (part a 6 w) (part a 7 w)
+        (part a 8 w) (part a 9 w) (part a 10 w) (part a 11 w)
+    unfolding plainMethods
+    begun-view =
         let at = lent-part (omega arith) f C in
         let last = lent-part (omega arith) f₁ filled in
         rw (
@@ -284,21 +345,43 @@ module _ (strict : Bool) {a w w₁ w₂ : List ℕ} {x : Taken} (C : LentPart co
           last 11 (omega arith) ∙ at 11 (omega arith),
         ) refl
 
-    resting : Resting κ start (part a 1 w) (part a 2 w₁) (part a 3 w) (part a 4 w) (part a 5 w) (part a 6 w) (part a 7 w) (part a 8 w) (part a 9 w)
+    resting : Resting κ start (part a 1 w) (plainMarks (part a 2 w₁)) (part a 3 w) (part a 4 w) (part a 5 w) (part a 6 w) (part a 7 w) (part a 8 w) (part a 9 w)
         (part a 10 w) (part a 11 w) (newContext strict) (using′ constantsArea 3 ∷ [])
     resting =
-        fresh-resting strict x constants (part-lengths w w₁ f (lent-length (omega arith) f C) constantsArea (omega arith)) (cleared-parts a zeros) κ
-        (λ s. record { fitted = lent s .fitted; books = lent s .books })
-        (mark-constants κ (zero-part a w constantsArea zeros) (lent start .fitted .constants) constants) (λ z. z)
+        let k = part a constantsArea w in
+        let k₁ = part a constantsArea w₁ in
+        let long : length (plainMarks k₁) ≡ length (plainMarks k) =
+        plain-marks-length k₁ ∙ part-lengths w w₁ f (lent-length (omega arith) f C) constantsArea (omega arith) ∙ sym (plain-marks-length k) in
+        let sized : Sized κ constantsArea (plainMarks k) = rw (plain-marks-length k) (lent start .fitted .constants) in
+        let none-there : Zero (plainMarks k) = zero-plain k (zero-part a w constantsArea zeros) in
+        let Z = cleared-parts a zeros in
+        fresh-resting strict x constants long (record { emptied = emptied-plain (Z .emptied) none-there; errors = Z .errors }) κ
+        (λ s. record { fitted = fitted-plain (lent s .fitted); books = lent s .books })
+        (mark-constants κ none-there sized constants) (λ z. z)
 
-    at-rest : AtRest κ (λ i. part a i w) (bookLaid start a w₂) (newContext strict) (using′ constantsArea 3 ∷ [])
+    at-rest : AtRest κ (fresh a w) (bookLaid start a w₂) (newContext strict) (using′ constantsArea 3 ∷ [])
     at-rest = record {
       represents = record {
         ready = record {
           fits = lent-fits (omega arith) f₁ filled;
-          preserves = record { same = λ j g q. go j g q (eqb j booksArea) refl };
+          preserves = record {
+            same = λ j g q. go j g q (eqb j booksArea) refl;
+            stood = λ j g q. stood-nothing (part a j w₂) (none-stood j q (eqb j booksArea) refl);
+            nothing = record { names = refl; breaks = refl; errors = refl; slots = refl };
+          };
+          behind = λ z. record {
+            code = omega arith;
+            constants = omega arith;
+            functions = omega arith;
+            models = omega arith;
+            properties = omega arith;
+            methods = omega arith;
+            locals = omega arith;
+            publics = omega arith;
+          };
           keeping = subst (λ (v : BookAreas). RepresentsAreas κ [] v (opened nobody (newContext strict) (using′ constantsArea 3 ∷ [])))
-              (sym (begun-view (openedBook start 0))) (resting .ready);
+              (sym begun-view) (resting .ready);
+          standing = refl;
           slots = slots-count refl (slots-filled S f₁);
         };
       };
@@ -307,14 +390,20 @@ module _ (strict : Bool) {a w w₁ w₂ : List ℕ} {x : Taken} (C : LentPart co
         none-of : (j i : ℕ) → isBookArea i ≡ true → isBookArea j ≡ false → i ≡ j → ⊥
         none-of j i p q n = eqb-false j i (not-part j i p q) (sym n)
 
-        go : (j : ℕ) → j < 14 → isBookArea j ≡ false → (t : Bool) → eqb j booksArea ≡ t → part a j w₂ ≡ cond t (part a booksArea w₂) (part a j w)
+        go : (j : ℕ) → j < 14 → isBookArea j ≡ false → (t : Bool) → eqb j booksArea ≡ t → part a j w₂ ≡ cond t (part a booksArea w₂) (fresh a w j)
         go j g q true e = ap (λ (n : ℕ). part a n w₂) (eqb-true j booksArea e)
-        go j g q false e = stays j g (none-of j 13 refl q) (none-of j 2 refl q)
+        go j g q false e = stays j g (none-of j 13 refl q) (none-of j 2 refl q) ∙ ap (λ (t : Bool). cond t [] (part a j w)) (sym q)
+
+        none-stood : (j : ℕ) → isBookArea j ≡ true → (t : Bool) → eqb j booksArea ≡ t → length (cond t (part a booksArea w₂) (fresh a w j)) ≡ 0
+        none-stood j q true e =
+            absurd (let z : _≡_ {A = ℕ} 0 1 = ap (λ (b : Bool). cond b 0 1) (sym q ∙ ap isBookArea (eqb-true j booksArea e)) in omega arith)
+        none-stood j q false e = ap (λ (t : Bool). length (cond t [] (part a j w))) q
 
     fresh-begins : {set : List ℕ} (n : ℕ) → set ≡ replicate n 0
-        → Begins set 0 (part a booksArea w) κ (λ i. part a i w) (bookLaid start a w₂) (newContext strict) (using′ constantsArea 3 ∷ [])
+        → Begins set 0 (part a booksArea w) κ (fresh a w) (bookLaid start a w₂) (newContext strict) (using′ constantsArea 3 ∷ [])
     fresh-begins {set} n empty =
-        let same : part a booksArea w₂ ≡ part a booksArea w = lent-part (omega arith) f₁ filled booksArea (omega arith) ∙ lent-part (omega arith) f C booksArea (omega arith) in
+        let same : part a booksArea w₂ ≡ part a booksArea w
+        = lent-part (omega arith) f₁ filled booksArea (omega arith) ∙ lent-part (omega arith) f C booksArea (omega arith) in
         record {
           so-many = refl;
           held = rw empty (set-empty n);
@@ -330,6 +419,11 @@ module _ (strict : Bool) {a w w₁ w₂ : List ℕ} {x : Taken} (C : LentPart co
   unfolding compileNeeded
   as-work root others = refl
 
+  -- no book stood
+  none-named : {κ : Limits} {others : ℕ → List ℕ} {books : List ℕ} {m : BookMemory} {rest : List ℕ} {row place : ℕ} {v : Worked}
+      → Outcome κ others 0 books m rest row place v → Outcome κ others 0 [] m rest row place v
+  none-named O = record { full = O .full; came = O .came; stood = O .stood; named = λ k h. absurd (omega arith) }
+
   -- the way of `work`
   pub work-fresh : {tree chosen set : List ℕ} {s : struct.Book} {m′ : BookMemory} {row place : ℕ} → s ≡ begunBook strict x (x .count)
       → set ≡ replicate (length chosen) 0 → CompilesNeeded tree chosen set 0 (bookLaid s a w₂) m′ row place → Works strict tree chosen a w m′ row place
@@ -341,8 +435,8 @@ module _ (strict : Bool) {a w w₁ w₂ : List ℕ} {x : Taken} (C : LentPart co
           drop (length numbers) (part a booksArea w),
           (
             zero-drop (length numbers) (part a booksArea w) (zero-part a w booksArea zeros),
-            rw (as-work root others) (N′ .works root others κ (λ i. part a i w) (newContext strict) (using′ constantsArea 3 ∷ []) (part a booksArea w) A
-                (ap (λ (l : List ℕ). length l) empty ∙ length-replicate {A = ℕ} (length chosen) 0) (fresh-begins f zeros κ lent (length chosen) empty)),
+            rw (as-work root others) (none-named (N′ .works root others κ (fresh a w) (newContext strict) (using′ constantsArea 3 ∷ []) (part a booksArea w) A
+                (ap (λ (l : List ℕ). length l) empty ∙ length-replicate {A = ℕ} (length chosen) 0) (fresh-begins f zeros κ lent (length chosen) empty))),
           ),
         );
   }

@@ -1,5 +1,5 @@
 -- A routine that is lent one part of the memory does to the book what it does to its area. One law over the part's number. Assumes nothing.
-use Prim.Native.Nat.{ℕ, suc, _≤_, _<_}
+use Prim.Native.Nat.{ℕ, suc, _*_, _≤_, _<_}
 use native.Mathlib.Omega.{arith}
 use mathlib.Core.Path.{_≡_, refl, sym, ap, subst, _∙_}
 use mathlib.Core.Bool.{Bool, true, false, not, cond, _&&_}
@@ -18,23 +18,28 @@ use Rattle.compiler_laws.specs.BookAreas.{BookAreas, bookAreas, RepresentsAreas
 use Rattle.compiler_laws.proofs.UnchangedByBooks.{BookUnchanged, Unchanged}
 use Rattle.compiler_laws.proofs.BookStepsInOrder.{keeping-longer, unfilled}
 use Rattle.constant_slots.specs.Plain.{poolOf}
+use Rattle.undo.specs.Notes.{plainMarks, plainMethods}
+use Rattle.undo.specs.Stood.{Stood}
 use Rattle.book_compiler.specs.Represents.{SlotsFilled, Replaced}
-use Rattle.book_compiler.specs.RepresentsBook.{BookMemory, bookLaid, areaOf, bookView, isBookArea, PreservesParts, RepresentsBook, OnArea}
-use Rattle.book_compiler.specs.RepresentsBook.{SimulatesBook, SimulatesSought}
-use Rattle.book_compiler.specs.BookLeaves.{SameConstantCount, ReadsAreas}
+use Rattle.book_compiler.specs.RepresentsBook.{BookMemory, bookLaid, areaOf, bookView, isBookArea, BehindContext, PreservesParts, RepresentsBook}
+use Rattle.book_compiler.specs.RepresentsBook.{OnArea, SimulatesBook, SimulatesSought}
+use Rattle.book_compiler.specs.BookLeaves.{SameCounts, ReadsAreas}
+use Rattle.book_compiler.proofs.Stood.{stood-put}
+use Rattle.book_compiler.proofs.StoodBooks.{Grows, behind-grown}
 use Rattle.book_compiler.proofs.Parts.{slots-same}
 
--- the counts and areas with other counts and another area i
-abbrev pub withBookArea : ℕ → struct.Book → List ℕ → BookAreas → BookAreas
+-- the counts and areas that a memory is with other counts and another part i
+abbrev pub withBookArea : ℕ → struct.Book → List ℕ → BookMemory → BookAreas
 withBookArea i s x m =
-    bookAreas s (cond (eqb i 1) x (m .code)) (cond (eqb i 2) x (m .constants)) (cond (eqb i 3) x (m .functions)) (cond (eqb i 4) x (m .models))
-    (cond (eqb i 5) x (m .properties)) (cond (eqb i 6) x (m .methods)) (cond (eqb i 7) x (m .locals)) (cond (eqb i 8) x (m .publics))
-    (cond (eqb i 9) x (m .names)) (cond (eqb i 10) x (m .breaks)) (cond (eqb i 11) x (m .errors))
+    bookAreas s (cond (eqb i 1) x (areaOf m 1)) (plainMarks (cond (eqb i 2) x (areaOf m 2))) (cond (eqb i 3) x (areaOf m 3)) (cond (eqb i 4) x (areaOf m 4))
+    (cond (eqb i 5) x (areaOf m 5)) (plainMethods (m .book .«standing_methods») (cond (eqb i 6) x (areaOf m 6))) (cond (eqb i 7) x (areaOf m 7))
+    (cond (eqb i 8) x (areaOf m 8)) (cond (eqb i 9) x (areaOf m 9)) (cond (eqb i 10) x (areaOf m 10)) (cond (eqb i 11) x (areaOf m 11))
 
 put-view : (a w x : List ℕ) (s s′ : struct.Book) (f : Fits a (length w)) (i : ℕ) → i < 14 → length x ≡ length (part a i w)
-    → bookView (bookLaid s′ a (withPart a i x w)) ≡ withBookArea i s′ x (bookView (bookLaid s a w))
-put-view a w x s s′ f i h l =
+    → s′ .«standing_methods» ≡ s .«standing_methods» → bookView (bookLaid s′ a (withPart a i x w)) ≡ withBookArea i s′ x (bookLaid s a w)
+put-view a w x s s′ f i h l standing =
     rw (
+      standing,
       put-part a w x f i h l 1 (omega arith),
       put-part a w x f i h l 2 (omega arith),
       put-part a w x f i h l 3 (omega arith),
@@ -84,20 +89,26 @@ not-part j i p q = ne-eqb j i (λ r. eqb-false i j (apart i j p q) (sym r))
 -- the slots were filled with
 pub area-kept : {κ : Limits} {ps : List ℕ} {others : ℕ → List ℕ} {i n : ℕ} {R : List ℕ → List ℕ → Type 0} {m m′ : BookMemory} {b : Book}
     → i < 14 → isOtherArea i ≡ true → Fits (m .starts) (length (m .words)) → PreservesParts others m → SlotsFilled n (m .starts) (m .words)
-    → OnArea i R m m′ → ((x : List ℕ) → R (areaOf m i) x → m′ .book .constants ≡ n)
-    → ((x : List ℕ) → R (areaOf m i) x → RepresentsAreas κ ps (withBookArea i (m′ .book) x (bookView m)) b) → RepresentsBook κ ps others m′ b
-area-kept {κ} {ps} {others} {i} {n} {R} {m} {m′} {b} lt is-other suits same filled o count law =
+    → OnArea i R m m′ → ((x : List ℕ) → R (areaOf m i) x → Stood i (others i) x) → (m′ .book .full ≡ 0 → BehindContext others (b .context))
+    → length (others 6) ≡ m .book .«standing_methods» * 3
+    → ((x : List ℕ) → R (areaOf m i) x → (m′ .book .constants ≡ n) × (m′ .book .«standing_methods» ≡ m .book .«standing_methods»))
+    → ((x : List ℕ) → R (areaOf m i) x → RepresentsAreas κ ps (withBookArea i (m′ .book) x m) b) → RepresentsBook κ ps others m′ b
+area-kept {κ} {ps} {others} {i} {n} {R} {m} {m′} {b} lt is-other suits same filled o spared behind stands count law =
     let e = other i is-other in
     let p = o .on suits in
     let a = m .starts in
     let here : RepresentsAreas κ ps (bookView (bookLaid (m′ .book) a (m′ .words))) b =
-    rw (p .is, put-view a (m .words) (p .words) (m .book) (m′ .book) suits i lt (p .long)) (law (p .words) (p .does)) in
+    rw (p .is, put-view a (m .words) (p .words) (m .book) (m′ .book) suits i lt (p .long) (count (p .words) (p .does) .1)) (law (p .words) (p .does)) in
     let fits : Fits a (length (m′ .words)) = rw (p .is) (put-fits a (m .words) (p .words) suits i lt (p .long)) in
     let kept : PreservesParts others (bookLaid (m′ .book) a (m′ .words)) =
     record {
       same = λ j g q.
           ap (part a j) (p .is) ∙ put-part a (m .words) (p .words) suits i lt (p .long) j g
           ∙ ap (λ (t : Bool). cond t (p .words) (areaOf m j)) (apart i j (e .own) q) ∙ same .same j g q;
+      stood = λ j g q.
+          subst (Stood j (others j)) (sym (ap (part a j) (p .is) ∙ put-part a (m .words) (p .words) suits i lt (p .long) j g))
+          (stood-put others i j (eqb i j) refl (spared (p .words) (p .does)) (same .stood j g q));
+      nothing = same .nothing;
     } in
     let slots : SlotsFilled (m′ .book .constants) a (m′ .words) =
     slots-same
@@ -105,31 +116,46 @@ area-kept {κ} {ps} {others} {i} {n} {R} {m} {m′} {b} lt is-other suits same f
     ∙ ap (λ (t : Bool). cond t (p .words) (areaOf m 13)) (e .slots))
     (ap (λ (l : List ℕ). poolOf (m′ .book .constants) l)
     (ap (part a 2) (p .is) ∙ put-part a (m .words) (p .words) suits i lt (p .long) 2 (omega arith)
-    ∙ ap (λ (t : Bool). cond t (p .words) (areaOf m 2)) (e .constants)) ∙ ap (λ (k : ℕ). poolOf k (areaOf m 2)) (count (p .words) (p .does))) filled in
+    ∙ ap (λ (t : Bool). cond t (p .words) (areaOf m 2)) (e .constants)) ∙ ap (λ (k : ℕ). poolOf k (areaOf m 2)) (count (p .words) (p .does) .0)) filled in
     record {
       fits = rw (o .same) fits;
       preserves = subst (λ (w : List ℕ). PreservesParts others (bookLaid (m′ .book) w (m′ .words))) (sym (o .same)) kept;
+      behind = behind;
       keeping = rw (o .same) here;
+      standing = rw (count (p .words) (p .does) .1) stands;
       slots = subst (λ (w : List ℕ). SlotsFilled (m′ .book .constants) w (m′ .words)) (sym (o .same)) slots;
     }
 
 -- and of one that stands for a book
 pub area-law : {κ : Limits} {ps ps′ : List ℕ} {others : ℕ → List ℕ} {i : ℕ} {R : List ℕ → List ℕ → Type 0} {m m′ : BookMemory} {b b′ : Book}
-    → i < 14 → isOtherArea i ≡ true → SameConstantCount m m′ → OnArea i R m m′ → RepresentsBook κ ps others m b
-    → ((x : List ℕ) → R (areaOf m i) x → RepresentsAreas κ ps′ (withBookArea i (m′ .book) x (bookView m)) b′) → RepresentsBook κ ps′ others m′ b′
-area-law lt own count o H law = area-kept lt own (H .fits) (H .preserves) (H .slots) o (λ x r. count) law
+    → i < 14 → isOtherArea i ≡ true → SameCounts (m .book) (m′ .book) → OnArea i R m m′ → RepresentsBook κ ps others m b
+    → ((x : List ℕ) → R (areaOf m i) x → Stood i (others i) x) → Grows b b′
+    → ((x : List ℕ) → R (areaOf m i) x → RepresentsAreas κ ps′ (withBookArea i (m′ .book) x m) b′) → RepresentsBook κ ps′ others m′ b′
+area-law lt own count o H spared grows law =
+    let p = o .on (H .fits) in
+    area-kept lt own (H .fits) (H .preserves) (H .slots) o spared
+    (λ z. behind-grown (grows .prior) (grows .constants) (grows .methods) (H .behind (unfilled (grows .uses) (H .keeping) (law (p .words) (p .does)) z)))
+    (H .standing) (λ x r. (count .constants, count .standing)) law
+
+-- whatever memory stands for a book, what stood in part i is in place
+abbrev pub Spared : (i : ℕ) (R : List ℕ → List ℕ → Type 0) (m : BookMemory) → Type 0
+Spared i R m =
+    (κ : Limits) (ps : List ℕ) (others : ℕ → List ℕ) (b : Book) → RepresentsBook κ ps others m b → (x : List ℕ) → R (areaOf m i) x → Stood i (others i) x
 
 -- so its step and what it finds on the counts and areas are those on the memory
-module _ {i : ℕ} {R : List ℕ → List ℕ → Type 0} {m m′ : BookMemory} (lt : i < 14) (own : isOtherArea i ≡ true) (count : SameConstantCount m m′)
-    (o : OnArea i R m m′) where
-  pub area-simulates : {step : BookStep} → ((x : List ℕ) → R (areaOf m i) x → SimulatesAreas (bookView m) (withBookArea i (m′ .book) x (bookView m)) step)
-      → SimulatesBook m m′ step
-  area-simulates law = record { meets = λ κ ps others b H. area-law lt own count o H (λ x r. law x r .meets κ ps b (H .keeping)) }
+module _ {i : ℕ} {R : List ℕ → List ℕ → Type 0} {m m′ : BookMemory} (lt : i < 14) (own : isOtherArea i ≡ true) (count : SameCounts (m .book) (m′ .book))
+    (o : OnArea i R m m′) (spared : Spared i R m) where
+  pub area-simulates : {step : BookStep} → ((x : List ℕ) → R (areaOf m i) x → SimulatesAreas (bookView m) (withBookArea i (m′ .book) x m) step)
+      → ((b : Book) → Grows b (step b)) → SimulatesBook m m′ step
+  area-simulates law grows = record {
+    meets = λ κ ps others b H. area-law lt own count o H (spared κ ps others b H) (grows b) (λ x r. law x r .meets κ ps b (H .keeping));
+  }
 
   pub area-seeks : {found : Found} {step : Book → MaybePlaced}
-      → ((x : List ℕ) → R (areaOf m i) x → Seeks (bookView m) (withBookArea i (m′ .book) x (bookView m)) found step) → SimulatesSought m m′ found step
-  area-seeks law = record {
-    meets = λ κ ps others b H. area-law lt own count o H (λ x r. law x r .meets κ ps b (H .keeping));
+      → ((x : List ℕ) → R (areaOf m i) x → Seeks (bookView m) (withBookArea i (m′ .book) x m) found step)
+      → ((b : Book) → Grows b (step b .book)) → SimulatesSought m m′ found step
+  area-seeks law grows = record {
+    meets = λ κ ps others b H. area-law lt own count o H (spared κ ps others b H) (grows b) (λ x r. law x r .meets κ ps b (H .keeping));
     sought = λ κ ps others b H z. let p = o .on (H .fits) in law (p .words) (p .does) .sought κ ps b (H .keeping) z;
   }
 
@@ -150,7 +176,14 @@ area-back {i} h a w w′ n = record { same = refl; on = λ f. absurd (omega (ari
 -- with the mark set the memory stands for whatever is compiled further
 pub represents-longer : {κ : Limits} {ps ps′ : List ℕ} {others : ℕ → List ℕ} {m : BookMemory} {b b′ : Book} → NotesGrow (b .uses) (b′ .uses)
     → (m .book .full ≡ 0 → ⊥) → RepresentsBook κ ps others m b → RepresentsBook κ ps′ others m b′
-represents-longer l ne H = record { fits = H .fits; preserves = H .preserves; keeping = keeping-longer l ne (H .keeping); slots = H .slots }
+represents-longer l ne H = record {
+  fits = H .fits;
+  preserves = H .preserves;
+  behind = λ z. absurd (ne z);
+  keeping = keeping-longer l ne (H .keeping);
+  standing = H .standing;
+  slots = H .slots;
+}
 
 -- not full after, not full before
 pub represents-unfilled : {κ : Limits} {ps ps′ : List ℕ} {others : ℕ → List ℕ} {m m′ : BookMemory} {b b′ : Book} → NotesGrow (b .uses) (b′ .uses)
@@ -181,5 +214,12 @@ area-map g o = record {
 
 -- the memory as it was stands for another book
 pub represents-same : {κ : Limits} {ps ps′ : List ℕ} {others : ℕ → List ℕ} {m : BookMemory} {b b′ : Book} → RepresentsBook κ ps others m b
-    → RepresentsAreas κ ps′ (bookView m) b′ → RepresentsBook κ ps′ others m b′
-represents-same H K = record { fits = H .fits; preserves = H .preserves; keeping = K; slots = H .slots }
+    → (m .book .full ≡ 0 → BehindContext others (b′ .context)) → RepresentsAreas κ ps′ (bookView m) b′ → RepresentsBook κ ps′ others m b′
+represents-same H behind K = record {
+  fits = H .fits;
+  preserves = H .preserves;
+  behind = behind;
+  keeping = K;
+  standing = H .standing;
+  slots = H .slots;
+}

@@ -1,13 +1,15 @@
 -- The books of a bundle one after the other over one memory: one lemma for each way through a round of `drive`, and through its end. With the mark set the
--- notes are only added, so what is left to do changes nothing. Assumes nothing.
+-- notes are only added, so what is left to do changes nothing. On every way what stood is in place: no step writes it, and in area 12 only the words from
+-- `done` on move. Assumes nothing.
 use Prim.Native.Nat.{ℕ, zero, suc, _+_, _-_, _*_, _/_, _%_, _≤_, _<_}
 use native.Mathlib.Omega.{arith}
-use native.Mathlib.Decide.{decLe}
+use native.Mathlib.Decide.{decLe, ℕ-discrete}
 use mathlib.Core.Path.{_≡_, refl, sym, ap, subst, _∙_}
+use mathlib.Core.Bool.{Bool, true, cond}
 use mathlib.Core.Option.{Option, none, some}
 use mathlib.Core.List.{List, [], _∷_, _++_, append-assoc}
-use lib.ListN.{length, getD, length-append}
-use Rattle.memory.specs.Layout.{part, Fits}
+use lib.ListN.{length, getD, length-append, List·getD-append}
+use Rattle.memory.specs.Layout.{part, partCount, Fits}
 use Rattle.words.specs.Ast.{Definition, Document}
 use Rattle.words.specs.Areas.{entriesIn, entryWord, entryField, errorsArea, booksArea}
 use Rattle.tree.specs.At.{DocumentAt, sizeDoc}
@@ -41,10 +43,13 @@ use Rattle.compiler_laws.proofs.WaitingBooks.{apart}
 use Rattle.compiler_laws.proofs.RingErrors.{ring-end, ring-more}
 use Rattle.compiler_laws.proofs.FileLists.{addBit-length, set-add, add-grows}
 use Rattle.book_compiler.specs.declared.order.Next.{Next}
-use Rattle.book_compiler.specs.RepresentsBook.{BookMemory, bookLaid, areaOf, RepresentsBook, RepresentsContext, CompilesDocument}
+use Rattle.undo.specs.Stood.{Stood}
+use Rattle.book_compiler.specs.RepresentsBook.{BookMemory, bookLaid, areaOf, isBookArea, RepresentsBook, RepresentsContext, CompilesDocument}
 use Rattle.book_compiler.specs.BookOrder.{LentPart, ReadsPart, withBooks, AtRest, Picked, PicksNext, PushesRingErrorsIn}
 use Rattle.book_compiler.specs.BookOrder.{Came, came-delivered, came-faulty, came-ring, Outcome, Driving, Drives}
-use Rattle.book_compiler.proofs.LentParts.{lent-does, lent-part, lent-fits, still-at-rest}
+use Rattle.book_compiler.proofs.Stood.{stood-nothing}
+use Rattle.book_compiler.proofs.StoodBooks.{behind-grown}
+use Rattle.book_compiler.proofs.LentParts.{lent-does, lent-other, lent-part, lent-fits, still-at-rest, stood-beside}
 
 -- the ways of `pick_next`
 module _ {tree : List ℕ} {end done count : ℕ} {set books marked : List ℕ} {i : ℕ} (N : FindsReady tree end done count set books i marked) where
@@ -67,7 +72,7 @@ module _ {tree : List ℕ} {end done count : ℕ} {set books marked : List ℕ} 
 -- the ways of `ring`
 module _ {i count : ℕ} {t : Taken} {a w : List ℕ} where
   pub ring-done : count ≤ i → PushesRingErrorsIn i count t a w t w
-  ring-done past = record { rings = λ f. ring-end past }
+  ring-done past = record { rings = λ f. ring-end past; others = λ f j g n. refl }
 
   pub ring-on : {word : ℕ} {t₁ r : Taken} {w₁ w₂ : List ℕ} → i < count → ReadsPart booksArea (λ o. word ≡ entryField 1 i 0 o) a w
       → LentPart errorsArea (λ e e′. Took errorsArea (t .full) (t .count) (11 ∷ 0 ∷ 0 ∷ word / bookUnit ∷ []) e t₁ e′) a w w₁
@@ -78,7 +83,15 @@ module _ {i count : ℕ} {t : Taken} {a w : List ℕ} where
         let onward : PushesRingErrors (i + 1) count (part a booksArea w) t₁ (part a errorsArea w₁) r (part a errorsArea w₂) =
         rw same at (R .rings (lent-fits (omega arith) f T)) in
         ring-more inside (word-is .on f) (lent-does (omega arith) f T) onward;
+    others = λ f j g n. R .others (lent-fits (omega arith) f T) j g n ∙ lent-other (omega arith) f T j g n;
   }
+
+-- so many words at the front of area 12 are the files of the books that stand there
+front-kept : (files x y : List ℕ) {books after : List ℕ} {done : ℕ} → done ≡ length files → books ≡ files ++ x → after ≡ files ++ y
+    → (k : ℕ) → k < done → getD after k 0 ≡ getD books k 0
+front-kept files x y many was is k h =
+    ap (λ (l : List ℕ). getD l k 0) is ∙ List·getD-append files y 0 k (omega arith) ∙ sym (List·getD-append files x 0 k (omega arith))
+    ∙ sym (ap (λ (l : List ℕ). getD l k 0) was)
 
 module _ (calm : (d : Definition) → Unchanged (compileDefinition d)) {tree : List ℕ} {end done count : ℕ} {set : List ℕ} {m : BookMemory} where
   -- no book is left
@@ -88,11 +101,13 @@ module _ (calm : (d : Definition) → Unchanged (compileDefinition d)) {tree : L
     where
       go : (ds : List Document) (left rest compiled : List ℕ) (κ : Limits) (others : ℕ → List ℕ) (context : Context) (uses : List Use)
           → Driving ds tree end done count left rest compiled set κ others m context uses
-          → Outcome κ others m rest 0 place (drive (length left) ds compiled left context uses)
+          → Outcome κ others done (areaOf m booksArea) m rest 0 place (drive (length left) ds compiled left context uses)
       go ds [] rest compiled κ others context uses D = record {
         full = D .resting .represents .ready .keeping .full;
         came = λ z. came-delivered refl (place-is ∙ D .so-many) (D .resting)
             (D .stands .area ∙ ap (λ (x : List ℕ). loadedOf context ++ (x ++ rest)) (none-waits ds tree end set (D .stands .words) (D .stands .waits)));
+        stood = stood-beside others (areaOf m booksArea) (D .resting .represents .ready .preserves .stood);
+        named = λ k h. refl;
       }
       go ds (x ∷ left) rest compiled κ others context uses D = absurd (omega (arith, D .in-all))
 
@@ -195,6 +210,15 @@ module _ {tree : List ℕ} {end done count : ℕ} {set : List ℕ} {s s₁ : str
     unfolding drive compileDocument
     follows R = rw (R .one-less, R .is, R .same)
 
+    -- the books that were done before it are named as they were
+    still-named : {ds : List Document} {left rest compiled : List ℕ} {κ : Limits} {others : ℕ → List ℕ} {context : Context} {uses : List Use}
+        → Driving ds tree end done count left rest compiled set κ others (bookLaid s a w) context uses
+        → Round ds tree end file left rest compiled set κ others (bookLaid s₁ a w₂) context uses
+        → (k : ℕ) → k < done → getD (part a booksArea w₂) k 0 ≡ getD (part a booksArea w) k 0
+    still-named {rest = rest} {context = context} D R =
+        front-kept (loadedOf context) (D .stands .words ++ rest) (file ∷ (R .words ++ rest)) (D .so-many ∙ sym (loaded-length context)) (D .stands .area)
+        (R .area ∙ append-assoc (loadedOf context) (file ∷ []) (R .words ++ rest))
+
     pub round-full : (s₁ .full ≡ 0 → ⊥) → (row place : ℕ) → Drives tree end done count set (bookLaid s a w) (bookLaid s₁ a w₂) row place
     round-full ne row place = record {
       drives = λ ds left rest compiled κ others context uses D.
@@ -203,7 +227,12 @@ module _ {tree : List ℕ} {end done count : ℕ} {set : List ℕ} {s s₁ : str
           let longer = after-longer calm (x .compiler .errors) file (putAway x) (x .uses)
           (λ c′ uses′. drive (length (without file left)) ds (file ∷ compiled) (without file left) c′ uses′)
           (λ y us. drive-longer calm (length (without file left)) ds (file ∷ compiled) (without file left) y us) in
-          record { full = rw (follows R) (over-longer κ longer (R .kept .keeping .full) ne); came = λ z. absurd (ne z) };
+          record {
+            full = rw (follows R) (over-longer κ longer (R .kept .keeping .full) ne);
+            came = λ z. absurd (ne z);
+            stood = stood-beside others (part a booksArea w₂) (R .kept .preserves .stood);
+            named = still-named D R;
+          };
     }
 
     module _ (z₁ : s₁ .full ≡ 0) where
@@ -212,15 +241,18 @@ module _ {tree : List ℕ} {end done count : ℕ} {set : List ℕ} {s s₁ : str
         drives = λ ds left rest compiled κ others context uses D.
             let R = round ds left rest compiled κ others context uses D in
             let x = compileDefinitions (R .book .definitions) (opened (R .book) context uses) in
-            rw (follows R) (go (x .compiler .errors) (R .kept .keeping .rest z₁ .errors) (putAway x) (x .uses) _ (R .kept .keeping .full));
+            rw (follows R) (go (x .compiler .errors) (R .kept .keeping .rest z₁ .errors) (putAway x) (x .uses) _ (R .kept .keeping .full)
+            (stood-beside others (part a booksArea w₂) (R .kept .preserves .stood)) (still-named D R));
       }
         where
           go : {κ : Limits} {others : ℕ → List ℕ} {rest : List ℕ} (es : List Error)
               → Filled 4 (part a errorsArea w₂) (entriesFrom errorEntry 0 es) (s₁ .errors) → (y : Context) (us : List Use)
               (goes : Context → List Use → Worked) → Marks (firstOver κ us) (s₁ .full)
-              → Outcome κ others (bookLaid s₁ a w₂) rest 7 file (afterBook es file y us goes)
-          go [] F y us goes h = absurd (some-error (F .count))
-          go (x ∷ es) F y us goes h = record { full = h; came = λ z. came-faulty refl refl F }
+              → ((i : ℕ) → i < partCount → isBookArea i ≡ true → Stood i (others i) (part a i w₂))
+              → ((k : ℕ) → k < done → getD (part a booksArea w₂) k 0 ≡ getD (part a booksArea w) k 0)
+              → Outcome κ others done (part a booksArea w) (bookLaid s₁ a w₂) rest 7 file (afterBook es file y us goes)
+          go [] F y us goes h stood named = absurd (some-error (F .count))
+          go (x ∷ es) F y us goes h stood named = record { full = h; came = λ z. came-faulty refl refl F; stood = stood; named = named }
 
       pub round-more : {set₁ : List ℕ} {m′ : BookMemory} {row place : ℕ} → s₁ .errors ≡ 0 → set₁ ≡ addBit set file
           → Drives tree end (done + 1) count set₁ (bookLaid s₁ a w₂) m′ row place
@@ -254,17 +286,20 @@ module _ {tree : List ℕ} {end done count : ℕ} {set : List ℕ} {s s₁ : str
                 represents = record {
                   ready = record {
                     fits = R .kept .fits;
-                    preserves = record { same = R .kept .preserves .same };
+                    preserves = record { same = R .kept .preserves .same; stood = R .kept .preserves .stood; nothing = R .kept .preserves .nothing };
+                    behind = λ y. behind-grown refl (omega arith) (omega arith) (R .kept .behind y);
                     keeping = put-away clean (R .kept .keeping) .ready;
+                    standing = R .kept .standing;
                     slots = R .kept .slots;
                   };
                 };
               };
             } in
-            subst (λ (v : Worked). Outcome κ others m′ rest row place v)
+            let O = onward .drives ds (without file left) rest (file ∷ compiled) κ others (putAway x) (x .uses) next in
+            subst (λ (v : Worked). Outcome κ others done (part a booksArea w) m′ rest row place v)
             (sym (follows R ∙ ap (λ (es : List Error). afterBook es file (putAway x) (x .uses)
             (λ y us. drive (length (without file left)) ds (file ∷ compiled) (without file left) y us)) clean))
-            (onward .drives ds (without file left) rest (file ∷ compiled) κ others (putAway x) (x .uses) next);
+            (record { full = O .full; came = O .came; stood = O .stood; named = λ k h. O .named k (omega arith) ∙ still-named D R k h });
       }
         where
           no-errors : (es : List Error) → Filled 4 (part a errorsArea w₂) (entriesFrom errorEntry 0 es) (s₁ .errors) → es ≡ []
@@ -274,7 +309,8 @@ module _ {tree : List ℕ} {end done count : ℕ} {set : List ℕ} {s s₁ : str
 -- no book is ready: a ring
 module _ {tree : List ℕ} {end done count : ℕ} {set : List ℕ} {s s₁ : struct.Book} {a w w₁ w₂ : List ℕ} {r : Next} {place : ℕ} {x : Taken}
     (z : s .full ≡ 0) (N : LentPart booksArea (PicksNext tree end done count set r) a w w₁) (inside : done < count) (past : count ≤ r .index)
-    (G : PushesRingErrorsIn done count (taken 0 0) a w₁ x w₂) (full-is : s₁ .full ≡ x .full) (errors-are : s₁ .errors ≡ x .count) (place-is : done + place ≡ count) where
+    (G : PushesRingErrorsIn done count (taken 0 0) a w₁ x w₂) (full-is : s₁ .full ≡ x .full) (errors-are : s₁ .errors ≡ x .count)
+    (place-is : done + place ≡ count) where
   pub drive-ring : Drives tree end done count set (bookLaid s a w) (bookLaid s₁ a w₂) 8 place
   unfolding drive
   drive-ring = record {
@@ -285,16 +321,40 @@ module _ {tree : List ℕ} {end done count : ℕ} {set : List ℕ} {s s₁ : str
         let same : part a errorsArea w₁ ≡ part a errorsArea w = lent-part (omega arith) f N errorsArea (omega arith) in
         let rung : PushesRingErrors done count (part a booksArea w₁) (taken 0 0) (part a errorsArea w) x (part a errorsArea w₂) =
         rw same at (G .rings (lent-fits (omega arith) f N)) in
-        go ds left rest compiled κ others context uses D rung (Q .is) (rw (← many) at (leaves-are (Q .stands)));
+        go ds left rest compiled κ others context uses D rung (Q .is) (rw (← many) at (leaves-are (Q .stands))) (still D)
+        (λ k h. ap (λ (l : List ℕ). getD l k 0) (rings f booksArea (omega arith) (λ e. omega arith))
+        ∙ front-kept (loadedOf context) (D .stands .words ++ rest) (Q .stands .words ++ rest) many (D .stands .area) (Q .stands .area) k h);
   }
     where
+      -- the errors' part is the only one that is written
+      rings : Fits a (length w) → (j : ℕ) → j < partCount → (errorsArea ≡ j → ⊥) → part a j w₂ ≡ part a j w₁
+      rings f = G .others (lent-fits (omega arith) f N)
+
+      still : {ds : List Document} {left rest compiled : List ℕ} {κ : Limits} {others : ℕ → List ℕ} {context : Context} {uses : List Use}
+          → Driving ds tree end done count left rest compiled set κ others (bookLaid s a w) context uses
+          → (i : ℕ) → i < partCount → isBookArea i ≡ true → Stood i (others i) (part a i w₂)
+      still {others = others} D i g q = by (ℕ-discrete errorsArea i) (ℕ-discrete booksArea i)
+        where
+          f : Fits a (length w)
+          f = D .resting .represents .ready .fits
+
+          by : Dec (errorsArea ≡ i) → Dec (booksArea ≡ i) → Stood i (others i) (part a i w₂)
+          by (yes e) d =
+              stood-nothing (part a i w₂) (ap (λ (n : ℕ). length (others n)) (sym e) ∙ D .resting .represents .ready .preserves .nothing .errors)
+          by (no e) (yes b) = absurd (let z : _≡_ {A = ℕ} 0 1 = ap (λ (t : Bool). cond t 0 1) (sym q ∙ ap isBookArea (sym b)) in omega arith)
+          by (no e) (no b) =
+              subst (Stood i (others i)) (sym (rings f i g e ∙ lent-other (omega arith) f N i g b))
+              (stood-beside others (part a booksArea w) (D .resting .represents .ready .preserves .stood) i g q)
+
       go : (ds : List Document) (left rest compiled : List ℕ) (κ : Limits) (others : ℕ → List ℕ) (context : Context) (uses : List Use)
           → Driving ds tree end done count left rest compiled set κ others (bookLaid s a w) context uses
           → PushesRingErrors done count (part a booksArea w₁) (taken 0 0) (part a errorsArea w) x (part a errorsArea w₂)
           → ready ds compiled left ≡ none → Leaves (part a booksArea w₁) done left
-          → Outcome κ others (bookLaid s₁ a w₂) rest 8 place (drive (length left) ds compiled left context uses)
-      go ds [] rest compiled κ others context uses D rung q h = absurd (omega (arith, D .in-all))
-      go ds (y ∷ left) rest compiled κ others context uses D rung q h =
+          → ((i : ℕ) → i < partCount → isBookArea i ≡ true → Stood i (others i) (part a i w₂))
+          → ((k : ℕ) → k < done → getD (part a booksArea w₂) k 0 ≡ getD (part a booksArea w) k 0)
+          → Outcome κ others done (part a booksArea w) (bookLaid s₁ a w₂) rest 8 place (drive (length left) ds compiled left context uses)
+      go ds [] rest compiled κ others context uses D rung q h stood named = absurd (omega (arith, D .in-all))
+      go ds (y ∷ left) rest compiled κ others context uses D rung q h stood named =
           let K = D .resting .represents .ready .keeping in
           let S = K .rest z in
           let R = rung .rings [] (y ∷ left) h (sym (D .in-all)) refl (rw (S .errors .count) at (S .errors)) in
@@ -304,7 +364,8 @@ module _ {tree : List ℕ} {end done count : ℕ} {set : List ℕ} {s s₁ : str
         where
           by : place ≡ length (y ∷ left) → entriesIn 4 (length (part a errorsArea w)) ≡ limitOf κ errorsArea → Marks (firstOver κ uses) (s .full)
               → Rung [] (y ∷ left) (part a errorsArea w) x (part a errorsArea w₂)
-              → Dec (length (y ∷ left) ≤ entriesIn 4 (length (part a errorsArea w))) → Outcome κ others (bookLaid s₁ a w₂) rest 8 place
+              → Dec (length (y ∷ left) ≤ entriesIn 4 (length (part a errorsArea w)))
+              → Outcome κ others done (part a booksArea w) (bookLaid s₁ a w₂) rest 8 place
               (record { ending = Ring (y ∷ left); uses = using′ errorsArea (length (y ∷ left)) ∷ uses })
           by all caps marks R (yes fits) =
               let F = R .fits (omega arith) in
@@ -312,10 +373,14 @@ module _ {tree : List ℕ} {end done count : ℕ} {set : List ℕ} {s s₁ : str
               record {
                 full = rw same (over-fits κ (using′ errorsArea (length (y ∷ left))) uses marks z (omega arith));
                 came = λ z₁. came-ring {left = y ∷ left} refl all (rw errors-are (F .1));
+                stood = stood;
+                named = named;
               }
           by all caps marks R (no over) =
               let F : s₁ .full ≡ errorsArea = full-is ∙ R .over (omega arith) in
               record {
                 full = rw F (over-here κ (using′ errorsArea (length (y ∷ left))) uses marks z (omega arith) (omega arith));
                 came = λ z₁. absurd (omega (arith, F, z₁));
+                stood = stood;
+                named = named;
               }

@@ -6,7 +6,7 @@ use mathlib.Core.Bool.{Bool, true, false, cond}
 use mathlib.Core.List.{List, [], _∷_}
 use lib.ListN.{length}
 use lib.Dec.{eqb}
-use borrow.Author.Tests.{eqb-false, ne-eqb}
+use borrow.Author.Tests.{eqb-true, eqb-false, ne-eqb}
 use Rattle.memory.specs.Layout.{part, withPart, partCount, Fits}
 use Rattle.memory.proofs.Parts.{put-part, put-fits}
 use Rattle.words.specs.Areas.{codeArea, breaksArea, entryField}
@@ -24,11 +24,16 @@ use Rattle.building.specs.Emission.{Coded, coded, Breaking, breaking, nextC, em
 use Rattle.building.specs.RepresentsMachine.{Machine, machine, RepresentsMachine, isOpen}
 use Rattle.building.proofs.Emitting.{patch-turn, patch-end, exit-full, exit-more, break-in, break-out}
 use Rattle.building.proofs.BreakLaws.{held-breaking, breakingMachine, break-law, exit-break-law}
-use Rattle.book_compiler.specs.Represents.{Memory, laid, partOf, Represents, Replaced, On, Simulates}
 use Rattle.constant_slots.specs.Plain.{poolOf}
+use Rattle.undo.specs.Notes.{plainMarks}
+use Rattle.undo.specs.Stood.{Stood}
+use Rattle.book_compiler.specs.Represents.{Memory, laid, partOf, Represents, Replaced, On, Simulates}
 use Rattle.book_compiler.proofs.Parts.{unbuilt, slots-same}
 use Rattle.book_compiler.proofs.ConstantCount.{break-count, exit-break-count}
 use Rattle.book_compiler.specs.Leaves.{OnCode, OnBreaks, GivesUpBreaks, WaitingBreak, PushesBreak, Both, OnBoth, patched}
+use Rattle.book_compiler.proofs.Stood.{stood-spared, stood-nothing}
+use Rattle.book_compiler.proofs.StoodFunctions.{Ordered, behind-onward, SparesBreaking, break-spares, exit-break-spares}
+use Rattle.book_compiler.proofs.Laws.{is-ordered}
 
 -- every part after a routine that was lent part i
 pub record Replacing (i : ℕ) (R : List ℕ → List ℕ → Type 0) (m m′ : Memory) : Type 0 where
@@ -51,14 +56,26 @@ replacing {i} {R} {m} {m′} h o f =
 
 -- a method over both on what the memory stands for: it keeps the count of constants
 pub both-law : {κ : Limits} {E : Entries} {others : ℕ → List ℕ} {f : Breaking → Breaking} {m m′ : Memory} {w w′ : Work} → m′ .starts ≡ m .starts
-    → OnBoth f m m′ → Represents κ E others m w → ((g : Breaking) → f g .state .constants ≡ g .state .constants)
-    → RepresentsMachine κ E (breakingMachine (f (breaking (m .state) (partOf m 1) (partOf m 10))) (partOf m 2) (partOf m 9) (partOf m 11)) w′
+    → OnBoth f m m′ → Represents κ E others m w → ((x : Breaking) → Ordered (x .state) → SparesBreaking x (f x))
+    → ((g : Breaking) → f g .state .constants ≡ g .state .constants)
+    → RepresentsMachine κ E (breakingMachine (f (breaking (m .state) (partOf m 1) (partOf m 10))) (plainMarks (partOf m 2)) (partOf m 9) (partOf m 11)) w′
     → Represents κ E others m′ w′
-both-law {m = m} {m′ = m′} same o H count G =
+both-law {others = others} {m = m} {m′ = m′} same o H spares count G =
     let B = o .on (H .fits) in
+    let x = breaking (m .state) (partOf m 1) (partOf m 10) in
+    let S : SparesBreaking x (breaking (m′ .state) (partOf m′ 1) (partOf m′ 10)) = subst (SparesBreaking x) (sym (B .is)) (spares x (is-ordered H)) in
+    let P = H .preserves in
+    let code : Stood 1 (others 1) (partOf m′ 1) = stood-spared (P .stood 1 (omega arith) refl) (λ z. P .behind z .code) (S .words) in
+    let breaks : Stood 10 (others 10) (partOf m′ 10) = stood-nothing (partOf m′ 10) (P .nothing .breaks) in
     record {
       fits = B .fits;
-      preserves = record { same = λ j g q. let u = unbuilt j q in B .others j g (u .code) (u .breaks) ∙ H .preserves .same j g q };
+      preserves = record {
+        same = λ j g q. let u = unbuilt j q in B .others j g (u .code) (u .breaks) ∙ P .same j g q;
+        stood = λ j g q. by-part j code breaks (λ n1 n2. subst (Stood j (others j)) (sym (B .others j g n1 n2)) (P .stood j g q)) (eqb j 1) refl
+            (eqb j 10) refl;
+        nothing = P .nothing;
+        behind = behind-onward (S .onward) (P .behind);
+      };
       held = rw (B .others 2 (omega arith) refl refl, B .others 9 (omega arith) refl refl, B .others 11 (omega arith) refl refl)
           (held-breaking (m′ .state) (partOf m′ 1) (partOf m′ 10) (B .is) G);
       slots = slots-same (B .others 13 (omega arith) refl refl)
@@ -66,6 +83,13 @@ both-law {m = m} {m′ = m′} same o H count G =
           ∙ ap (λ (n : ℕ). poolOf n (partOf m 2))
           (ap (λ (x : Breaking). x .state .constants) (B .is) ∙ count (breaking (m .state) (partOf m 1) (partOf m 10)))) (H .slots);
     }
+  where
+    by-part : (j : ℕ) → Stood 1 (others 1) (partOf m′ 1) → Stood 10 (others 10) (partOf m′ 10)
+        → (eqb j 1 ≡ false → eqb j 10 ≡ false → Stood j (others j) (partOf m′ j)) → (t : Bool) → eqb j 1 ≡ t → (u : Bool) → eqb j 10 ≡ u
+        → Stood j (others j) (partOf m′ j)
+    by-part j code breaks other true e u p = subst (λ (n : ℕ). Stood n (others n) (partOf m′ n)) (sym (eqb-true j 1 e)) code
+    by-part j code breaks other false e true p = subst (λ (n : ℕ). Stood n (others n) (partOf m′ n)) (sym (eqb-true j 10 p)) breaks
+    by-part j code breaks other false e false p = other e p
 
 -- `emit_break`
 pub break-outside : (p : ℕ) {s : FunctionState} {a l : List ℕ} → s .«in_loop» ≡ false → OnBoth (emitBreakC p) (laid s a l) (laid s a l)
@@ -110,7 +134,7 @@ break-inside p {s} {a} {l} {index} {m₁} {m′} inside at d e = record {
 
 pub break-acts : {s : FunctionState} {a l : List ℕ} {s′ : FunctionState} {l′ : List ℕ} (p : ℕ) → OnBoth (emitBreakC p) (laid s a l) (laid s′ a l′)
     → Simulates (laid s a l) (laid s′ a l′) (doing (method.emitBreak p))
-break-acts p o = record { meets = λ κ E others w H. both-law refl o H (break-count p) (break-law p (H .held)) }
+break-acts p o = record { meets = λ κ E others w H. both-law refl o H (break-spares p) (break-count p) (break-law p (H .held)) }
 
 -- `patch_breaks`: what is left to patch from i is what was to patch at first
 pub record Patching (v i : ℕ) (m m′ : Memory) : Type 0 where
@@ -182,4 +206,5 @@ pub exited : {κ : Limits} {E : Entries} {others : ℕ → List ℕ} {start : �
     → OnBoth (exitBreakC start inside) (laid s a l) (laid s′ a l′) → (s .full ≡ 0 → start ≡ total (tail (tail (w .function .breakScopes))))
     → (s .full ≡ 0 → inside ≡ isOpen (tail (w .function .breakScopes))) → Represents κ E others (laid s a l) w
     → Represents κ E others (laid s′ a l′) (doing (method.exitBreakScope exit) w)
-exited {start = start} {inside = inside} exit o hs hi H = both-law refl o H (exit-break-count start inside) (exit-break-law exit start inside (H .held) hs hi)
+exited {start = start} {inside = inside} exit o hs hi H =
+    both-law refl o H (exit-break-spares start inside) (exit-break-count start inside) (exit-break-law exit start inside (H .held) hs hi)

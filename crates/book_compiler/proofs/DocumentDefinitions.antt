@@ -192,7 +192,14 @@ module _ {tree : List ℕ} {at end index : ℕ} {s : struct.Book} {a w : List �
         let H : RepresentsBook κ [] others (bookLaid (openedBook s index) a w) (opened nobody context uses) =
         subst (λ (x : ℕ). RepresentsBook κ [] others (bookLaid (openedBook s x) a w) (opened nobody context uses)) (sym i) (R .ready) in
         M .meets (d .definitions) (h .definitions) (omega arith) limited κ others (opened d context uses) books-named
-        (record { fits = H .fits; preserves = H .preserves; keeping = named d (H .keeping); slots = H .slots });
+        (record {
+          fits = H .fits;
+          preserves = H .preserves;
+          behind = H .behind;
+          keeping = named d (H .keeping);
+          standing = H .standing;
+          slots = H .slots;
+        });
   }
 
   pub document-past : end ≤ at → CompilesDocument tree at end index (bookLaid s a w) m′

@@ -88,11 +88,13 @@ module _ {tree : List ℕ} {at end name : ℕ} {s s₁ : struct.Book} {a l l₁ 
     full-represents ne = record {
       fits = built .function .fits;
       preserves = built-kept built;
+      behind = λ z. absurd (ne z);
       keeping = record {
         fitted = added-fitted (built-parts built) refl;
         full = over-longer κ (unchanged-rest f (local .place) (compileBase f (local .book)) .uses) (built .function .held .full) ne;
         rest = λ z. absurd (ne z);
       };
+      standing = built .book .standing;
       slots = built .function .slots;
     }
 

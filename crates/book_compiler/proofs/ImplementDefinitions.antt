@@ -1,6 +1,6 @@
 -- An implement definition: one lemma for each way through its routines. By the functions one by one, the model, and the methods one by one.
 -- Assumes nothing.
-use Prim.Native.Nat.{ℕ, _+_, _≤_, _<_}
+use Prim.Native.Nat.{ℕ, _+_, _^_, _≤_, _<_}
 use native.Mathlib.Omega.{arith}
 use mathlib.Core.Path.{_≡_, refl, sym, ap, _∙_, subst}
 use mathlib.Core.Option.{Option, none, some}
@@ -35,6 +35,7 @@ use Rattle.book_compiler.specs.BookLeaves.{InsertsBookMethod}
 use Rattle.book_compiler.specs.DefinitionSteps.{FindsModelIndex, ImplementsFunction, ImplementsFunctions, ImplementsMethods}
 use Rattle.book_compiler.specs.DefinitionSteps.{CompilesImplementDefinition}
 use Rattle.book_compiler.specs.FunctionSteps.{MakesFunction, AddsBookFunction}
+use Rattle.book_compiler.proofs.StoodBooks.{functions-fit, behind-grown}
 use Rattle.book_compiler.proofs.BookParts.{represents-longer, represents-same, simulates-full}
 use Rattle.book_compiler.proofs.BookLeaves.{method-inserted}
 use Rattle.book_compiler.proofs.MakingFunctions.{added-represents}
@@ -150,18 +151,21 @@ module _ {tree : List ℕ} {at end model first most : ℕ} {m : BookMemory} wher
   methods-end past = record { simulates = go }
     where
       go : (fs : List FunctionDefinition) → RunAt (FunctionAt 14) sizeF fs tree at → at + runSize sizeF fs ≡ end → first + length fs ≤ most
-          → SimulatesBook m m (addMethods (some model) (numbered first fs))
-      go [] h q few = record { meets = λ κ ps others x H. represents-same H (methods-none model x (H .keeping)) }
-      go (f ∷ fs) h q few = absurd (omega arith)
+          → most < 2 ^ 56 → SimulatesBook m m (addMethods (some model) (numbered first fs))
+      go [] h q few small = record {
+        meets = λ κ ps others x H. represents-same H (λ z. behind-grown refl (omega arith) (omega arith) (H .behind z))
+            (methods-none model x (H .keeping));
+      }
+      go (f ∷ fs) h q few small = absurd (omega arith)
 
   pub methods-past : at < end → most ≤ first → ImplementsMethods tree at end model first most m m
   unfolding RunAt runSize
   methods-past inside past = record { simulates = go }
     where
       go : (fs : List FunctionDefinition) → RunAt (FunctionAt 14) sizeF fs tree at → at + runSize sizeF fs ≡ end → first + length fs ≤ most
-          → SimulatesBook m m (addMethods (some model) (numbered first fs))
-      go [] h q few = absurd (omega arith)
-      go (f ∷ fs) h q few = absurd (omega arith)
+          → most < 2 ^ 56 → SimulatesBook m m (addMethods (some model) (numbered first fs))
+      go [] h q few small = absurd (omega arith)
+      go (f ∷ fs) h q few small = absurd (omega arith)
 
   pub methods-more : {next name : ℕ} {m₁ m′ : BookMemory} → at < end → name ≡ valueAt tree at → InsertsBookMethod model name first m m₁
       → next ≡ skipC tree at end → ImplementsMethods tree next end model (first + 1) most m₁ m′ → ImplementsMethods tree at end model first most m m′
@@ -169,18 +173,19 @@ module _ {tree : List ℕ} {at end model first most : ℕ} {m : BookMemory} wher
   methods-more {next} {name} {m₁} {m′} inside name-is A skipped B = record { simulates = go }
     where
       go : (fs : List FunctionDefinition) → RunAt (FunctionAt 14) sizeF fs tree at → at + runSize sizeF fs ≡ end → first + length fs ≤ most
-          → SimulatesBook m m′ (addMethods (some model) (numbered first fs))
-      go [] h q few = absurd (omega arith)
-      go (f ∷ fs) h q few =
+          → most < 2 ^ 56 → SimulatesBook m m′ (addMethods (some model) (numbered first fs))
+      go [] h q few small = absurd (omega arith)
+      go (f ∷ fs) h q few small =
           let is : next ≡ at + sizeF f = skipped ∙ skip-law tree at end (h .0 .headed .head) (omega arith) (omega arith) in
           let named : name ≡ f .name .value = name-is ∙ sym (ap (λ (y : Token). y .value) (h .0 .headed .token)) in
           let A′ : InsertsBookMethod model (f .name .value) first m m₁ = subst (λ (y : ℕ). InsertsBookMethod model y first m m₁) named A in
           record {
             meets = λ κ ps others x H.
                 let one : List Entry = record { name = f .name .value; index = first } ∷ [] in
-                let H′ = B .simulates fs (rw (← is) at (h .1)) (omega arith) (omega arith) .meets κ ps others (addMethods (some model) one x)
-                (method-inserted A′ .meets κ ps others x H) in
-                represents-same H′ (methods-then model one (numbered (first + 1) fs) x (H′ .keeping));
+                let H′ = B .simulates fs (rw (← is) at (h .1)) (omega arith) (omega arith) small .meets κ ps others (addMethods (some model) one x)
+                (method-inserted A′ (omega arith) .meets κ ps others x H) in
+                represents-same H′ (λ z. behind-grown refl (omega arith) (omega arith) (H′ .behind z))
+                (methods-then model one (numbered (first + 1) fs) x (H′ .keeping));
           }
 
 -- `compile_implement_definition`
@@ -232,7 +237,8 @@ module _ {tree : List ℕ} {at end : ℕ} {m : BookMemory} where
             → RepresentsBook κ ps others m′ (compileImplementDefinition model fs x)
         found-represents {i} is {m′} M =
             let K : RepresentsBook κ ps others m′ (addMethods (some i) rows (sought model fs x .book)) =
-            rw (← first-is) (M .simulates fs run (omega arith) (omega (arith, first-is, most-is)) .meets κ ps others _ looked-for) in
+            rw (← first-is) (M .simulates fs run (omega arith) (omega (arith, first-is, most-is)) (functions-fit looked-for z) .meets κ ps others _
+            looked-for) in
             rw (by-parts model fs x, found-at (sought model fs x .place) answer is)
             (subst (λ (y : Book). RepresentsBook κ ps others m′ y) (methods-same i rows (sought model fs x .book)) K)
 

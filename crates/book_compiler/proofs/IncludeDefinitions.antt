@@ -171,9 +171,11 @@ module _ (tree : List ℕ) (at end : ℕ) {m : BookMemory} where
             let K = H .keeping in
             rw (no-values, place, marked) (record {
               fits = H .fits;
-              preserves = record { same = H .preserves .same };
+              preserves = record { same = H .preserves .same; stood = H .preserves .stood; nothing = H .preserves .nothing };
+              behind = λ y. let n : firstNotPublic + at ≡ 0 = y in absurd (omega (arith, n));
               keeping = keeping-over K z (notPublicArea at) 1 x refl (fitted-locals refl (K .fitted)) refl (omega arith)
                   (let none′ = K .fitted .others (notPublicArea at) (omega arith) in omega arith);
+              standing = H .standing;
               slots = H .slots;
             });
       };

@@ -9,7 +9,7 @@ use mathlib.Core.List.{List, [], _∷_}
 use lib.ListN.{length, getD, take, drop, replicate, length-replicate}
 use lib.Dec.{eqb}
 use borrow.Author.Tests.{eqb-true, eqb-false, ltb-true, ltb-false}
-use Rattle.memory.specs.Layout.{part, withPart, Fits}
+use Rattle.memory.specs.Layout.{part, withPart, partCount, Fits}
 use Rattle.memory.proofs.Parts.{put-part, put-same, put-other, put-length, put-fits, ends-within, part-length}
 use Rattle.words.specs.Areas.{booksArea, clearedFrom}
 use Rattle.definition.specs.Uses.{Use, Limits}
@@ -20,6 +20,7 @@ use Rattle.compiler_laws.specs.BookAreas.{BookAreas, bookAreas, RepresentsAreas
 use Rattle.compiler_laws.specs.OpenedBooks.{openedBook, nobody}
 use Rattle.compiler_laws.specs.BooksInOrder.{Zero}
 use Rattle.constant_slots.specs.Plain.{poolOf}
+use Rattle.undo.specs.Stood.{Stood}
 use Rattle.book_compiler.specs.Represents.{Replaced}
 use Rattle.book_compiler.specs.RepresentsBook.{bookLaid, bookView, isBookArea, RepresentsBook}
 use Rattle.book_compiler.specs.BookOrder.{LentPart, ReadsPart, AtRest, withBooks}
@@ -85,18 +86,46 @@ books-view f L =
       at 11 (omega arith),
     ) refl
 
+-- what stood, whatever stands as area 12: no book is compiled into it
+pub stood-beside : (others : ℕ → List ℕ) (books : List ℕ) {words : ℕ → List ℕ}
+    → ((i : ℕ) → i < partCount → isBookArea i ≡ true → Stood i (withBooks others books i) (words i))
+    → (i : ℕ) → i < partCount → isBookArea i ≡ true → Stood i (others i) (words i)
+stood-beside others books {words} h i g q = go (eqb i booksArea) refl (h i g q)
+  where
+    go : (t : Bool) → eqb i booksArea ≡ t → Stood i (cond t books (others i)) (words i) → Stood i (others i) (words i)
+    go true e s = absurd (let z : _≡_ {A = ℕ} 0 1 = ap (λ (b : Bool). cond b 0 1) (sym q ∙ ap isBookArea (eqb-true i booksArea e)) in omega arith)
+    go false e s = s
+
 -- between two books, after a routine that is lent area 12
 pub still-at-rest : {κ : Limits} {others : ℕ → List ℕ} {R : List ℕ → List ℕ → Type 0} {s : struct.Book} {a w w′ : List ℕ} {context : Context} {uses : List Use}
     → LentPart booksArea R a w w′ → AtRest κ others (bookLaid s a w) context uses → AtRest κ others (bookLaid s a w′) context uses
 still-at-rest {κ} {others} {R} {s} {a} {w} {w′} {context} {uses} L H =
     let f : Fits a (length w) = before .fits in
+    let N = before .preserves .nothing in
     record {
       represents = record {
         ready = record {
           fits = lent-fits (omega arith) f L;
-          preserves = record { same = λ j g q. go j g q (eqb j booksArea) refl };
+          preserves = record {
+            same = λ j g q. go j g q (eqb j booksArea) refl;
+            stood = λ j g q. stays j g q (eqb j booksArea) refl (before .preserves .stood j g q);
+            nothing = record { names = N .names; breaks = N .breaks; errors = N .errors; slots = N .slots };
+          };
+          behind = λ z.
+              let B = before .behind z in
+              record {
+                code = B .code;
+                constants = B .constants;
+                functions = B .functions;
+                models = B .models;
+                properties = B .properties;
+                methods = B .methods;
+                locals = B .locals;
+                publics = B .publics;
+              };
           keeping = subst (λ (v : BookAreas). RepresentsAreas κ [] v (opened nobody context uses)) (sym (books-view {s = openedBook s (bookCount context)} f L))
               (before .keeping);
+          standing = before .standing;
           slots = slots-same (lent-part (omega arith) f L 13 (omega arith))
               (ap (λ (k : List ℕ). poolOf (s .constants) k) (lent-part (omega arith) f L 2 (omega arith))) (before .slots);
         };
@@ -105,6 +134,13 @@ still-at-rest {κ} {others} {R} {s} {a} {w} {w′} {context} {uses} L H =
   where
     before : RepresentsBook κ [] (withBooks others (part a booksArea w)) (bookLaid (openedBook s (bookCount context)) a w) (opened nobody context uses)
     before = H .represents .ready
+
+    stays : (j : ℕ) → j < 14 → isBookArea j ≡ true → (t : Bool) → eqb j booksArea ≡ t → Stood j (cond t (part a booksArea w) (others j)) (part a j w)
+        → Stood j (cond t (part a booksArea w′) (others j)) (part a j w′)
+    stays j g q true e s =
+        absurd (let z : _≡_ {A = ℕ} 0 1 = ap (λ (b : Bool). cond b 0 1) (sym q ∙ ap isBookArea (eqb-true j booksArea e)) in omega arith)
+    stays j g q false e s =
+        subst (Stood j (others j)) (sym (lent-other (omega arith) (before .fits) L j g (λ n. eqb-false j booksArea e (sym n)))) s
 
     go : (j : ℕ) → j < 14 → isBookArea j ≡ false → (t : Bool) → eqb j booksArea ≡ t → part a j w′ ≡ cond t (part a booksArea w′) (others j)
     go j g q true e = ap (λ (n : ℕ). part a n w′) (eqb-true j booksArea e)

@@ -1,11 +1,11 @@
 -- A function of a book made to its end on one memory, and added to the book or dropped: one lemma for each way. By the laws of a function's begin and
 -- end, and by what a function leaves as it was. Assumes nothing.
-use Prim.Native.Nat.{ℕ, _+_, _<_}
+use Prim.Native.Nat.{ℕ, _+_, _*_, _≤_, _<_}
 use native.Mathlib.Omega.{arith}
 use mathlib.Core.Path.{_≡_, refl, sym, ap, subst, _∙_}
 use mathlib.Core.Bool.{Bool, true, false, cond, _||_}
 use mathlib.Core.Option.{Option}
-use mathlib.Core.List.{List}
+use mathlib.Core.List.{List, [], _∷_}
 use lib.ListN.{length}
 use lib.Seq.{length-sets}
 use lib.Dec.{eqb}
@@ -13,11 +13,15 @@ use borrow.Author.Tests.{eqb-true, eq-eqb, ne-eqb}
 use Rattle.memory.specs.Layout.{part}
 use Rattle.words.specs.Ast.{FunctionDefinition}
 use Rattle.words.specs.Areas.{entriesIn}
-use Rattle.words.specs.Object.{constantOf, functionKind}
+use Rattle.words.specs.Object.{Constant, constantOf, functionKind}
 use Rattle.words.specs.Record.{tokenAt}
 use Rattle.definition.specs.FunctionState.{newFunctionState}
 use Rattle.definition.specs.Uses.{Limits}
 use Rattle.definition.specs.Compiler.{withFunction}
+use Rattle.definition.specs.Prior.{Prior}
+use Rattle.definition.specs.Book.{Context, hasText}
+use Rattle.definition.specs.Program.{bit, constantEntry, entriesFrom}
+use Rattle.definition_laws.proofs.Cells.{single-length}
 use Rattle.definition.specs.Book.{Book, Placed, functionCount, withContext, withEntryPoint, pushBookError, addBookConstant, setLocalValue}
 use Rattle.definition.specs.Book.{working, compileBase, addFunction, addPlainFunction}
 use Rattle.definition_laws.proofs.Good.{function-moves}
@@ -43,54 +47,22 @@ use Rattle.compiler_laws.specs.AddingFunctions as adding
 use Rattle.compiler_laws.proofs.BookCounts.{entering}
 use Rattle.compiler_laws.proofs.FunctionStates.{codeSoFar, held-working, keeping-resumed}
 use Rattle.compiler_laws.proofs.BuiltFunctions.{base-longer, functions-count, built-back, built-between}
+use Rattle.undo.specs.Notes.{plainMarks, plainMethods}
+use Rattle.undo.specs.Stood.{Stood}
 use Rattle.book_compiler.specs.Represents.{Memory, laid, view, isBuilt, Represents, On}
 use Rattle.book_compiler.specs.Leaves.{OnCode, OnNames}
-use Rattle.book_compiler.specs.RepresentsBook.{BookMemory, bookLaid, areaOf, isBookArea, PreservesParts, RepresentsBook, OnArea}
+use Rattle.book_compiler.specs.RepresentsBook.{BookMemory, bookLaid, areaOf, isBookArea, BehindContext, PreservesParts, RepresentsBook}
+use Rattle.book_compiler.specs.RepresentsBook.{OnArea}
 use Rattle.book_compiler.specs.BookLeaves.{PushesBookError, AddsBookConstant, SetsLocalValue}
-use Rattle.book_compiler.specs.FunctionSteps.{CompilesBase, Built, MakesFunction, AddsBookFunction, DropsBookFunction, AddsPlainFunction}
+use Rattle.book_compiler.specs.FunctionSteps.{beside, CompilesBase, Built, MakesFunction, AddsBookFunction, DropsBookFunction, AddsPlainFunction}
 use Rattle.book_compiler.proofs.Parts.{on-other}
 use Rattle.book_compiler.proofs.ConstantCount.{end-function-count, drop-count}
+use Rattle.book_compiler.proofs.Stood.{stood-spared}
+use Rattle.book_compiler.proofs.StoodFunctions.{Onward, end-onward, SparesCode, drop-spares}
+use Rattle.book_compiler.proofs.StoodBooks.{behind-grown, code-behind, constants-behind, functions-behind}
+use Rattle.book_compiler.proofs.Laws.{nothing-spared, is-ordered}
 use Rattle.book_compiler.proofs.BookParts.{area-kept}
 use Rattle.book_compiler.proofs.BookLeaves.{error-pushed, constant-added, value-set}
-
--- a book's memory as that of its next function
-begins : {κ : Limits} {ps : List ℕ} {others : ℕ → List ℕ} {s : struct.Book} {a l : List ℕ} {x : Book} → RepresentsBook κ ps others (bookLaid s a l) x
-    → Represents κ (codeSoFar x) (areaOf (bookLaid s a l)) (laid (begun (s .full) (s .code) (s .constants) (s .errors)) a l) (working x)
-begins H = record { fits = H .fits; preserves = record { same = λ i h q. refl }; held = held-working (H .keeping); slots = H .slots }
-
--- `make`
-module _ {tree : List ℕ} {at end : ℕ} {s : struct.Book} {a l : List ℕ} {r : FunctionState}
-    (worked : r ≡ begun (s .full) (s .code) (s .constants) (s .errors)) where
-  pub make-full : (s .full ≡ 0 → ⊥) → MakesFunction tree at end (bookLaid s a l) (laid r a l)
-  make-full ne = record {
-    makes = λ kind f h q κ ps others x H.
-        let G = begins H in
-        record {
-          book = H;
-          function = rw worked (record {
-            fits = G .fits;
-            preserves = record { same = G .preserves .same };
-            held = held-longer {w′ = ended (baseOf f x)} (base-longer f x) ne (G .held);
-            slots = G .slots;
-          });
-        };
-  }
-
-  pub make-meets : s .full ≡ 0 → {r₁ r′ : FunctionState} {l₁ l′ : List ℕ}
-      → CompilesBase tree at end (s .«first_local») (s .locals) (laid r a l) (laid r₁ a l₁) → OnNames endFunctionC (laid r₁ a l₁) (laid r′ a l′)
-      → MakesFunction tree at end (bookLaid s a l) (laid r′ a l′)
-  make-meets z {r₁} {r′} {l₁} {l′} B ends = record {
-    makes = λ kind f h q κ ps others x H.
-        let G = begins H in
-        let A : Represents κ (codeSoFar x) (areaOf (bookLaid s a l)) (laid r a l) (withFunction newFunctionState (working x)) =
-        rw worked (record { fits = G .fits; preserves = record { same = G .preserves .same }; held = touch-law (G .held); slots = G .slots }) in
-        let M = B .meets kind f h q κ (codeSoFar x) (areaOf (bookLaid s a l)) (working x) (H .keeping .rest z .named) A in
-        record {
-          book = H;
-          function = on-other (omega arith) refl refl refl (ends .acts) M
-              (λ n e. ap (λ (g : Naming). g .state .constants) e ∙ end-function-count (naming r₁ (part a 9 l₁))) (λ n e. end-law (M .held) e);
-        };
-  }
 
 -- the parts that a function is built in are a book's
 not-built : (i : ℕ) → isBookArea i ≡ false → isBuilt i ≡ false
@@ -109,15 +81,89 @@ not-built i q = go (eqb i 1) refl (eqb i 2) refl (eqb i 9) refl (eqb i 10) refl 
     go false p false p₁ false p₂ false p₃ false p₄ true p₅ = but 13 p₅ refl
     go false p false p₁ false p₂ false p₃ false p₄ false p₅ = refl
 
+is-book : (i : ℕ) → isBuilt i ≡ true → isBookArea i ≡ true
+is-book i q = go (isBookArea i) refl
+  where
+    go : (t : Bool) → isBookArea i ≡ t → t ≡ true
+    go true e = refl
+    go false e = sym (not-built i e) ∙ q
+
+-- a book's memory as that of its next function
+begins : {κ : Limits} {ps : List ℕ} {others : ℕ → List ℕ} {s : struct.Book} {a l : List ℕ} {x : Book} → RepresentsBook κ ps others (bookLaid s a l) x
+    → Represents κ (codeSoFar x) (beside others (bookLaid s a l)) (laid (begun (s .full) (s .code) (s .constants) (s .errors)) a l) (working x)
+begins {others = others} {a = a} {l = l} H =
+    let P = H .preserves .nothing in
+    record {
+      fits = H .fits;
+      preserves = record {
+        same = λ i h q. ap (λ (t : Bool). cond t (others i) (part a i l)) (sym q);
+        stood = λ i h q.
+            subst (λ (t : Bool). Stood i (cond t (others i) (part a i l)) (part a i l)) (sym q) (H .preserves .stood i h (is-book i q));
+        nothing = record { names = P .names; breaks = P .breaks; errors = P .errors; slots = P .slots };
+        behind = λ z. record { code = code-behind H z; constants = constants-behind H z };
+      };
+      held = held-working (H .keeping);
+      slots = H .slots;
+    }
+
+-- `make`
+module _ {tree : List ℕ} {at end : ℕ} {s : struct.Book} {a l : List ℕ} {r : FunctionState}
+    (worked : r ≡ begun (s .full) (s .code) (s .constants) (s .errors)) where
+  pub make-full : (s .full ≡ 0 → ⊥) → MakesFunction tree at end (bookLaid s a l) (laid r a l)
+  make-full ne = record {
+    makes = λ kind f h q κ ps others x H.
+        let G = begins H in
+        record {
+          book = H;
+          function = rw worked (record {
+            fits = G .fits;
+            preserves = G .preserves;
+            held = held-longer {w′ = ended (baseOf f x)} (base-longer f x) ne (G .held);
+            slots = G .slots;
+          });
+        };
+  }
+
+  pub make-meets : s .full ≡ 0 → {r₁ r′ : FunctionState} {l₁ l′ : List ℕ}
+      → CompilesBase tree at end (s .«first_local») (s .locals) (laid r a l) (laid r₁ a l₁) → OnNames endFunctionC (laid r₁ a l₁) (laid r′ a l′)
+      → MakesFunction tree at end (bookLaid s a l) (laid r′ a l′)
+  make-meets z {r₁} {r′} {l₁} {l′} B ends = record {
+    makes = λ kind f h q κ ps others x H.
+        let G = begins H in
+        let A : Represents κ (codeSoFar x) (beside others (bookLaid s a l)) (laid r a l) (withFunction newFunctionState (working x)) =
+        rw worked (record { fits = G .fits; preserves = G .preserves; held = touch-law (G .held); slots = G .slots }) in
+        let M = B .meets kind f h q κ (codeSoFar x) (beside others (bookLaid s a l)) (working x) (H .keeping .rest z .named) A in
+        record {
+          book = H;
+          function = on-other (omega arith) refl refl refl (ends .acts) M
+              (λ n e. nothing-spared M (M .preserves .nothing .names) (subst (λ (y : Naming). Onward r₁ (y .state)) (sym e)
+              (end-onward (naming r₁ (part a 9 l₁)))))
+              (λ n e. ap (λ (g : Naming). g .state .constants) e ∙ end-function-count (naming r₁ (part a 9 l₁)))
+              (λ n e. end-law (M .held) e);
+        };
+  }
+
 module _ {κ : Limits} {ps : List ℕ} {others : ℕ → List ℕ} {s : struct.Book} {a l l′ : List ℕ} {r : FunctionState} {x : Book} {f : FunctionDefinition}
     (B : Built κ ps others (bookLaid s a l) x f (laid r a l′)) where
   -- the parts that no definition changes are as they were
   pub built-kept : {s′ : struct.Book} → PreservesParts others (bookLaid s′ a l′)
-  built-kept = record { same = λ i h q. B .function .preserves .same i h (not-built i q) ∙ B .book .preserves .same i h q }
+  built-kept = record {
+    same = λ i h q. let n = not-built i q in unbuilt i h n ∙ B .book .preserves .same i h q;
+    stood = λ i h q. go i h q (isBuilt i) refl;
+    nothing = B .book .preserves .nothing;
+  }
+    where
+      unbuilt : (i : ℕ) → i < 14 → isBuilt i ≡ false → part a i l′ ≡ part a i l
+      unbuilt i h n = B .function .preserves .same i h n ∙ ap (λ (t : Bool). cond t (others i) (part a i l)) n
+
+      go : (i : ℕ) → i < 14 → isBookArea i ≡ true → (t : Bool) → isBuilt i ≡ t → Stood i (others i) (part a i l′)
+      go i h q true e = subst (λ (t : Bool). Stood i (cond t (others i) (part a i l)) (part a i l′)) e (B .function .preserves .stood i h e)
+      go i h q false e = subst (Stood i (others i)) (sym (unbuilt i h e)) (B .book .preserves .stood i h q)
 
   -- as counts and areas
   pub built-parts : adding.Built κ ps
-      (bookAreas s (part a 1 l) (part a 2 l) (part a 3 l′) (part a 4 l′) (part a 5 l′) (part a 6 l′) (part a 7 l′) (part a 8 l′) (part a 9 l) (part a 10 l)
+      (bookAreas s (part a 1 l) (plainMarks (part a 2 l)) (part a 3 l′) (part a 4 l′) (part a 5 l′) (plainMethods (s .«standing_methods») (part a 6 l′))
+      (part a 7 l′) (part a 8 l′) (part a 9 l) (part a 10 l)
       (part a 11 l)) x f (view (laid r a l′))
   built-parts =
       let p = B .function .preserves in
@@ -136,13 +182,38 @@ module _ {κ : Limits} {ps : List ℕ} {others : ℕ → List ℕ} {s : struct.B
   pub built-live : r .full ≡ 0 → s .full ≡ 0
   built-live = built-back built-parts
 
+  -- what stood stays behind, with the function's constants
+  pub built-behind : r .full ≡ 0 → {c : Context} → c .prior ≡ x .context .prior → c .pool .constants ≡ baseOf f x .context .constants
+      → c .program .methods ≡ x .context .program .methods → BehindContext others c
+  built-behind z {c} prior constants methods =
+      let C = B .book .behind (built-live z) in
+      let k = baseOf f x .context in
+      let n : length (others 2) ≤ r .constants * 3 = B .function .preserves .behind z .constants in
+      let many : length (entriesFrom (constantEntry (k .globals)) 0 (k .constants)) ≡ length (k .constants) =
+      single-length (λ (i : ℕ) (y : Constant). y .kind ∷ y .value ∷ bit (hasText i (k .globals)) ∷ []) 0 (k .constants) in
+      let count : r .constants ≡ length (entriesFrom (constantEntry (k .globals)) 0 (k .constants)) = B .function .held .rest z .constants .count in
+      record {
+        code = subst (λ (y : Prior). length (others 1) ≤ length (y .code) * 2) (sym prior) (C .code);
+        constants = rw constants (omega (arith, n, many, count));
+        functions = subst (λ (y : Prior). length (others 3) ≤ length (y .functions) * 8) (sym prior) (C .functions);
+        models = subst (λ (y : Prior). length (others 4) ≤ length (y .models) * 2) (sym prior) (C .models);
+        properties = subst (λ (y : Prior). length (others 5) ≤ length (y .properties) * 2) (sym prior) (C .properties);
+        methods = rw methods (C .methods);
+        locals = subst (λ (y : Prior). length (others 7) ≤ length (y .locals) * 4) (sym prior) (C .locals);
+        publics = subst (λ (y : Prior). length (others 8) ≤ length (y .publics) * 3) (sym prior) (C .publics);
+      }
+
   -- `add_function`
   pub added-represents : {name : ℕ} {s₁ : struct.Book} {l″ : List ℕ} → Bounded f → AddsBookFunction name r (bookLaid s a l′) (bookLaid s₁ a l″)
       → RepresentsBook κ ps others (bookLaid s₁ a l″) (addFunction (compileBase f x .state) name (compileBase f x .book))
-  added-represents bounded d =
-      area-kept (omega arith) refl (B .function .fits) built-kept (B .function .slots) (d .acts) (λ g F. F .1) (λ g F.
-      F .0 .adds f bounded (part a 1 l) (part a 2 l) (part a 9 l) (part a 10 l) (part a 11 l) (part a 1 l′) (part a 2 l′) (part a 9 l′) (part a 10 l′)
-      (part a 11 l′) (part a 4 l′) (part a 5 l′) (part a 6 l′) (part a 7 l′) (part a 8 l′) κ ps x built-parts)
+  unfolding compileBase
+  added-represents {s₁ = s₁} bounded d =
+      area-kept (omega arith) refl (B .function .fits) (built-kept {s′ = s}) (B .function .slots) (d .acts)
+      (λ g F. stood-spared (built-kept {s′ = s} .stood 3 (omega arith) refl) (λ z. functions-behind (B .book) (built-live z)) (F .0 .1 .words))
+      (λ z. built-behind (d .acts .on (B .function .fits) .does .0 .1 .full z) refl refl refl) (B .book .standing) (λ g F. F .1) (λ g F.
+      F .0 .0 .adds f bounded (part a 1 l) (plainMarks (part a 2 l)) (part a 9 l) (part a 10 l) (part a 11 l) (part a 1 l′) (plainMarks (part a 2 l′))
+      (part a 9 l′) (part a 10 l′) (part a 11 l′) (part a 4 l′) (part a 5 l′) (plainMethods (s .«standing_methods») (part a 6 l′))
+      (part a 7 l′) (part a 8 l′) κ ps x built-parts)
 
 -- `drop_instance`
 
@@ -196,11 +267,15 @@ on-area o = record { same = o .same; on = o .on }
 pub drop-meets : {tree : List ℕ} {at : ℕ} {s s₁ : struct.Book} {r r₁ : FunctionState} {a l l₁ : List ℕ} {m′ : BookMemory}
     → OnCode dropC (laid r a l) (laid r₁ a l₁) → s₁ ≡ resumedBook s r₁ → PushesBookError 8 (tokenAt tree at) (bookLaid s₁ a l₁) m′
     → DropsBookFunction tree at r (bookLaid s a l) m′
+unfolding compileBase
 drop-meets {tree} {at} {s} {s₁} {r} {r₁} {a} {l} {l₁} {m′} d back F = record {
   drops = λ f l₀ κ ps others x B.
       let K : RepresentsBook κ ps others (bookLaid (resumedBook s r₁) a l₁) (compileBase f x .book) =
       area-kept (omega arith) refl (B .function .fits) (built-kept B {s′ = s}) (B .function .slots) (on-area {s = s} {s′ = resumedBook s r₁} (d .acts))
-      (λ c q. ap (λ (y : Coded). y .state .constants) q ∙ drop-count (coded r (part a 1 l))) (λ c q.
+      (λ c q. stood-spared (built-kept B {s′ = s} .stood 1 (omega arith) refl) (λ z. B .function .preserves .behind z .code)
+      (subst (SparesCode (coded r (part a 1 l))) (sym q) (drop-spares (coded r (part a 1 l)) (is-ordered (B .function))) .words))
+      (λ z. built-behind B (sym (ap (λ (y : Coded). y .state .full) (d .acts .on (B .function .fits) .does) ∙ dropped r (part a 1 l) .full) ∙ z)
+      refl refl refl) (B .book .standing) (λ c q. (ap (λ (y : Coded). y .state .constants) q ∙ drop-count (coded r (part a 1 l)), refl)) (λ c q.
       drop-keeping (built-parts B) q) in
       error-pushed F .meets κ ps others (compileBase f x .book) (rw back K);
 }
@@ -288,8 +363,14 @@ module _ {name : ℕ} {found : Found} {s s₁ s₂ : struct.Book} {r : FunctionS
         (let y = setLocalValue o (constant .place) (constant .book) in withContext (withEntryPoint (functionCount (x .context)) (y .context)) y)
     plain-entry = record {
       fits = plain-represents .fits;
-      preserves = record { same = plain-represents .preserves .same };
+      preserves = record {
+        same = plain-represents .preserves .same;
+        stood = plain-represents .preserves .stood;
+        nothing = plain-represents .preserves .nothing;
+      };
+      behind = λ y. behind-grown refl (omega arith) (omega arith) (plain-represents .behind y);
       keeping = keeping-entry (functionCount (x .context)) (plain-represents .keeping);
+      standing = plain-represents .standing;
       slots = plain-represents .slots;
     }
 

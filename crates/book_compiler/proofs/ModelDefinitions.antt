@@ -1,5 +1,5 @@
 -- One lemma for each way through the routines of a model definition: what its calls ensure is the definition's. Assumes nothing.
-use Prim.Native.Nat.{ℕ, suc, _+_, _≤_, _<_}
+use Prim.Native.Nat.{ℕ, suc, _+_, _*_, _≤_, _<_}
 use native.Mathlib.Omega.{arith}
 use mathlib.Core.Path.{_≡_, refl, sym, ap, subst, _∙_}
 use mathlib.Core.Bool.{Bool, true, false, cond}
@@ -34,9 +34,12 @@ use Rattle.compiler_laws.proofs.UnchangedByModels.{unchanged-property, unchange
 use Rattle.compiler_laws.proofs.BookLeaves.{defined-added}
 use Rattle.compiler_laws.proofs.AreaEntries.{keeping-grown, contents-models, fitted-models}
 use Rattle.compiler_laws.proofs.AddedProperties.{models-count, property-full, property-there, property-new}
-use Rattle.book_compiler.specs.RepresentsBook.{BookMemory, areaOf, bookView, RepresentsBook, OnArea}
+use Rattle.book_compiler.specs.RepresentsBook.{BookMemory, areaOf, saidBy, bookView, RepresentsBook, OnArea}
 use Rattle.book_compiler.specs.BookLeaves.{PushesBookError, AddsBookConstant, DefinesContextLocal, SetsLocalValue, FindsProperty}
 use Rattle.book_compiler.specs.DefinitionSteps.{TakesProperty, TakesModel, AddsModelProperty, AddsModelProperties, AddsModel, CompilesModelDefinition}
+use Rattle.undo.specs.Stood.{Spares}
+use Rattle.book_compiler.proofs.Stood.{stood-nothing, stood-spared, took-spares}
+use Rattle.book_compiler.proofs.StoodBooks.{models-behind, properties-behind, property-grows, model-grows}
 use Rattle.book_compiler.proofs.BookParts.{area-law, area-map, represents-longer, represents-unfilled}
 use Rattle.book_compiler.proofs.BookLeaves.{constant-added, local-defined, value-set}
 
@@ -49,20 +52,23 @@ module _ {tree : List ℕ} {at first : ℕ} {m : BookMemory} where
     pub property-again : {i : ℕ} → g ≡ At i → PushesBookError 6 (tokenAt tree at) m m′ → AddsModelProperty tree at first m m′
     property-again at-i E = record {
       meets = λ κ ps others w start H.
-          area-law (omega arith) refl (E .constants)
+          area-law (omega arith) refl (E .counts)
           (area-map {R′ = λ e e′. area.AddsProperty tree at first (m .book) (areaOf m propertiesArea) e (m′ .book) (areaOf m propertiesArea) e′}
           (λ f x r. property-there z value (searched .reads .on f) at-i r) (E .acts)) H
-          (λ x r. r .meets (areaOf m codeArea) (areaOf m constantsArea) (areaOf m functionsArea) (areaOf m modelsArea) (areaOf m methodsArea)
+          (λ x r. stood-nothing x (H .preserves .nothing .errors)) (property-grows (tokenAt tree at) ps w)
+          (λ x r. r .meets (areaOf m codeArea) (saidBy m constantsArea) (areaOf m functionsArea) (areaOf m modelsArea) (saidBy m methodsArea)
           (areaOf m contextLocalsArea) (areaOf m publicNamesArea) (areaOf m scopeNamesArea) (areaOf m breaksArea) κ ps w start (H .keeping));
     }
 
     pub property-more : g ≡ Nothing → TakesProperty name m m′ → AddsModelProperty tree at first m m′
     property-more lost T = record {
       meets = λ κ ps others w start H.
-          area-law (omega arith) refl (T .constants)
-          (area-map {R′ = λ p p′. area.AddsProperty tree at first (m .book) p (areaOf m errorsArea) (m′ .book) p′ (areaOf m errorsArea)}
-          (λ f x r. rw (r .counts) (property-new z value (searched .reads .on f) lost (r .took))) (T .acts)) H
-          (λ x r. r .meets (areaOf m codeArea) (areaOf m constantsArea) (areaOf m functionsArea) (areaOf m modelsArea) (areaOf m methodsArea)
+          area-law (omega arith) refl (T .counts)
+          (area-map {R′ = λ p p′. area.AddsProperty tree at first (m .book) p (areaOf m errorsArea) (m′ .book) p′ (areaOf m errorsArea)
+          × Spares propertiesArea (m .book .full) (m .book .properties * 2) p p′}
+          (λ f x r. (rw (r .counts) (property-new z value (searched .reads .on f) lost (r .took)), took-spares (r .took))) (T .acts)) H
+          (λ x r. stood-spared (H .preserves .stood propertiesArea (omega arith) refl) (properties-behind H) (r .1)) (property-grows (tokenAt tree at) ps w)
+          (λ x r. r .0 .meets (areaOf m codeArea) (saidBy m constantsArea) (areaOf m functionsArea) (areaOf m modelsArea) (saidBy m methodsArea)
           (areaOf m contextLocalsArea) (areaOf m publicNamesArea) (areaOf m scopeNamesArea) (areaOf m breaksArea) κ ps w start (H .keeping));
     }
 
@@ -157,7 +163,10 @@ entry-taken {s} {m = m} {ps = ps} {w = w} name {r} z T H =
 
 model-taken : {κ : Limits} {ps : List ℕ} {others : ℕ → List ℕ} {m m₁ : BookMemory} {w : Book} (name : ℕ) → m .book .full ≡ 0 → TakesModel name m m₁
     → RepresentsBook κ ps others m w → RepresentsBook κ [] others m₁ (addModel ps name w)
-model-taken name z T H = area-law (omega arith) refl (T .constants) (T .acts) H (λ x r. rw (r .counts) (entry-taken name z (r .took) (H .keeping)))
+model-taken {ps = ps} {w = w} name z T H =
+    area-law (omega arith) refl (T .counts) (T .acts) H
+    (λ x r. stood-spared (H .preserves .stood modelsArea (omega arith) refl) (models-behind H) (took-spares (r .took))) (model-grows ps name w)
+    (λ x r. rw (r .counts) (entry-taken name z (r .took) (H .keeping)))
 
 -- its constant
 abbrev modelConstant : List ℕ → ℕ → Book → Placed

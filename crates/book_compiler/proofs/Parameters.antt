@@ -36,9 +36,9 @@ use Rattle.book_compiler.specs.Represents.{Memory, laid, view, Represent
 use Rattle.book_compiler.specs.Leaves.{OnCode, DefinesLocal, PushesError, LastPosition}
 use Rattle.book_compiler.specs.Members.{token, CompilesStatements}
 use Rattle.book_compiler.specs.FunctionSteps.{CompilesParameter, CompilesParameters, CompilesBase}
-use Rattle.book_compiler.proofs.Parts.{slots-count}
 use Rattle.book_compiler.proofs.ConstantCount.{parameters-count}
-use Rattle.book_compiler.proofs.Laws.{defined, defined-found, pushed, returned, last-is}
+use Rattle.book_compiler.proofs.StoodFunctions.{Onward, onward-unless}
+use Rattle.book_compiler.proofs.Laws.{alone, defined, defined-found, pushed, returned, last-is}
 
 -- the mark stays
 parameters-mark : (i : Bool) (p : ℕ) (s : FunctionState) → parametersC i p s .full ≡ s .full
@@ -47,6 +47,10 @@ parameters-mark i p s = go (eqb (s .full) 0)
     go : (t : Bool) → cond t (withParameters i p s) s .full ≡ s .full
     go true = refl
     go false = refl
+
+parameters-onward : (i : Bool) (p : ℕ) (s : FunctionState) {s′ : FunctionState} → s′ ≡ parametersC i p s → Onward s s′
+parameters-onward i p s q =
+    subst (Onward s) (sym q) (onward-unless s (withParameters i p s) (record { full = λ z. z; base = refl; constants = omega arith }))
 
 -- a parameter's kind says whether the function is an instance's
 abbrev flagged : Token → Work → Work
@@ -75,15 +79,12 @@ module _ {tree : List ℕ} {at : ℕ} {s : FunctionState} {a l : List ℕ} where
       same-name = name-is ∙ sym (ap (λ (u : Token). u .value) (leaf .token))
 
       flagged-held : Represents κ E others (laid s₁ a l) (flagged t w)
-      flagged-held = record {
-        fits = H .fits;
-        preserves = record { same = H .preserves .same };
-        held = subst (λ (x : FunctionState). RepresentsMachine κ E (view (laid x a l)) (flagged t w)) (sym s₁-is)
-            (parameters-law (H .held) instance (cond (eqb (t .kind) 41) true (w .function .header .isInstance)) (s .«parameter_count»)
-            (w .function .header .parameterCount)
-            (λ z. instance-is ∙ rw (same-kind, H .held .rest z .is-instance)) (λ z. H .held .rest z .parameters));
-        slots = slots-count (ap (λ (x : FunctionState). x .constants) s₁-is ∙ parameters-count s instance (s .«parameter_count»)) (H .slots);
-      }
+      flagged-held = alone H (parameters-onward instance (s .«parameter_count») s s₁-is)
+          (ap (λ (x : FunctionState). x .constants) s₁-is ∙ parameters-count s instance (s .«parameter_count»))
+          (subst (λ (x : FunctionState). RepresentsMachine κ E (view (laid x a l)) (flagged t w)) (sym s₁-is)
+          (parameters-law (H .held) instance (cond (eqb (t .kind) 41) true (w .function .header .isInstance)) (s .«parameter_count»)
+          (w .function .header .parameterCount)
+          (λ z. instance-is ∙ rw (same-kind, H .held .rest z .is-instance)) (λ z. H .held .rest z .parameters)))
 
       live₁ : s₁ .full ≡ 0
       live₁ = ap (λ (x : FunctionState). x .full) s₁-is ∙ parameters-mark instance (s .«parameter_count») s ∙ live
@@ -174,14 +175,11 @@ module _ {tree : List ℕ} {at end start count : ℕ} where
         let H₁ = Q .meets ts (h .parameters) (sym ends) κ E others w₀ refl H in
         let w₂ = doing (λ f. method.withParameters (f .header .isInstance) (length ts) f) w₁ in
         let H₂ : Represents κ E others (laid s₂ a l₁) w₂ =
-        record {
-          fits = H₁ .fits;
-          preserves = record { same = H₁ .preserves .same };
-          held = subst (λ (x : FunctionState). RepresentsMachine κ E (view (laid x a l₁)) w₂) (sym s₂-is)
-              (parameters-law (H₁ .held) (s₁ .«is_instance») (w₁ .function .header .isInstance) parameters (length ts)
-              (λ z. H₁ .held .rest z .is-instance) (λ z. omega arith));
-          slots = slots-count (ap (λ (x : FunctionState). x .constants) s₂-is ∙ parameters-count s₁ (s₁ .«is_instance») parameters) (H₁ .slots);
-        } in
+        alone H₁ (parameters-onward (s₁ .«is_instance») parameters s₁ s₂-is)
+        (ap (λ (x : FunctionState). x .constants) s₂-is ∙ parameters-count s₁ (s₁ .«is_instance») parameters)
+        (subst (λ (x : FunctionState). RepresentsMachine κ E (view (laid x a l₁)) w₂) (sym s₂-is)
+        (parameters-law (H₁ .held) (s₁ .«is_instance») (w₁ .function .header .isInstance) parameters (length ts)
+        (λ z. H₁ .held .rest z .is-instance) (λ z. omega arith))) in
         let S = preserves-parameters ts w₀ in
         let I : Inside start count (others contextLocalsArea) w₂ = record { is-open = stay-open ts w₀ refl; named = same-locals (S .locals) L } in
         let H₃ = M .meets (f .body) (rw (← ends) at (h .body)) (omega arith) .meets κ E others w₂ I H₂ in

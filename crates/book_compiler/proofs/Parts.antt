@@ -17,17 +17,20 @@ use Rattle.definition.specs.Compiler.{Work}
 use Rattle.definition.specs.Program.{Entries}
 use Rattle.building.specs.declared.function_state.FunctionState.{FunctionState}
 use Rattle.building.specs.RepresentsMachine.{Machine, machine, RepresentsMachine}
-use Rattle.book_compiler.specs.Represents.{Memory, laid, partOf, view, isBuilt, Preserves, SlotsFilled, Represents, Replaced, On}
+use Rattle.undo.specs.Notes.{plainMarks}
+use Rattle.undo.specs.Stood.{Stood}
+use Rattle.book_compiler.specs.Represents.{Memory, laid, partOf, view, isBuilt, Behind, Preserves, SlotsFilled, Represents, Replaced, On}
 use Rattle.book_compiler.specs.Leaves.{Reads}
+use Rattle.book_compiler.proofs.Stood.{stood-put}
 
--- the machine with another state and another area i
-abbrev pub withArea : ℕ → FunctionState → List ℕ → Machine → Machine
+-- the machine that a memory is with another state and another part i
+abbrev pub withArea : ℕ → FunctionState → List ℕ → Memory → Machine
 withArea i s x m =
-    machine s (cond (eqb i 1) x (m .code)) (cond (eqb i 2) x (m .constants)) (cond (eqb i 9) x (m .names)) (cond (eqb i 10) x (m .breaks))
-    (cond (eqb i 11) x (m .errors))
+    machine s (cond (eqb i 1) x (partOf m 1)) (plainMarks (cond (eqb i 2) x (partOf m 2))) (cond (eqb i 9) x (partOf m 9))
+    (cond (eqb i 10) x (partOf m 10)) (cond (eqb i 11) x (partOf m 11))
 
 put-view : (a w x : List ℕ) (s s′ : FunctionState) (f : Fits a (length w)) (i : ℕ) → i < 14 → length x ≡ length (part a i w)
-    → view (laid s′ a (withPart a i x w)) ≡ withArea i s′ x (view (laid s a w))
+    → view (laid s′ a (withPart a i x w)) ≡ withArea i s′ x (laid s a w)
 put-view a w x s s′ f i h l =
     rw (
       put-part a w x f i h l 1 (omega arith),
@@ -68,12 +71,18 @@ slots-same {n} {n′} {a} {a′} {l} {l′} t q S = record {
 pub slots-count : {n n′ : ℕ} {a l : List ℕ} → n′ ≡ n → SlotsFilled n a l → SlotsFilled n′ a l
 slots-count {a = a} {l = l} q S = subst (λ (k : ℕ). SlotsFilled k a l) (sym q) S
 
+-- part i with other words, beside a state: what stood is in place
+pub record Spared (others : ℕ → List ℕ) (i : ℕ) (s : FunctionState) (x : List ℕ) : Type 0 where
+  pub stood : Stood i (others i) x
+  pub behind : s .full ≡ 0 → Behind others s
+
 -- a routine on one part, not the slots: what it does to the machine; and of the constants it leaves kinds and values as they were
 pub on-law : {κ : Limits} {E : Entries} {others : ℕ → List ℕ} {i : ℕ} {R : List ℕ → List ℕ → Type 0} {m m′ : Memory} {w w′ : Work}
     → i < 14 → isBuilt i ≡ true → eqb i 13 ≡ false → On i R m m′ → Represents κ E others m w
+    → ((x : List ℕ) → R (partOf m i) x → Spared others i (m′ .state) x)
     → ((x : List ℕ) → R (partOf m i) x → poolOf (m′ .state .constants) (cond (eqb i 2) x (partOf m 2)) ≡ poolOf (m .state .constants) (partOf m 2))
-    → ((x : List ℕ) → R (partOf m i) x → RepresentsMachine κ E (withArea i (m′ .state) x (view m)) w′) → Represents κ E others m′ w′
-on-law {κ} {E} {others} {i} {R} {m} {m′} {w} {w′} lt built not-slots o H pool law =
+    → ((x : List ℕ) → R (partOf m i) x → RepresentsMachine κ E (withArea i (m′ .state) x m) w′) → Represents κ E others m′ w′
+on-law {κ} {E} {others} {i} {R} {m} {m′} {w} {w′} lt built not-slots o H spared pool law =
     let p = o .on (H .fits) in
     let a = m .starts in
     let here : RepresentsMachine κ E (view (laid (m′ .state) a (m′ .words))) w′ =
@@ -84,6 +93,11 @@ on-law {κ} {E} {others} {i} {R} {m} {m′} {w} {w′} lt built not-slots o H po
       same = λ j g q.
           ap (part a j) (p .is) ∙ put-part a (m .words) (p .words) (H .fits) i lt (p .long) j g
           ∙ ap (λ (t : Bool). cond t (p .words) (partOf m j)) (apart i j built q) ∙ H .preserves .same j g q;
+      stood = λ j g q.
+          subst (Stood j (others j)) (sym (ap (part a j) (p .is) ∙ put-part a (m .words) (p .words) (H .fits) i lt (p .long) j g))
+          (stood-put others i j (eqb i j) refl (spared (p .words) (p .does) .stood) (H .preserves .stood j g q));
+      nothing = H .preserves .nothing;
+      behind = spared (p .words) (p .does) .behind;
     } in
     let slots : SlotsFilled (m′ .state .constants) a (m′ .words) =
     slots-same
@@ -101,9 +115,9 @@ on-law {κ} {E} {others} {i} {R} {m} {m′} {w} {w′} lt built not-slots o H po
 -- a routine on a part without constants: it keeps their count
 pub on-other : {κ : Limits} {E : Entries} {others : ℕ → List ℕ} {i : ℕ} {R : List ℕ → List ℕ → Type 0} {m m′ : Memory} {w w′ : Work}
     → i < 14 → isBuilt i ≡ true → eqb i 13 ≡ false → eqb i 2 ≡ false → On i R m m′ → Represents κ E others m w
-    → ((x : List ℕ) → R (partOf m i) x → m′ .state .constants ≡ m .state .constants)
-    → ((x : List ℕ) → R (partOf m i) x → RepresentsMachine κ E (withArea i (m′ .state) x (view m)) w′) → Represents κ E others m′ w′
-on-other {m = m} {m′ = m′} lt built not-slots not-constants o H count law = on-law lt built not-slots o H
+    → ((x : List ℕ) → R (partOf m i) x → Spared others i (m′ .state) x) → ((x : List ℕ) → R (partOf m i) x → m′ .state .constants ≡ m .state .constants)
+    → ((x : List ℕ) → R (partOf m i) x → RepresentsMachine κ E (withArea i (m′ .state) x m) w′) → Represents κ E others m′ w′
+on-other {m = m} {m′ = m′} lt built not-slots not-constants o H spared count law = on-law lt built not-slots o H spared
     (λ x r. ap (λ (t : Bool). poolOf (m′ .state .constants) (cond t x (partOf m 2))) not-constants ∙ ap (λ (n : ℕ). poolOf n (partOf m 2)) (count x r)) law
 
 -- what a routine that was lent part i does to it, once the memory has its layout

@@ -24,6 +24,7 @@ use Rattle.building.specs.Found as building
 use Rattle.building.specs.Taking.{taken}
 use Rattle.building.specs.Pool.{addNoCheckC, markGlobalC}
 use Rattle.building.proofs.Filling.{room-fits}
+use Rattle.book_compiler.specs.Leaves.{markUnmarkedC}
 
 -- the plain search of `constant_slots` is that of `building`
 first-same : (test : ℕ → Bool) (k i : ℕ) → plain.firstFrom test k i ≡ building.firstFrom test k i
@@ -134,14 +135,15 @@ module _ (kind value : ℕ) (s : FunctionState) (w : List ℕ) where
 mark-apart : (i j k : ℕ) → k < 2 → j * 3 + k ≢ i * 3 + 2
 mark-apart i j k h e = omega arith
 
-pub pool-marked : (n i : ℕ) (s : FunctionState) (w : List ℕ) → poolOf n (markGlobalC i s w) ≡ poolOf n w
-unfolding markGlobalC
-pool-marked n i s w = go (eqb (s .full) 0) (ltb i (s .constants)) (wordFits 3 i 2 (length w))
+pub pool-marked : (n i : ℕ) (s : FunctionState) (w : List ℕ) → poolOf n (markUnmarkedC i s w) ≡ poolOf n w
+unfolding markGlobalC entryField
+pool-marked n i s w = go (eqb (entryField 3 i 2 w) 0) (eqb (s .full) 0) (ltb i (s .constants)) (wordFits 3 i 2 (length w))
   where
-    go : (a b c : Bool) → poolOf n (cond a (cond b (cond c (set w (i * 3 + 2) 1) w) w) w) ≡ poolOf n w
-    go true true true = pool-alike n 0 w (set w (i * 3 + 2) 1) (λ j h. constant-alike w (set w (i * 3 + 2) 1) j
+    go : (u a b c : Bool) → poolOf n (cond u (cond a (cond b (cond c (set w (i * 3 + 2) 1) w) w) w) w) ≡ poolOf n w
+    go false a b c = refl
+    go true true true true = pool-alike n 0 w (set w (i * 3 + 2) 1) (λ j h. constant-alike w (set w (i * 3 + 2) 1) j
         (getD-set-other w (i * 3 + 2) (j * 3 + 0) 1 0 (mark-apart i j 0 (omega arith)))
         (getD-set-other w (i * 3 + 2) (j * 3 + 1) 1 0 (mark-apart i j 1 (omega arith))))
-    go true true false = refl
-    go true false c = refl
-    go false b c = refl
+    go true true true false = refl
+    go true true false c = refl
+    go true false b c = refl

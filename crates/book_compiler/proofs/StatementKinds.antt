@@ -31,7 +31,8 @@ use Rattle.building.specs.declared.scopes.Found.{Found}
 use Rattle.building.specs.declared.scopes.Found.the-variants.{At, Nothing}
 use Rattle.building.specs.State.{mostDepth}
 use Rattle.building.specs.Found.{foundOf, wrapped}
-use Rattle.building.specs.Emission.{emitC, removePopC, emitLastC, emitNullC, emitReturnC, deeperC, depthC, rescueC}
+use Rattle.building.specs.State.{withRescue}
+use Rattle.building.specs.Emission.{nextC, emitC, removePopC, emitLastC, emitNullC, emitReturnC, deeperC, depthC, rescueC}
 use Rattle.building.specs.Scopes.{enterScopeC, exitScopeC, defineC}
 use Rattle.building.proofs.StateLaws.{put-rescue}
 use Rattle.compiler_laws.specs.InsideFunction.{Inside, skipC}
@@ -45,9 +46,9 @@ use Rattle.book_compiler.specs.Leaves.{OnCode, OnNames, DefinesLocal, Pu
 use Rattle.book_compiler.specs.Members.{token, CompilesExpression, CompilesStatement, CompilesStatements, CompilesBlock, CompilesForStatement}
 use Rattle.book_compiler.specs.Members.{CompilesVariable, CompilesVariables}
 use Rattle.book_compiler.proofs.Steps.{back, acts-does, does-then, full-does, full-acts, either}
-use Rattle.book_compiler.proofs.Parts.{slots-count}
 use Rattle.book_compiler.proofs.ConstantCount.{rescue-count}
-use Rattle.book_compiler.proofs.Laws.{last-emitted, null-emitted, removed, returned, left, pushed, entered, deepened, at-depth}
+use Rattle.book_compiler.proofs.StoodFunctions.{onward-unless}
+use Rattle.book_compiler.proofs.Laws.{alone, last-emitted, null-emitted, removed, returned, left, pushed, entered, deepened, at-depth}
 
 -- the loop over statements
 module _ {tree : List ℕ} {at end start count : ℕ} where
@@ -232,10 +233,6 @@ rescue-here position kind value {s₁ = s₁} z l d q = record {
   meets = λ κ E others w H.
       let G = returned position position d (λ y. refl) H in
       rw (q, le-ltb 1 (w .function .depth) (omega (arith, l, H .held .rest z .depth)))
-      (record {
-        fits = G .fits;
-        preserves = record { same = G .preserves .same };
-        held = put-rescue (G .held);
-        slots = slots-count (rescue-count s₁) (G .slots);
-      });
+      (alone G (onward-unless s₁ (withRescue (nextC s₁) s₁) (record { full = λ y. y; base = refl; constants = omega arith })) (rescue-count s₁)
+      (put-rescue (G .held)));
 }

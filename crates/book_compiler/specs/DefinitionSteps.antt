@@ -1,6 +1,6 @@
 -- What the routines of a book's definitions promise over one memory: whatever book it stands for before, it stands for the definition's after
 -- Private contracts alone cite this file: whoever reads the promises need not believe it
-use Prim.Native.Nat.{ℕ, _+_, _≤_}
+use Prim.Native.Nat.{ℕ, _+_, _^_, _<_, _≤_}
 use mathlib.Core.Path.{_≡_}
 use mathlib.Core.Option.{Option, some}
 use mathlib.Core.List.{List, [], _∷_}
@@ -27,7 +27,7 @@ use Rattle.compiler_laws.specs.ImplementSteps.{implementing, implementingAll, n
 use Rattle.compiler_laws.specs.ModelSteps.{placeModel}
 use Rattle.compiler_laws.proofs.BookCounts.{withModelCount, withPropertyCount}
 use Rattle.book_compiler.specs.RepresentsBook.{BookMemory, RepresentsBook, OnArea, SimulatesBook, SimulatesPlaced, SimulatesSought}
-use Rattle.book_compiler.specs.BookLeaves.{SameConstantCount}
+use Rattle.book_compiler.specs.BookLeaves.{SameCounts}
 
 -- of a context local that was found: it is the definition's, where nothing is full
 pub record SimulatesLocated (found : Found) (m m′ : BookMemory) (step : Option ℕ → BookStep) : Type 0 where
@@ -79,11 +79,11 @@ pub record TookModel (name : ℕ) (s : struct.Book) (t : List ℕ) (s′ : struc
   pub counts : s′ ≡ withModelCount taken s
 
 pub record TakesProperty (name : ℕ) (m m′ : BookMemory) : Type 0 where
-  pub constants : SameConstantCount m m′
+  pub counts : SameCounts (m .book) (m′ .book)
   pub acts : OnArea propertiesArea (λ p p′. TookProperty name (m .book) p (m′ .book) p′) m m′
 
 pub record TakesModel (name : ℕ) (m m′ : BookMemory) : Type 0 where
-  pub constants : SameConstantCount m m′
+  pub counts : SameCounts (m .book) (m′ .book)
   pub acts : OnArea modelsArea (λ t t′. TookModel name (m .book) t (m′ .book) t′) m m′
 
 -- `add_property`; the properties of the model that is not there yet start at entry `first`
@@ -140,7 +140,7 @@ pub record ImplementsFunctions (tree : List ℕ) (at end : ℕ) (m m′ : BookMe
 -- the methods of a model: of functions with numbers from `first` on, below `most`
 pub record ImplementsMethods (tree : List ℕ) (at end model first most : ℕ) (m m′ : BookMemory) : Type 0 where
   pub simulates : (fs : List FunctionDefinition) → RunAt (FunctionAt 14) sizeF fs tree at → at + runSize sizeF fs ≡ end → first + length fs ≤ most
-      → SimulatesBook m m′ (addMethods (some model) (numbered first fs))
+      → most < 2 ^ 56 → SimulatesBook m m′ (addMethods (some model) (numbered first fs))
 
 -- `compile_implement_definition`, of the one at a place
 pub record CompilesImplementDefinition (tree : List ℕ) (at end : ℕ) (m m′ : BookMemory) : Type 0 where

@@ -1,8 +1,8 @@
 -- What the routines that compile functions over one memory promise: parameters, the base, a function made and added to the book or dropped
 -- Private contracts alone cite this file: whoever reads the promises need not believe it
-use Prim.Native.Nat.{ℕ, _+_, _≤_}
+use Prim.Native.Nat.{ℕ, _+_, _*_, _≤_}
 use mathlib.Core.Path.{_≡_}
-use mathlib.Core.Bool.{true}
+use mathlib.Core.Bool.{true, cond}
 use mathlib.Core.Option.{Option}
 use mathlib.Core.List.{List}
 use lib.ListN.{length}
@@ -22,7 +22,8 @@ use Rattle.building.specs.RepresentsMachine.{LocalsHeld, isOpen}
 use Rattle.compiler_laws.specs.declared.book.Book as struct
 use Rattle.compiler_laws.specs.BookSteps.{AddedLocal}
 use Rattle.compiler_laws.specs.AddingFunctions.{Bounded, ended, baseOf, AddsFunction}
-use Rattle.book_compiler.specs.Represents.{Memory, laid, Represents}
+use Rattle.undo.specs.Stood.{Spares}
+use Rattle.book_compiler.specs.Represents.{Memory, laid, isBuilt, Represents}
 use Rattle.book_compiler.specs.RepresentsBook.{BookMemory, bookLaid, areaOf, RepresentsBook, OnArea}
 
 -- `parameter`
@@ -41,20 +42,30 @@ pub record CompilesBase (tree : List ℕ) (at end start count : ℕ) (m m′ : M
       (w : Work) → LocalsHeld start count (others contextLocalsArea) (w .compiler) → Represents κ E others m (withFunction newFunctionState w)
       → Represents κ E others m′ (compileFunctionDefinitionBase (f .parameters) (f .body) w)
 
+-- the parts beside a function of a book: those that no function changes as they are, and what stood in those that functions are built in
+abbrev pub beside : (ℕ → List ℕ) → BookMemory → ℕ → List ℕ
+beside stood m i = cond (isBuilt i) (stood i) (areaOf m i)
+
 -- the memory stood for a book, and with the function's state it now stands for a function of the book, at its end; the parts that no function
 -- changes are as they were
 pub record Built (κ : Limits) (ps : List ℕ) (others : ℕ → List ℕ) (m : BookMemory) (x : Book) (f : FunctionDefinition) (m′ : Memory) : Type 0 where
   pub book : RepresentsBook κ ps others m x
-  pub function : Represents κ (codeTable (x .context)) (areaOf m) m′ (ended (baseOf f x))
+  pub function : Represents κ (codeTable (x .context)) (beside others m) m′ (ended (baseOf f x))
 
 -- `make`
 pub record MakesFunction (tree : List ℕ) (at end : ℕ) (m : BookMemory) (m′ : Memory) : Type 0 where
   pub makes : (kind : ℕ) (f : FunctionDefinition) → FunctionAt kind f tree at → at + sizeF f ≡ end → (κ : Limits) (ps : List ℕ) (others : ℕ → List ℕ)
       (x : Book) → RepresentsBook κ ps others m x → Built κ ps others m x f m′
 
+-- a function's entry is written behind those in use
+pub record SparesFunctions (r : FunctionState) (s : struct.Book) (g : List ℕ) (s′ : struct.Book) (g′ : List ℕ) : Type 0 where
+  pub words : Spares functionsArea (r .full) (s .functions * 8) g g′
+  pub full : s′ .full ≡ 0 → r .full ≡ 0
+
 -- `add_function`: part 3; the book's constants are then the function's
 pub record AddsBookFunction (name : ℕ) (r : FunctionState) (m m′ : BookMemory) : Type 0 where
-  pub acts : OnArea functionsArea (λ g g′. AddsFunction name (m .book) r g (m′ .book) g′ × (m′ .book .constants ≡ r .constants)) m m′
+  pub acts : OnArea functionsArea (λ g g′. (AddsFunction name (m .book) r g (m′ .book) g′ × SparesFunctions r (m .book) g (m′ .book) g′)
+      × ((m′ .book .constants ≡ r .constants) × (m′ .book .«standing_methods» ≡ m .book .«standing_methods»))) m m′
 
 -- `drop_instance`: error 8, at the function's name; l are the memory's words before the function
 pub record DropsBookFunction (tree : List ℕ) (at : ℕ) (r : FunctionState) (m m′ : BookMemory) : Type 0 where

@@ -2,7 +2,7 @@
 -- Private contracts alone cite this file: whoever reads the promises need not believe it
 use Prim.Native.Nat.{ℕ, _-_, _<_}
 use mathlib.Core.Path.{_≡_}
-use mathlib.Core.Bool.{false}
+use mathlib.Core.Bool.{false, cond}
 use mathlib.Core.List.{List, [], _∷_}
 use lib.ListN.{length, replicate}
 use lib.Dec.{eqb}
@@ -76,10 +76,15 @@ pub record ClearsSlots (starts before after : List ℕ) : Type 0 where
 pub record ConstantWord (i k r : ℕ) (starts words : List ℕ) : Type 0 where
   pub on : Fits starts (length words) → r ≡ entryField 3 i k (part starts constantsArea words)
 
--- `mark_global`, `push_error`
+-- `mark_global`: a mark that is set stays as it is, so that one that stood is told from one of the bundle (2026-01)
+abbrev pub markUnmarkedC : ℕ → FunctionState → List ℕ → List ℕ
+markUnmarkedC index s k = cond (eqb (entryField 3 index 2 k) 0) (markGlobalC index s k) k
+
 pub record MarksGlobal (index : ℕ) (m m′ : Memory) : Type 0 where
   pub state : m′ .state ≡ m .state
-  pub acts : On constantsArea (λ k k′. k′ ≡ markGlobalC index (m .state) k) m m′
+  pub acts : On constantsArea (λ k k′. k′ ≡ markUnmarkedC index (m .state) k) m m′
+
+-- `push_error`
 
 pub record PushesError (number position kind value : ℕ) (m m′ : Memory) : Type 0 where
   pub acts : On errorsArea (λ e e′. erring (m′ .state) e′ ≡ pushErrorC number position kind value (m .state) e) m m′

@@ -1,6 +1,8 @@
 pub mod Represents
 pub mod Leaves
 pub mod Members
+pub mod Onto
+pub mod OntoParts
 pub mod RepresentsBook
 pub mod BookLeaves
 pub mod DefinitionSteps

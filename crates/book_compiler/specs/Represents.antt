@@ -1,8 +1,8 @@
 -- One memory under compilation: the view of it as the machine of `building`, and the relation to the definition's `Work`
 -- Private contracts alone cite this file: whoever reads the promises need not believe it
-use Prim.Native.Nat.{ℕ, _<_}
+use Prim.Native.Nat.{ℕ, _*_, _≤_, _<_}
 use mathlib.Core.Path.{_≡_}
-use mathlib.Core.Bool.{Bool, false, _||_}
+use mathlib.Core.Bool.{Bool, true, false, _||_}
 use mathlib.Core.List.{List}
 use lib.ListN.{length}
 use lib.Dec.{eqb}
@@ -16,6 +16,8 @@ use Rattle.definition.specs.Program.{Entries}
 use Rattle.building.specs.declared.function_state.FunctionState.{FunctionState}
 use Rattle.building.specs.RepresentsMachine.{Machine, machine, RepresentsMachine}
 use Rattle.compiler_laws.specs.InsideFunction.{Inside}
+use Rattle.undo.specs.Notes.{plainMarks}
+use Rattle.undo.specs.Stood.{Stood}
 
 -- the state of a function, the table of starts, and the memory's words
 pub record Memory : Type 0 where
@@ -29,9 +31,10 @@ laid s a w = record { state = s; starts = a; words = w }
 abbrev pub partOf : Memory → ℕ → List ℕ
 partOf m i = part (m .starts) i (m .words)
 
--- the machine of `building` that a memory is
+-- the machine of `building` that a memory is: its constants without what is noted of their marks (2026-01)
 abbrev pub view : Memory → Machine
-view m = machine (m .state) (partOf m codeArea) (partOf m constantsArea) (partOf m scopeNamesArea) (partOf m breaksArea) (partOf m errorsArea)
+view m =
+    machine (m .state) (partOf m codeArea) (plainMarks (partOf m constantsArea)) (partOf m scopeNamesArea) (partOf m breaksArea) (partOf m errorsArea)
 
 -- what is left over of the memory is the table of slots (2026-12)
 abbrev pub slotsPart : ℕ
@@ -41,9 +44,24 @@ slotsPart = 13
 abbrev pub isBuilt : ℕ → Bool
 isBuilt i = eqb i codeArea || eqb i constantsArea || eqb i scopeNamesArea || eqb i breaksArea || eqb i errorsArea || eqb i slotsPart
 
--- the parts that no function changes are these
+-- what stood in areas 1 and 2 ends where the function's code starts and at the count of the constants
+pub record Behind (others : ℕ → List ℕ) (s : FunctionState) : Type 0 where
+  pub code : length (others codeArea) ≤ s .base * 2
+  pub constants : length (others constantsArea) ≤ s .constants * 3
+
+-- nothing stood in areas 9 to 11, nor in the slots, which are written freely
+pub record NothingStood (others : ℕ → List ℕ) : Type 0 where
+  pub names : length (others scopeNamesArea) ≡ 0
+  pub breaks : length (others breaksArea) ≡ 0
+  pub errors : length (others errorsArea) ≡ 0
+  pub slots : length (others slotsPart) ≡ 0
+
+-- the parts that no function changes are these, and what stood in those that functions are built in is in place
 pub record Preserves (others : ℕ → List ℕ) (m : Memory) : Type 0 where
   pub same : (i : ℕ) → i < partCount → isBuilt i ≡ false → partOf m i ≡ others i
+  pub stood : (i : ℕ) → i < partCount → isBuilt i ≡ true → Stood i (others i) (partOf m i)
+  pub nothing : NothingStood others
+  pub behind : m .state .full ≡ 0 → Behind others (m .state)
 
 -- the slots are what filling them anew with the constants in use gives (2026-12; reading 5.3), whether an area is full or not
 pub record SlotsFilled (count : ℕ) (starts words : List ℕ) : Type 0 where

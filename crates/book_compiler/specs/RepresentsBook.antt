@@ -1,8 +1,8 @@
 -- One memory between a book's definitions: the view of it as the counts and areas of `compiler_laws`, and the relation to the definition's `Book`.
 -- Private contracts alone cite this file: whoever reads the promises need not believe it
-use Prim.Native.Nat.{ℕ, _+_, _<_}
+use Prim.Native.Nat.{ℕ, _+_, _*_, _≤_, _<_}
 use mathlib.Core.Path.{_≡_}
-use mathlib.Core.Bool.{Bool, false, _&&_, _||_}
+use mathlib.Core.Bool.{Bool, true, false, _&&_, _||_}
 use mathlib.Core.List.{List, []}
 use lib.ListN.{length}
 use lib.Dec.{eqb, ltb}
@@ -20,7 +20,9 @@ use Rattle.building.specs.Found.{foundOf}
 use Rattle.compiler_laws.specs.declared.book.Book as struct
 use Rattle.compiler_laws.specs.BookAreas.{BookAreas, bookAreas, RepresentsAreas, NamesBooks}
 use Rattle.compiler_laws.specs.OpenedBooks.{openedBook, nobody}
-use Rattle.book_compiler.specs.Represents.{slotsPart, SlotsFilled, Replaced}
+use Rattle.undo.specs.Notes.{plain}
+use Rattle.undo.specs.Stood.{Stood}
+use Rattle.book_compiler.specs.Represents.{slotsPart, NothingStood, SlotsFilled, Replaced}
 
 -- the book's counts, the table of starts, and the memory's words
 pub record BookMemory : Type 0 where
@@ -34,26 +36,46 @@ bookLaid s a w = record { book = s; starts = a; words = w }
 abbrev pub areaOf : BookMemory → ℕ → List ℕ
 areaOf m i = part (m .starts) i (m .words)
 
+-- what an area says, whatever is noted in its words of the program that stood (2026-01)
+abbrev pub saidBy : BookMemory → ℕ → List ℕ
+saidBy m i = plain (m .book .«standing_methods») i (areaOf m i)
+
 -- the counts and areas that a memory is
 abbrev pub bookView : BookMemory → BookAreas
 bookView m =
-    bookAreas (m .book) (areaOf m codeArea) (areaOf m constantsArea) (areaOf m functionsArea) (areaOf m modelsArea) (areaOf m propertiesArea)
-    (areaOf m methodsArea)
+    bookAreas (m .book) (areaOf m codeArea) (saidBy m constantsArea) (areaOf m functionsArea) (areaOf m modelsArea) (areaOf m propertiesArea)
+    (saidBy m methodsArea)
     (areaOf m contextLocalsArea) (areaOf m publicNamesArea) (areaOf m scopeNamesArea) (areaOf m breaksArea) (areaOf m errorsArea)
 
 -- the parts that a book is compiled into: areas 1 to 11, and the slots
 abbrev pub isBookArea : ℕ → Bool
 isBookArea i = ltb 0 i && ltb i booksArea || eqb i slotsPart
 
--- the parts that no definition changes are these: area 12
+-- what stood in areas 1 to 8 ends where the entries that stood before end; of the constants and the methods where those of the context end
+pub record BehindContext (others : ℕ → List ℕ) (c : Context) : Type 0 where
+  pub code : length (others codeArea) ≤ length (c .prior .code) * 2
+  pub constants : length (others constantsArea) ≤ length (c .pool .constants) * 3
+  pub functions : length (others functionsArea) ≤ length (c .prior .functions) * 8
+  pub models : length (others modelsArea) ≤ length (c .prior .models) * 2
+  pub properties : length (others propertiesArea) ≤ length (c .prior .properties) * 2
+  pub methods : length (others methodsArea) ≤ length (c .program .methods) * 3
+  pub locals : length (others contextLocalsArea) ≤ length (c .prior .locals) * 4
+  pub publics : length (others publicNamesArea) ≤ length (c .prior .publics) * 3
+
+-- the parts that no definition changes are these: area 12; and what stood in the others is in place
 pub record PreservesParts (others : ℕ → List ℕ) (m : BookMemory) : Type 0 where
   pub same : (i : ℕ) → i < partCount → isBookArea i ≡ false → areaOf m i ≡ others i
+  pub stood : (i : ℕ) → i < partCount → isBookArea i ≡ true → Stood i (others i) (areaOf m i)
+  pub nothing : NothingStood others
 
 -- within the limits κ and beside the other parts, the memory stands for the book b; `ps`: the properties of a model that is not there yet
 pub record RepresentsBook (κ : Limits) (ps : List ℕ) (others : ℕ → List ℕ) (m : BookMemory) (b : Book) : Type 0 where
   pub fits : Fits (m .starts) (length (m .words))
   pub preserves : PreservesParts others m
+  pub behind : m .book .full ≡ 0 → BehindContext others (b .context)
   pub keeping : RepresentsAreas κ ps (bookView m) b
+  -- as many methods stood as are counted
+  pub standing : length (others methodsArea) ≡ m .book .«standing_methods» * 3
   pub slots : SlotsFilled (m .book .constants) (m .starts) (m .words)
 
 -- between two books it stands for a context: it is ready for the next book, whichever it is

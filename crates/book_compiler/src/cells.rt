@@ -7,11 +7,11 @@ ghost use Rattle.building.specs.Emission.{coded, nextC, lastPositionC, emitC, e
 ghost use Rattle.building.specs.Emission.{enterBreakC, deeperC, depthC, rescueC};
 ghost use Rattle.building.specs.Found.{foundOf};
 ghost use Rattle.building.specs.Scopes.{naming, findLocalC, enterScopeC, exitScopeC, defineAnonymousC, Defines};
-ghost use Rattle.building.specs.Pool.{pooling, addNoCheckC, markGlobalC, erring, pushErrorC};
+ghost use Rattle.building.specs.Pool.{pooling, addNoCheckC, erring, pushErrorC};
 ghost use Rattle.building.specs.Taking.{taken, givenUp};
 ghost use Rattle.words.specs.Areas.{entryField};
 ghost use Rattle.building.specs.State.{withCode, withConstants, withScope, withDepth, withLoop};
-ghost use Rattle.book_compiler.specs.Leaves.{PushesBreak};
+ghost use Rattle.book_compiler.specs.Leaves.{PushesBreak, markUnmarkedC};
 ghost use Prim.Native.Nat.{min};
 ghost use Rattle.compiler_laws.specs.Cells.{stateOf, wordsOf, defined, flagWord};
 use building::function_state;
@@ -23,6 +23,9 @@ use building::taking;
 use words::areas;
 use words::opcode::Instruction;
 use words::opcode::OpCode;
+
+// The word of a constant's entry that is its global mark.
+const GLOBAL_MARK: usize = 2;
 
 // The state that the words are. A flag is set where its word is not 0.
 pub(crate) fn load(cells: &[u64; 15]) -> FunctionState
@@ -342,9 +345,19 @@ pub(crate) fn add_constant_no_check(
     a.index
 }
 
+// A mark that is set stays as it is.
 pub(crate) fn mark_global(constants: &mut [u64], cells: &[u64; 15], index: u64)
-    ensures { λ _. ⌜ now (constants .exit) ≡ markGlobalC index (stateOf (now (cells .entry))) (now (constants .entry)) ⌝ }
+    ensures { λ _. ⌜ now (constants .exit) ≡ markUnmarkedC index (stateOf (now (cells .entry))) (now (constants .entry)) ⌝ }
 {
+    let mark = areas::entry_word(
+        constants,
+        areas::CONSTANT_WORDS,
+        index as usize,
+        GLOBAL_MARK,
+    );
+    if mark != 0 {
+        return;
+    }
     let s = load(cells);
     pool::mark_global(constants, s, index);
 }

@@ -7,6 +7,7 @@ ghost use Prim.Native.Nat.{_/_, _≤_};
 ghost use Rattle.words.specs.Areas.{constantsArea, booksArea};
 ghost use Rattle.words.specs.Record.{mostRecords};
 ghost use Rattle.compiler_laws.specs.SolverSteps.{TakesBooks, Narrows};
+ghost use Rattle.undo.specs.Notes.{plainMarks};
 ghost use Rattle.compiler_laws.specs.BooksInOrder.{ChecksRows, Fresh, FirstConstants, begunBook};
 ghost use Rattle.book_compiler.specs.RepresentsBook.{bookLaid};
 ghost use Rattle.book_compiler.specs.BookOrder.{LentPart, Drives, CompilesNeeded, Works, Runs};
@@ -34,7 +35,7 @@ pub struct Row {
 }
 
 // Rows 2 to 6, and the set of the books needed, from the set of those that stand and three empty sets.
-fn check_bundle(
+pub(crate) fn check_bundle(
     tree: &[u64],
     standing: &[u64],
     chosen: &mut [u64],
@@ -76,7 +77,7 @@ fn check_bundle(
 
 // The three constants that every program begins with: null, true and false.
 fn first_constants(constants: &mut [u64]) -> Taken
-    ensures { λ r. ⌜ FirstConstants (now (constants .entry)) r (now (constants .exit)) ⌝ }
+    ensures { λ r. ⌜ FirstConstants (plainMarks (now (constants .entry))) r (plainMarks (now (constants .exit))) ⌝ }
 {
     let a = taking::take3(constants, areas::CONSTANTS, 0, 0, 0, 0, 0);
     let b = taking::take3(constants, areas::CONSTANTS, a.full, a.count, 1, 1, 0);
@@ -84,7 +85,8 @@ fn first_constants(constants: &mut [u64]) -> Taken
 }
 
 fn begin_constants(starts: &[usize; 15], memory: &mut [u64]) -> Taken
-    ensures { λ r. ⌜ LentPart constantsArea (λ k k′. FirstConstants k r k′) (now (starts .entry)) (now (memory .entry)) (now (memory .exit)) ⌝ }
+    ensures { λ r. ⌜ LentPart constantsArea (λ k k′. FirstConstants (plainMarks k) r (plainMarks k′)) (now (starts .entry)) (now (memory .entry))
+        (now (memory .exit)) ⌝ }
 {
     let start = starts[2];
     let end = starts[3];
@@ -139,6 +141,7 @@ fn begun(constants: Taken, strict: bool) -> Book
         first_local: 0,
         first_public: 0,
         entry_point: 0,
+        standing_methods: 0,
         strict,
     }
 }
@@ -201,7 +204,7 @@ fn drive(
 }
 
 // `compile_to` after row 6: the books that are needed, behind the `stand` books that stand in a memory; the set of the compiled begins with those.
-fn compile_needed(
+pub(crate) fn compile_needed(
     tree: &[u64],
     chosen: &[u64],
     stand: usize,

@@ -1,12 +1,13 @@
 // The end of a call: what the reply says, and what stays in the memory. Private: their promise is relational.
 // Part i has the words from starts[i] up to starts[i + 1].
 ghost use mathlib.Core.Path.{_≡_};
-ghost use Rattle.words.specs.Areas.{constantsArea};
+ghost use Rattle.words.specs.Areas.{constantsArea, methodsArea, clearedFrom};
 ghost use Rattle.words.specs.Reply.{delivery};
 ghost use Rattle.compiler_laws.specs.BooksInOrder.{markOf, MarkedFrom};
 ghost use Rattle.compiler_laws.specs.CallEnd.{totals, markRefusal};
 ghost use Rattle.book_compiler.specs.RepresentsBook.{bookLaid};
-ghost use Rattle.book_compiler.specs.BookOrder.{ReadsPart, ClearsPart, ClearsButErrors, Finishes};
+ghost use Rattle.book_compiler.specs.BookOrder.{LentPart, LentButErrors, ReadsPart, ClearsButErrors, Settles, Finishes};
+ghost use Rattle.undo.specs.Notes.{settledMarks, plainMethods};
 use crate::slots;
 use compiler_laws::book::Book;
 use words::areas;
@@ -51,7 +52,7 @@ fn count_marked(constants: &[u64], count: usize) -> u64
     n
 }
 
-fn count_global_dependencies(count: usize, starts: &[usize; 15], memory: &[u64]) -> u64
+pub(crate) fn count_global_dependencies(count: usize, starts: &[usize; 15], memory: &[u64]) -> u64
     ensures { λ r. ⌜ ReadsPart constantsArea (λ k. MarkedFrom k 0 count 0 r) (now (starts .entry)) (now (memory .entry)) ⌝ }
 {
     let start = starts[2];
@@ -76,7 +77,7 @@ fn refused_by(full: u64) -> Reply
 
 // Zeros in part i; the errors of rows 7 and 8 stay.
 fn clear_part(i: usize, starts: &[usize; 15], memory: &mut [u64])
-    ensures { λ _. ⌜ ClearsPart i (now (starts .entry)) (now (memory .entry)) (now (memory .exit)) ⌝ }
+    ensures { λ _. ⌜ LentButErrors i (λ x y. y ≡ clearedFrom 0 x) (now (starts .entry)) (now (memory .entry)) (now (memory .exit)) ⌝ }
 {
     if i == ERRORS_PART {
         return;
@@ -104,7 +105,7 @@ fn clear_but_errors(starts: &[usize; 15], memory: &mut [u64])
 }
 
 // What a delivery says.
-fn delivered(ended: Ended, marked: u64) -> Reply
+pub(crate) fn delivered(ended: Ended, marked: u64) -> Reply
     ensures { λ r. ⌜ r ≡ delivery (totals (ended .book) (ended .place) marked) ⌝ }
 {
     let book = ended.book;
@@ -127,8 +128,45 @@ fn delivered(ended: Ended, marked: u64) -> Reply
     Reply::delivered(totals)
 }
 
-// The end of a call: a full area or a row clears the memory, the errors of rows 7 and 8 apart; else the slots are cleared, and the reply says what stands
-// in the areas.
+// The marks of the constants in use without what was noted of them (2026-01).
+fn settle_constants(count: usize, starts: &[usize; 15], memory: &mut [u64])
+    ensures { λ _. ⌜ LentPart constantsArea (λ k k′. k′ ≡ settledMarks count k) (now (starts .entry)) (now (memory .entry)) (now (memory .exit)) ⌝ }
+{
+    let start = starts[2];
+    let end = starts[3];
+    if start <= end {
+        if end <= memory.len() {
+            undo::marks::settle_marks(&mut memory[start..end], count);
+            return;
+        }
+    }
+}
+
+// The methods, likewise.
+fn settle_methods(stood: usize, starts: &[usize; 15], memory: &mut [u64])
+    ensures { λ _. ⌜ LentPart methodsArea (λ t t′. t′ ≡ plainMethods stood t) (now (starts .entry)) (now (memory .entry)) (now (memory .exit)) ⌝ }
+{
+    let start = starts[6];
+    let end = starts[7];
+    if start <= end {
+        if end <= memory.len() {
+            undo::methods::settle_methods(&mut memory[start..end], stood);
+            return;
+        }
+    }
+}
+
+// A delivery's areas as they stay: nothing noted, no slots.
+pub(crate) fn settle(count: usize, stood: usize, starts: &[usize; 15], memory: &mut [u64])
+    ensures { λ _. ⌜ Settles count stood (now (starts .entry)) (now (memory .entry)) (now (memory .exit)) ⌝ }
+{
+    settle_constants(count, starts, memory);
+    settle_methods(stood, starts, memory);
+    slots::clear_slots(starts, memory);
+}
+
+// The end of a call: a full area or a row clears the memory, the errors of rows 7 and 8 apart; else the notes and the slots go, and the reply says what
+// stands in the areas.
 pub(crate) fn finish(ended: Ended, starts: &[usize; 15], memory: &mut [u64]) -> Reply
     ensures { λ r. ⌜ Finishes (bookLaid (ended .book) (now (starts .entry)) (now (memory .entry))) (ended .row) (ended .place) (now (memory .exit)) r ⌝ }
 {
@@ -141,7 +179,12 @@ pub(crate) fn finish(ended: Ended, starts: &[usize; 15], memory: &mut [u64]) -> 
         clear_but_errors(starts, memory);
         return Reply::refused(ended.row, ended.place);
     }
+    settle(
+        ended.book.constants,
+        ended.book.standing_methods,
+        starts,
+        memory,
+    );
     let marked = count_global_dependencies(ended.book.constants, starts, memory);
-    slots::clear_slots(starts, memory);
     delivered(ended, marked)
 }

@@ -11,7 +11,7 @@ ghost use Rattle.book_compiler.specs.Leaves.{OnCode, OnNames};
 ghost use Rattle.book_compiler.specs.Members.{CompilesStatements};
 ghost use Rattle.book_compiler.specs.RepresentsBook.{bookLaid};
 ghost use Rattle.book_compiler.specs.FunctionSteps.{CompilesParameter, CompilesParameters, CompilesBase, MakesFunction, AddsBookFunction};
-ghost use Rattle.book_compiler.specs.FunctionSteps.{DropsBookFunction, AddsPlainFunction};
+ghost use Rattle.book_compiler.specs.FunctionSteps.{SparesFunctions, DropsBookFunction, AddsPlainFunction};
 ghost use Rattle.book_compiler.specs.DefinitionSteps.{CompilesFunctionDefinition, ImplementsFunction};
 use crate::book;
 use crate::book::Placed;
@@ -236,7 +236,9 @@ fn make(
 
 // An entry of area 3 more.
 fn add_entry(functions: &mut [u64], book: Book, state: FunctionState, name: u64) -> Book
-    ensures { λ r. ⌜ AddsFunction name book state (now (functions .entry)) r (now (functions .exit)) × (r .constants ≡ state .constants) ⌝ }
+    ensures { λ r. ⌜ (AddsFunction name book state (now (functions .entry)) r (now (functions .exit))
+        × SparesFunctions state book (now (functions .entry)) r (now (functions .exit)))
+        × ((r .constants ≡ state .constants) × (r .«standing_methods» ≡ book .«standing_methods»)) ⌝ }
 {
     let mut b = book::resumed(book, state);
     let t = context::add_function(functions, b.full, b.functions, state, b.file, name);

@@ -1,10 +1,12 @@
 // `backend/compiler.rs`: a book's context locals (area 7) and `compile_local_definition` over one memory.
-ghost use Prim.Native.Nat.{_+_};
+ghost use Prim.Native.Nat.{_+_, _*_};
 ghost use mathlib.Core.Path.{_≡_};
+ghost use Rattle.words.specs.Areas.{contextLocalsArea};
 ghost use Rattle.definition.specs.Book.{defineContextLocal};
 ghost use Rattle.compiler_laws.specs.BookSteps.{LocalsSeek, LocalsValue};
 ghost use Rattle.book_compiler.specs.RepresentsBook.{bookLaid};
-ghost use Rattle.book_compiler.specs.BookLeaves.{DefinesContextLocal, SetsLocalValue};
+ghost use Rattle.book_compiler.specs.BookLeaves.{DefinesContextLocal, SetsLocalValue, SparesLocals, SameCounts};
+ghost use Rattle.undo.specs.Stood.{Spares};
 ghost use Rattle.book_compiler.specs.DefinitionSteps.{AddsLocalValue, GivesLocalValue, CompilesBinding, CompilesLocalDefinition};
 use crate::book;
 use crate::book::Sought;
@@ -19,8 +21,9 @@ use words::reply;
 
 // `define_local` of the compiler's state, on area 7; nothing is found with the mark set.
 fn define_entry(locals: &mut [u64], book: Book, name: u64) -> Sought
-    ensures { λ r. ⌜ LocalsSeek book (now (locals .entry)) (r .book) (now (locals .exit)) (r .found) (defineContextLocal name)
-        × (r .book .constants ≡ book .constants) ⌝ }
+    ensures { λ r. ⌜ (LocalsSeek book (now (locals .entry)) (r .book) (now (locals .exit)) (r .found) (defineContextLocal name)
+        × Spares contextLocalsArea (book .full) (book .locals * 4) (now (locals .entry)) (now (locals .exit)))
+        × SameCounts book (r .book) ⌝ }
 {
     if book.full != 0 {
         return Sought {
@@ -67,7 +70,8 @@ pub(crate) fn define_local(
 
 // `local_values.insert` on area 7, where there is a local.
 fn set_entry(locals: &mut [u64], book: Book, found: Found, constant: u64)
-    ensures { λ _. ⌜ LocalsValue book (now (locals .entry)) (now (locals .exit)) found constant ⌝ }
+    ensures { λ _. ⌜ LocalsValue book (now (locals .entry)) (now (locals .exit)) found constant
+        × SparesLocals book found (now (locals .entry)) (now (locals .exit)) ⌝ }
 {
     if book.full != 0 {
         return;

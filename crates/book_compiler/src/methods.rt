@@ -1,27 +1,28 @@
-// A book's methods (area 6) over one memory.
+// A book's methods (area 6) over one memory. Those that stood before the bundle have a note in their words (2026-01), which the routines of `undo` pass over.
 ghost use mathlib.Core.Path.{_≡_};
-ghost use Rattle.compiler_laws.specs.ModelSteps.{InsertsMethod, CopiesMethod, CopiesMethods};
 ghost use Rattle.book_compiler.specs.RepresentsBook.{bookLaid};
-ghost use Rattle.book_compiler.specs.BookLeaves.{InsertsBookMethod, CopiesBookMethods};
-use crate::pairs;
+ghost use Rattle.book_compiler.specs.BookLeaves.{InsertsNoted, CopiesNoted, CopiesAllNoted, SameCounts, InsertsBookMethod, CopiesBookMethods};
 use building::scopes::Found;
 use building::taking;
 use compiler_laws::book::Book;
 use words::areas;
 
-// The word of a method's entry that is its function.
-const FUNCTION: usize = 2;
-
 // One entry for a model and a name: the last function wins.
 fn insert_entry(methods: &mut [u64], book: Book, model: u64, name: u64, function: u64) -> Book
-    ensures { λ r. ⌜ InsertsMethod model name function book (now (methods .entry)) r (now (methods .exit)) × (r .constants ≡ book .constants) ⌝ }
+    ensures { λ r. ⌜ InsertsNoted model name function book (now (methods .entry)) r (now (methods .exit)) ⌝ }
 {
     if book.full != 0 {
         return book;
     }
-    let found = pairs::find_pair(methods, areas::METHOD_WORDS, 0, book.methods, model, name);
+    let found = undo::methods::find_method(
+        methods,
+        book.standing_methods,
+        book.methods,
+        model,
+        name,
+    );
     if let Found::At(i) = found {
-        areas::write_word(methods, areas::METHOD_WORDS, i as usize, FUNCTION, function);
+        undo::methods::set_function(methods, book.standing_methods, i as usize, function);
         return book;
     }
     let t = taking::take3(
@@ -62,23 +63,23 @@ pub(crate) fn insert_method(
 
 // One method of the source under the target, if it is one.
 fn copy_entry(methods: &mut [u64], book: Book, i: usize, source: u64, target: u64) -> Book
-    ensures { λ r. ⌜ CopiesMethod source target i book (now (methods .entry)) r (now (methods .exit)) × (r .constants ≡ book .constants) ⌝ }
+    ensures { λ r. ⌜ CopiesNoted source target i book (now (methods .entry)) r (now (methods .exit)) ⌝ }
 {
     if book.full != 0 {
         return book;
     }
-    let model = areas::entry_word(methods, areas::METHOD_WORDS, i, 0);
+    let model = undo::methods::method_model(methods, book.standing_methods, i);
     if model != source {
         return book;
     }
-    let name = areas::entry_word(methods, areas::METHOD_WORDS, i, 1);
-    let function = areas::entry_word(methods, areas::METHOD_WORDS, i, FUNCTION);
+    let name = undo::methods::method_name(methods, book.standing_methods, i);
+    let function = undo::methods::method_function(methods, book.standing_methods, i);
     insert_entry(methods, book, target, name, function)
 }
 
 // The methods that there are of the source, one by one under the target.
 fn copy_entries(methods: &mut [u64], book: Book, source: u64, target: u64) -> Book
-    ensures { λ r. ⌜ CopiesMethods source target book (now (methods .entry)) r (now (methods .exit)) × (r .constants ≡ book .constants) ⌝ }
+    ensures { λ r. ⌜ CopiesAllNoted source target book (now (methods .entry)) r (now (methods .exit)) × SameCounts book r ⌝ }
 {
     let count = book.methods;
     let mut i: usize = 0;

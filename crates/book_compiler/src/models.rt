@@ -3,7 +3,7 @@ ghost use mathlib.Core.Path.{_≡_};
 ghost use Rattle.building.specs.Found.{foundOf};
 ghost use Rattle.compiler_laws.specs.ModelSteps.{Publishes, modelAtC};
 ghost use Rattle.book_compiler.specs.RepresentsBook.{bookLaid};
-ghost use Rattle.book_compiler.specs.BookLeaves.{PublishesName, FindsProperty, FindsBookLocal, FindsLocalModel};
+ghost use Rattle.book_compiler.specs.BookLeaves.{SameCounts, PublishesName, SparesPublics, FindsProperty, FindsBookLocal, FindsLocalModel};
 ghost use Rattle.book_compiler.specs.DefinitionSteps.{TakesProperty, TakesModel, AddsModelProperty, AddsModelProperties, AddsModel};
 ghost use Rattle.book_compiler.specs.DefinitionSteps.{CompilesModelDefinition, FindsModelIndex, CompilesApplyDefinition};
 use crate::book;
@@ -32,8 +32,8 @@ const VALUE: usize = 3;
 
 // `public_indices.insert` on area 8.
 fn publish_entry(publics: &mut [u64], placed: Placed, name: u64) -> Book
-    ensures { λ r. ⌜ Publishes (placed .place) name (placed .book) (now (publics .entry)) r (now (publics .exit))
-        × (r .constants ≡ placed .book .constants) ⌝ }
+    ensures { λ r. ⌜ (Publishes (placed .place) name (placed .book) (now (publics .entry)) r (now (publics .exit))
+        × SparesPublics (placed .book) (now (publics .entry)) (now (publics .exit))) × SameCounts (placed .book) r ⌝ }
 {
     let place = placed.place;
     let book = placed.book;

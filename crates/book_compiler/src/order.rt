@@ -2,8 +2,10 @@
 // Part i has the words from starts[i] up to starts[i + 1].
 ghost use mathlib.Core.Path.{_≡_};
 ghost use mathlib.Core.List.{[], _∷_};
+ghost use lib.ListN.{take};
 ghost use Rattle.words.specs.Areas.{errorsArea, booksArea, entryField};
 ghost use Rattle.building.specs.Taking.{Took, taken};
+ghost use Rattle.compiler_laws.specs.SolverSteps.{NarrowNumbers, AddsNumbers};
 ghost use Rattle.book_compiler.specs.BookOrder.{LentPart, ReadsPart, PicksNext, PushesRingErrorsIn};
 use crate::solver;
 use building::taking;
@@ -73,6 +75,34 @@ pub(crate) fn next_book(
         index: count,
         file: 0,
         at: 0,
+    }
+}
+
+// Whether the file numbers of `stand` books that stand are all small enough for a set of 64 words.
+pub(crate) fn narrow_standing(stand: usize, starts: &[usize; 15], memory: &[u64]) -> bool
+    ensures { λ r. ⌜ ReadsPart booksArea (λ o. NarrowNumbers (take stand o) r) (now (starts .entry)) (now (memory .entry)) ⌝ }
+{
+    let start = starts[12];
+    let end = starts[13];
+    if start <= end {
+        if end <= memory.len() {
+            return solver::narrow_books(&memory[start..end], stand);
+        }
+    }
+    true
+}
+
+// Their set, from an empty one.
+pub(crate) fn add_standing(stand: usize, starts: &[usize; 15], memory: &[u64], set: &mut [u64])
+    ensures { λ _. ⌜ ReadsPart booksArea (λ o. AddsNumbers (take stand o) (now (set .entry)) (now (set .exit))) (now (starts .entry)) (now (memory .entry)) ⌝ }
+{
+    let start = starts[12];
+    let end = starts[13];
+    if start <= end {
+        if end <= memory.len() {
+            solver::add_books(&memory[start..end], stand, set);
+            return;
+        }
     }
 }
 

@@ -3,10 +3,10 @@
 ghost use mathlib.Core.Path.{_≡_};
 ghost use mathlib.Core.Bool.{true, false, cond};
 ghost use Prim.Native.Nat.{_≤_, _<_};
-ghost use lib.ListN.{length};
+ghost use lib.ListN.{length, take};
 ghost use Rattle.compiler_laws.specs.FileSets.{bitOf, Added, AddedAbsent, NextIn, NoneBetween, Zeros, setSize};
 ghost use Rattle.compiler_laws.specs.SolverSteps.{FindsTwice, Includes, Reaches, Needs, Misses, Lowers, Resumes, FindsNext, TakesBooks};
-ghost use Rattle.compiler_laws.specs.SolverSteps.{FirstUncompiled, FindsReady, Brings, NarrowIncludes, Narrows};
+ghost use Rattle.compiler_laws.specs.SolverSteps.{FirstUncompiled, FindsReady, Brings, NarrowIncludes, Narrows, NarrowNumbers, AddsNumbers};
 ghost use Rattle.words.specs.Record.{mostRecords};
 use crate::subtree::skip;
 use building::scopes::Found;
@@ -146,6 +146,37 @@ pub(crate) fn narrow(tree: &[u64], end: usize) -> bool
         i = last;
     }
     true
+}
+
+// Whether the file numbers of the books that stand, the first `count` words of area 12, are all below NARROW.
+pub(crate) fn narrow_books(books: &[u64], count: usize) -> bool
+    ensures { λ r. ⌜ NarrowNumbers (take count (now (books .entry))) r ⌝ }
+{
+    let mut i: usize = 0;
+    while i < count {
+        if books.len() <= i {
+            return true;
+        }
+        if NARROW <= books[i] {
+            return false;
+        }
+        i += 1;
+    }
+    true
+}
+
+// The same numbers into a set.
+pub(crate) fn add_books(books: &[u64], count: usize, set: &mut [u64])
+    ensures { λ _. ⌜ AddsNumbers (take count (now (books .entry))) (now (set .entry)) (now (set .exit)) ⌝ }
+{
+    let mut i: usize = 0;
+    while i < count {
+        if books.len() <= i {
+            return;
+        }
+        add(set, books[i]);
+        i += 1;
+    }
 }
 
 // Row 5: the first document whose file number an earlier one has; `present` gets the file numbers.

@@ -1,6 +1,7 @@
 // The static library: what a Rust or C program calls (docs/FORMAT.md, 'The static library'). Each function is another crate's routine under a name of
 // its own; a slice is a pointer and a length.
 use book_compiler::compile;
+use book_compiler::lay_on;
 use column_files::Converted;
 use column_files::columns_to_records;
 use column_files::records_to_columns;
@@ -13,7 +14,7 @@ use tree::Shape;
 use tree::check;
 use words::reply::Reply;
 use words::reply::Totals;
-ghost use Rattle.book_compiler.specs.Promise.{CompilesInto};
+ghost use Rattle.book_compiler.specs.Promise.{CompilesInto, LaysOnInto};
 ghost use Rattle.definition.specs.ProgramCheck.{programFault};
 ghost use Rattle.program_check.specs.Answer.{answerOf};
 ghost use Rattle.program_check.specs.Parts.{lent};
@@ -30,9 +31,9 @@ ghost use Rattle.clover_back_end.specs.Modes.{isStrict};
 ghost use Rattle.clover_back_end.specs.Versions.{thisVersion};
 
 // Counts releases of the library: one more whenever an answer may be another than before.
-const VERSION: u64 = 4;
+const VERSION: u64 = 5;
 // Counts forms of what goes in and out (docs/FORMAT.md, 'Version and layout').
-const LAYOUT: u64 = 4;
+const LAYOUT: u64 = 5;
 
 // What the shape check and the program check answer: the number of a refusal's row and its place, or 0 and 0.
 #[repr(C)]
@@ -189,4 +190,33 @@ pub extern "C" fn clover_compile(
         lengths.books,
     ];
     compile(tree, mode != 0, words, memory)
+}
+
+// Laying a bundle onto a program that stands in a memory (2026-01), on any words, memory, lengths and totals: the program check first of all; a refused bundle
+// leaves the program as it stood.
+#[no_mangle]
+pub extern "C" fn clover_lay_on(
+    tree: &[u64],
+    mode: u64,
+    standing: Totals,
+    lengths: Lengths,
+    memory: &mut [u64],
+) -> Reply
+    ensures { λ r. ⌜ LaysOnInto (isStrict mode) (now (tree .entry)) standing (lengthsOf lengths) (now (memory .entry)) (now (memory .exit)) r ⌝ }
+{
+    let words = [
+        lengths.code,
+        lengths.constants,
+        lengths.functions,
+        lengths.models,
+        lengths.properties,
+        lengths.methods,
+        lengths.context_locals,
+        lengths.public_names,
+        lengths.scope_names,
+        lengths.breaks,
+        lengths.errors,
+        lengths.books,
+    ];
+    lay_on(tree, mode != 0, standing, words, memory)
 }

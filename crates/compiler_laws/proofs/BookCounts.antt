@@ -20,6 +20,7 @@ withMark n s = record {
   «first_local» = s .«first_local»;
   «first_public» = s .«first_public»;
   «entry_point» = s .«entry_point»;
+  «standing_methods» = s .«standing_methods»;
   strict = s .strict;
 }
 
@@ -40,6 +41,7 @@ withFunctionCount t s = record {
   «first_local» = s .«first_local»;
   «first_public» = s .«first_public»;
   «entry_point» = s .«entry_point»;
+  «standing_methods» = s .«standing_methods»;
   strict = s .strict;
 }
 
@@ -60,6 +62,7 @@ withModelCount t s = record {
   «first_local» = s .«first_local»;
   «first_public» = s .«first_public»;
   «entry_point» = s .«entry_point»;
+  «standing_methods» = s .«standing_methods»;
   strict = s .strict;
 }
 
@@ -80,6 +83,7 @@ withPropertyCount t s = record {
   «first_local» = s .«first_local»;
   «first_public» = s .«first_public»;
   «entry_point» = s .«entry_point»;
+  «standing_methods» = s .«standing_methods»;
   strict = s .strict;
 }
 
@@ -100,6 +104,7 @@ withMethodCount t s = record {
   «first_local» = s .«first_local»;
   «first_public» = s .«first_public»;
   «entry_point» = s .«entry_point»;
+  «standing_methods» = s .«standing_methods»;
   strict = s .strict;
 }
 
@@ -120,6 +125,7 @@ withLocals t s = record {
   «first_local» = s .«first_local»;
   «first_public» = s .«first_public»;
   «entry_point» = s .«entry_point»;
+  «standing_methods» = s .«standing_methods»;
   strict = s .strict;
 }
 
@@ -140,6 +146,7 @@ withPublicCount t s = record {
   «first_local» = s .«first_local»;
   «first_public» = s .«first_public»;
   «entry_point» = s .«entry_point»;
+  «standing_methods» = s .«standing_methods»;
   strict = s .strict;
 }
 
@@ -160,5 +167,6 @@ entering i s = record {
   «first_local» = s .«first_local»;
   «first_public» = s .«first_public»;
   «entry_point» = i;
+  «standing_methods» = s .«standing_methods»;
   strict = s .strict;
 }

@@ -8,32 +8,28 @@ use mathlib.Core.Path.{_≡_, refl, sym, ap, subst, _∙_}
 use mathlib.Core.Bool.{Bool, true, false, cond}
 use lib.Dec.{eqb, ltb}
 use borrow.Author.Tests.{lt-ltb, le-ltb}
-use mathlib.Core.Option.{Option, none, some}
-use mathlib.Core.List.{List, [], _∷_, _++_}
-use lib.ListN.{length, getD, replicate, length-replicate, length-append}
+use mathlib.Core.List.{List, [], _∷_}
+use lib.ListN.{length, replicate, length-replicate}
 use Rattle.words.specs.Areas.{clearedFrom, entryField}
-use Rattle.words.specs.Object.{Constant, constantOf}
+use Rattle.words.specs.Object.{Constant}
+use Rattle.words.specs.declared.reply.Totals.{Totals}
 use Rattle.words.specs.declared.reply.Reply as struct
 use Rattle.words.specs.Reply.{delivery, refusal}
-use Rattle.definition.specs.Uses.{Use, firstOver, firstNotPublic}
+use Rattle.definition.specs.Uses.{firstNotPublic}
 use Rattle.definition.specs.Compiler.{Error}
-use Rattle.definition.specs.Prior.{Entries, fileNumbers}
-use Rattle.definition.specs.Book.{hasText, Assembly, Context, newContext, bookCount}
-use Rattle.definition.specs.DependencySolver.{Ending, Worked, filesOf, loadedOf, needed, compileNeeded}
-use Rattle.definition.specs.Program.{bit, constantEntry, flat, filled, errorTables, entriesFrom, errorEntry, bookEntry, bookTable, globalDependencies}
-use Rattle.definition.specs.Answer.{Answer, Delivery, Refusal, ringErrors, answerEnding, answerWorked, limitsOf, answer, replyOf, areasOf}
-use Rattle.definition.specs.Within.{All, nil, _&_, Areas, KeepsWithin}
-use Rattle.definition_laws.proofs.Cells.{single-length, single-at}
-use Rattle.building.proofs.Filling.{flat-append, filled-field}
-use Rattle.building.specs.RepresentsMachine.{Filled, Marks, unmarked, marked}
+use Rattle.definition.specs.Book.{hasText, newContext}
+use Rattle.definition.specs.DependencySolver.{Worked, needed, compileNeeded}
+use Rattle.definition.specs.Program.{bit, errorTables, entriesFrom, errorEntry, globalDependencies}
+use Rattle.definition.specs.Answer.{Answer, Delivery, Refusal, answerWorked, limitsOf, answer, replyOf, areasOf}
+use Rattle.definition.specs.Within.{Areas, KeepsWithin}
+use Rattle.building.specs.RepresentsMachine.{Filled}
 use Rattle.compiler_laws.specs.declared.book.Book as book
-use Rattle.compiler_laws.specs.OpenedBooks.{Resting}
-use Rattle.compiler_laws.specs.BooksInOrder.{Zero, Cleared, Lent, Came, came-delivered, came-faulty}
-use Rattle.compiler_laws.specs.BooksInOrder.{came-ring, Outcome, FrontRows, Works, MarkedFrom, markOf, Emptied}
+use Rattle.compiler_laws.specs.BooksInOrder.{Zero, Cleared, Lent, Outcome, FrontRows, Works, MarkedFrom, markOf, Emptied}
 use Rattle.definition_laws.proofs.Strict.{none-there}
 use Rattle.definition.specs.Promise.{areas, lengthsOf, saying, answering, logsIn, programOf, Compiles}
-use Rattle.compiler_laws.specs.CallEnd.{totals, markRefusal, Finishes, Runs}
-use Rattle.compiler_laws.proofs.AnswerWords.{filled-is, delivered-words, delivered-reply}
+use Rattle.compiler_laws.specs.CallEnd.{totals, markRefusal, refusalWith, markRefusalWith, Finishes, Runs}
+use Rattle.compiler_laws.proofs.AnswerWords.{filled-is}
+use Rattle.compiler_laws.proofs.WorkEnd.{answer-full, answer-errors, answer-delivered}
 use Rattle.definition_laws.proofs.Promise.{compiles}
 use Rattle.compiler_laws.proofs.CallBeginning.{zero-filled}
 use Rattle.compiler_laws.proofs.RowsBeforeWork.{fresh-refused, fresh-answers}
@@ -72,7 +68,7 @@ unfolding replyOf
 refused-reply row place es = refl
 
 -- the limits are those of the areas
-lent-are : (s : book.Book) (c k f m p t l u n b e o : List ℕ) → Lent (limitsOf (lengthsOf (areas c k f m p t l u n b e o))) s c k f m p t l u n b e o
+pub lent-are : (s : book.Book) (c k f m p t l u n b e o : List ℕ) → Lent (limitsOf (lengthsOf (areas c k f m p t l u n b e o))) s c k f m p t l u n b e o
 lent-are s c k f m p t l u n b e o = record {
   fitted = record {
     code = refl;
@@ -90,47 +86,6 @@ lent-are s c k f m p t l u n b e o = record {
   };
   books = refl;
 }
-
--- area 12 of a delivery
-flat-files : (i : ℕ) (as′ : List Assembly) → flat (entriesFrom bookEntry i as′) ≡ filesOf as′
-flat-files i [] = refl
-flat-files i (a ∷ as′) = ap (λ (l : List ℕ). a .filename ∷ l) (flat-files (i + 1) as′)
-
-flat-stood : {es : Entries} → All (λ (e : List ℕ). length e ≡ 1) es → flat es ≡ fileNumbers es
-flat-stood nil = refl
-flat-stood (_&_ {x = e} {xs = es} h hs) = ap (λ (l : List ℕ). e ++ l) (flat-stood hs) ∙ one e h
-  where
-    one : (e : List ℕ) → length e ≡ 1 → e ++ fileNumbers es ≡ getD e 0 0 ∷ fileNumbers es
-    one [] q = absurd (omega arith)
-    one (x ∷ []) q = refl
-    one (x ∷ (y ∷ ys)) q = absurd (omega arith)
-
-books-named-is : (c : Context) → All (λ (e : List ℕ). length e ≡ 1) (c .prior .books) → (rest : List ℕ) {o : List ℕ} → Zero rest → o ≡ loadedOf c ++ rest
-    → o ≡ filled (length o) (bookTable c)
-books-named-is c wide rest {o} z q =
-    let words : flat (bookTable c) ≡ loadedOf c =
-    flat-append (c .prior .books) (entriesFrom bookEntry 0 (c .assemblies)) ∙ rw (flat-stood wide, flat-files 0 (c .assemblies)) in
-    let long : length o ≡ length (loadedOf c) + length rest = ap (λ (l : List ℕ). length l) q ∙ length-append (loadedOf c) rest in
-    let left : length o - length (loadedOf c) ≡ length rest = omega arith in
-    q ∙ rw (words, left) (ap (λ (l : List ℕ). loadedOf c ++ l) z)
-
--- the marks of a delivery
-abbrev constantWords : List ℕ → ℕ → Constant → List ℕ
-constantWords gs i c = c .kind ∷ c .value ∷ bit (hasText i gs) ∷ []
-
-all-marked : (gs : List ℕ) (cs : List Constant) {k : List ℕ} {count r : ℕ} → Filled 3 k (entriesFrom (constantEntry gs) 0 cs) count → MarkedFrom k 0 count 0 r
-    → r ≡ globalDependencies gs 0 cs
-all-marked gs cs {k} {count} F M =
-    M .marked gs cs each (omega (arith, F .count, so-many)) ∙ omega arith
-  where
-    so-many : length (entriesFrom (constantEntry gs) 0 cs) ≡ length cs
-    so-many = single-length (constantWords gs) 0 cs
-
-    each : (j : ℕ) → j < length cs → entryField 3 (0 + j) 2 k ≡ bit (hasText (0 + j) gs)
-    each j h =
-        let same : 0 + j ≡ j = omega arith in
-        rw same (filled-field j 2 (omega arith) (omega (arith, F .count, so-many)) (omega arith) F
-        ∙ ap (λ (x : List ℕ). getD x 2 0) (single-at (constantWords gs) 0 cs j (constantOf 0 0) h) ∙ rw same)
 
 module _ (strict : Bool) (tree : List ℕ) (before : Areas) where
   -- an answer's reply and words are the call's
@@ -197,10 +152,7 @@ module _ (strict : Bool) (tree : List ℕ) (before : Areas) where
         pub compile-full : (s′ .full ≡ 0 → ⊥) → Cleared c″ k″ f″ m″ p″ t″ l″ u″ n″ b″ e″ o″ → r ≡ markRefusal (s′ .full)
             → Compiles strict tree before (areas c″ k″ f″ m″ p″ t″ l″ u″ n″ b″ e″ o″) r
         compile-full ne y says =
-            let X = work in
-            let E = y .emptied in
-            let at : firstOver (limitsOf (lengthsOf before)) (X .worked .uses) ≡ some (s′ .full) = marked-is (X .outcome .full) ne in
-            by (ltb (s′ .full) firstNotPublic) (X .answers ∙ rw at) says E (zero-filled (y .errors))
+            let X = work in by (ltb (s′ .full) firstNotPublic) (answer-full (X .answers) (X .outcome) ne) says (y .emptied) (zero-filled (y .errors))
           where
             by : (area : Bool) → answering strict tree before ≡ cond area (Refusal 9 (s′ .full) []) (Refusal 11 (s′ .full - firstNotPublic) [])
                 → r ≡ cond area (refusal 9 (s′ .full)) (refusal 11 (s′ .full - firstNotPublic)) → Emptied c″ k″ f″ m″ p″ t″ l″ u″ n″ b″ o″ → {errors : ℕ}
@@ -214,73 +166,25 @@ module _ (strict : Bool) (tree : List ℕ) (before : Areas) where
                 (refuses 11 (s′ .full - firstNotPublic) [] thirteen long″ q (E .code) (E .constants) (E .functions) (E .models) (E .properties) (E .methods)
                 (E .locals) (E .publics) (E .names) (E .breaks) z (E .books))
 
-            marked-is : {x : Option ℕ} {a : ℕ} → Marks x a → (a ≡ 0 → ⊥) → x ≡ some a
-            marked-is unmarked h = absurd (h refl)
-            marked-is (marked h) g = refl
-
-    unmarked-is : s′ .full ≡ 0 → firstOver (limitsOf (lengthsOf before)) (work .worked .uses) ≡ none
-    unmarked-is y = go (subst (λ (a : ℕ). Marks (firstOver (limitsOf (lengthsOf before)) (work .worked .uses)) a) y (work .outcome .full))
-      where
-        go : {x : Option ℕ} → Marks x 0 → x ≡ none
-        go unmarked = refl
-        go (marked h) = absurd (omega arith)
-
-    ended : s′ .full ≡ 0 → answering strict tree before ≡ answerEnding (work .worked .ending)
-    ended y = work .answers ∙ rw (unmarked-is y)
-
     -- a book with errors, or a ring: the errors stay
     module _ {c″ k″ f″ m″ p″ t″ l″ u″ n″ b″ o″ : List ℕ} {r : struct.Reply} (long″ : lengthsOf before ≡ lengthsOf (areas c″ k″ f″ m″ p″ t″ l″ u″ n″ b″ e′ o″))
       where
         pub compile-errors : s′ .full ≡ 0 → (row ≡ 0 → ⊥) → Zero c″ → Zero k″ → Zero f″ → Zero m″ → Zero p″ → Zero t″ → Zero l″ → Zero u″ → Zero n″ → Zero b″
             → Zero o″ → r ≡ refusal row place → Compiles strict tree before (areas c″ k″ f″ m″ p″ t″ l″ u″ n″ b″ e′ o″) r
         compile-errors y ne zc zk zf zm zp zt zl zu zn zb zo says =
+            let L = answer-errors (work .answers) (work .outcome) y ne in
             subst (λ (x : struct.Reply). Compiles strict tree before (areas c″ k″ f″ m″ p″ t″ l″ u″ n″ b″ e′ o″) x) (sym says)
-            (go (work .outcome .came y) (ended y))
-          where
-            by : (a i : ℕ) (es : List Error) {j : ℕ} → row ≡ a → place ≡ i → answering strict tree before ≡ Refusal a i es
-                → Filled 4 e′ (entriesFrom errorEntry 0 es) j
-                → Compiles strict tree before (areas c″ k″ f″ m″ p″ t″ l″ u″ n″ b″ e′ o″) (refusal row place)
-            by a i es h g q F =
-                refuses row place es thirteen long″ (q ∙ rw (h, g)) zc zk zf zm zp zt zl zu zn zb F zo
-
-            go : {rest : List ℕ} {us : List Use} {x : Ending} → Came (limitsOf (lengthsOf before)) s′ c′ k′ f′ m′ p′ t′ l′ u′ n′ b′ e′ o′ rest row place us x
-                → answering strict tree before ≡ answerEnding x → Compiles strict tree before (areas c″ k″ f″ m″ p″ t″ l″ u″ n″ b″ e′ o″) (refusal row place)
-            go (came-delivered h i R w) q = absurd (ne h)
-            go (came-faulty {file = file} {es = es} h i F) q = by 7 file es h i q F
-            go (came-ring {left = left} h i F) q = by 8 (length left) (ringErrors left) h i q F
+            (refuses row place (L .errors) thirteen long″ (L .is) zc zk zf zm zp zt zl zu zn zb (L .area) zo)
 
     -- a delivery
     pub compile-delivered : {globals : ℕ} {r : struct.Reply} → lengthsOf before ≡ lengthsOf (areas c′ k′ f′ m′ p′ t′ l′ u′ n′ b′ e′ o′) → s′ .full ≡ 0 → row ≡ 0
         → MarkedFrom k′ 0 (s′ .constants) 0 globals → r ≡ delivery (totals s′ place globals)
         → Compiles strict tree before (areas c′ k′ f′ m′ p′ t′ l′ u′ n′ b′ e′ o′) r
-    compile-delivered {globals} {r} long′ y zero-row M says =
+    compile-delivered long′ y zero-row M says =
+        let D = answer-delivered (work .answers) (work .outcome) y zero-row (work .zeros) M in
         subst (λ (x : struct.Reply). Compiles strict tree before (areas c′ k′ f′ m′ p′ t′ l′ u′ n′ b′ e′ o′) x) (sym says)
-        (go (work .rest) (work .zeros) (work .outcome .came y) (ended y))
-      where
-        whole : Context → Type 0
-        whole context = answering strict tree before ≡ Delivery context
-
-        by : (context : Context) (uses : List Use) (rest : List ℕ) → Zero rest → place ≡ bookCount context
-            → Resting (limitsOf (lengthsOf before)) s′ c′ k′ f′ m′ p′ t′ l′ u′ n′ b′ e′ context uses → o′ ≡ loadedOf context ++ rest
-            → answering strict tree before ≡ Delivery context
-            → Compiles strict tree before (areas c′ k′ f′ m′ p′ t′ l′ u′ n′ b′ e′ o′) (delivery (totals s′ place globals))
-        by context uses rest zr i R w q =
-            let many : place ≡ length (bookTable context) = i ∙ sym (length-append (context .prior .books) (entriesFrom bookEntry 0 (context .assemblies))
-            ∙ ap (λ (n : ℕ). length (context .prior .books) + n) (single-length _ 0 (context .assemblies))) in
-            let books-named = books-named-is context (R .ready .rest y .prior .books) rest zr w in
-            let counted : globals ≡ globalDependencies (context .pool .globals) 0 (context .pool .constants) =
-            all-marked (context .pool .globals) (context .pool .constants) (R .ready .rest y .constants) M in
-            answered (Delivery context) thirteen q (delivered-reply R y books-named many counted)
-            (subst (λ (ls : List ℕ). areas c′ k′ f′ m′ p′ t′ l′ u′ n′ b′ e′ o′ ≡ areasOf ls (Delivery context)) (sym long′)
-            (delivered-words R y books-named many counted))
-
-        go : (rest : List ℕ) → Zero rest → {us : List Use} {x : Ending}
-            → Came (limitsOf (lengthsOf before)) s′ c′ k′ f′ m′ p′ t′ l′ u′ n′ b′ e′ o′ rest row place us x
-            → answering strict tree before ≡ answerEnding x
-            → Compiles strict tree before (areas c′ k′ f′ m′ p′ t′ l′ u′ n′ b′ e′ o′) (delivery (totals s′ place globals))
-        go rest zr (came-delivered {context = context} h i R w) q = by context _ rest zr i R w q
-        go rest zr (came-faulty h i F) q = absurd (omega (arith, h, zero-row))
-        go rest zr (came-ring h i F) q = absurd (omega (arith, h, zero-row))
+        (answered (Delivery (D .context)) thirteen (D .is) (D .reply)
+        (subst (λ (ls : List ℕ). areas c′ k′ f′ m′ p′ t′ l′ u′ n′ b′ e′ o′ ≡ areasOf ls (Delivery (D .context))) (sym long′) (D .words)))
 
 -- `count_marked`
 pub marked-end : {k : List ℕ} {i count n : ℕ} → count ≤ i → MarkedFrom k i count n n
@@ -341,11 +245,14 @@ same-lengths : {c₀ k₀ f₀ m₀ p₀ t₀ l₀ u₀ n₀ b₀ e₀ o₀ c k 
 same-lengths S = rw (S .code, S .constants, S .functions, S .models, S .properties, S .methods, S .locals, S .publics, S .names, S .breaks, S .errors, S .books)
 
 -- the ways of `refused_by`
-pub refused-full : {full : ℕ} {r : struct.Reply} → full < firstNotPublic → r ≡ refusal 9 full → r ≡ markRefusal full
-refused-full {full} h says = says ∙ sym (ap (λ (x : Bool). cond x (refusal 9 full) (refusal 11 (full - firstNotPublic))) (lt-ltb full firstNotPublic h))
+pub refused-full : (t : Totals) {full : ℕ} {r : struct.Reply} → full < firstNotPublic → r ≡ refusalWith t 9 full → r ≡ markRefusalWith t full
+refused-full t {full} h says =
+    says ∙ sym (ap (λ (x : Bool). cond x (refusalWith t 9 full) (refusalWith t 11 (full - firstNotPublic))) (lt-ltb full firstNotPublic h))
 
-pub refused-name : {full : ℕ} {r : struct.Reply} → firstNotPublic ≤ full → r ≡ refusal 11 (full - firstNotPublic) → r ≡ markRefusal full
-refused-name {full} h says = says ∙ sym (ap (λ (x : Bool). cond x (refusal 9 full) (refusal 11 (full - firstNotPublic))) (le-ltb full firstNotPublic h))
+pub refused-name : (t : Totals) {full : ℕ} {r : struct.Reply} → firstNotPublic ≤ full → r ≡ refusalWith t 11 (full - firstNotPublic)
+    → r ≡ markRefusalWith t full
+refused-name t {full} h says =
+    says ∙ sym (ap (λ (x : Bool). cond x (refusalWith t 9 full) (refusalWith t 11 (full - firstNotPublic))) (le-ltb full firstNotPublic h))
 
 -- the ways of `run`
 module _ {strict : Bool} {tree c k f m p t l u n b e o : List ℕ} where
@@ -355,7 +262,8 @@ module _ {strict : Bool} {tree c k f m p t l u n b e o : List ℕ} where
 
   module _ {set : List ℕ} {s′ : book.Book} {c′ k′ f′ m′ p′ t′ l′ u′ n′ b′ e′ o′ c″ k″ f″ m″ p″ t″ l″ u″ n″ b″ e″ o″ : List ℕ} {row place number at : ℕ}
       {r : struct.Reply}
-      (F : FrontRows tree number at set []) (went : number ≡ 0) (W : Works strict tree set c k f m p t l u n b e o s′ c′ k′ f′ m′ p′ t′ l′ u′ n′ b′ e′ o′ row place)
+      (F : FrontRows tree number at set []) (went : number ≡ 0)
+      (W : Works strict tree set c k f m p t l u n b e o s′ c′ k′ f′ m′ p′ t′ l′ u′ n′ b′ e′ o′ row place)
       (E : Finishes s′ row place c′ k′ f′ m′ p′ t′ l′ u′ n′ b′ e′ o′ c″ k″ f″ m″ p″ t″ l″ u″ n″ b″ e″ o″ r)
       (S : SameLengths c k f m p t l u n b e o c″ k″ f″ m″ p″ t″ l″ u″ n″ b″ e″ o″) where
     ended-full : Cleared c k f m p t l u n b e o → (s′ .full ≡ 0 → ⊥)

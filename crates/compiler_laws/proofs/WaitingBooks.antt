@@ -2,7 +2,7 @@
 -- Assumes nothing.
 use Prim.Native.Nat.{ℕ, suc, _+_, _-_, _*_, _/_, _%_, _≤_, _<_}
 use native.Mathlib.Omega.{arith}
-use native.Mathlib.Decide.{decLt}
+use native.Mathlib.Decide.{decLt, ℕ-discrete}
 use native.Mathlib.Numerals.{add-one}
 use native.Mathlib.Nat.{mul-one, add-zero}
 use mathlib.Core.Path.{_≡_, refl, sym, ap, subst, _∙_}
@@ -10,7 +10,7 @@ use mathlib.Core.Bool.{Bool, true, false, cond}
 use mathlib.Core.Option.{Option, none, some}
 use mathlib.Core.List.{List, [], _∷_, _++_, append-assoc}
 use lib.ListN.{length, getD, set as set′, take, drop, length-set, length-append, take-append-drop}
-use lib.Seq.{set-split, take-suc-set, drop-set-lt, set-at, getD-at}
+use lib.Seq.{set-split, take-suc-set, drop-set-lt, set-at, getD-at, getD-set-other}
 use lib.Dec.{eqb}
 use borrow.Author.Tests.{eq-eqb, ne-eqb, lt-ltb, le-ltb, eqb-true}
 use Rattle.words.specs.Ast.{Document}
@@ -157,6 +157,21 @@ module _ {full count a : ℕ} {w : List ℕ} {r : Taken} {after : List ℕ} (T :
       let small : count < length w = omega (arith, room-fits 1 count (length w) h) in
       (T .reply ∙ rw (eq-eqb full 0 z, e), T .words ∙ rw (eq-eqb full 0 z, e, mul-one count, add-one count) (sym (set-split w count a small)))
 
+  -- the count is no lower, and what stood below it stays
+  took-named : (count ≤ r .count) × ((k : ℕ) → k < count → getD after k 0 ≡ getD w k 0)
+  took-named = go (ℕ-discrete full 0) (decLt count (entriesIn 1 (length w)))
+    where
+      same : (r .count ≡ count) → after ≡ w → (count ≤ r .count) × ((k : ℕ) → k < count → getD after k 0 ≡ getD w k 0)
+      same c e = (omega arith, λ k h. ap (λ (l : List ℕ). getD l k 0) e)
+
+      go : Dec (full ≡ 0) → Dec (count < entriesIn 1 (length w)) → (count ≤ r .count) × ((k : ℕ) → k < count → getD after k 0 ≡ getD w k 0)
+      go (no ne) d = let p = took-marked ne in same (ap (λ (x : Taken). x .count) (p .0)) (p .1)
+      go (yes z) (no h) = let p = took-none z (omega arith) in same (ap (λ (x : Taken). x .count) (p .0)) (p .1)
+      go (yes z) (yes h) =
+          let p = took-room z h in
+          let c : r .count ≡ count + 1 = ap (λ (x : Taken). x .count) (p .0) in
+          (omega arith, λ k l. ap (λ (x : List ℕ). getD x k 0) (p .1) ∙ getD-set-other w count k a 0 (λ e. omega arith))
+
 -- an entry more, and those after it
 one-more : (books : List ℕ) (c a : ℕ) (ws : List ℕ) (j : ℕ) → c < length books
     → take (c + 1) (set′ books c a) ++ (ws ++ drop (c + 1 + j) (set′ books c a)) ≡ take c books ++ (a ∷ (ws ++ drop (c + suc j) books))
@@ -172,6 +187,7 @@ pub record TakesFrom (tree : List ℕ) (end : ℕ) (set : List ℕ) (k : ℕ) (t
       → (r ≡ taken 0 (t .count + length l)) × (after ≡ take (t .count) books ++ (waiting ds l ++ drop (t .count + length l) books))
   pub over : (ds : List Document) (l : List ℕ) → Bundle ds tree 0 end → SetFrom set k l → t .full ≡ 0 → t .count ≤ entriesIn 1 (length books)
       → entriesIn 1 (length books) < t .count + length l → r .full ≡ booksArea
+  pub named : (i : ℕ) → i < t .count → getD after i 0 ≡ getD books i 0
 
 module _ (tree : List ℕ) (end : ℕ) (set : List ℕ) (k : ℕ) (t : Taken) (books : List ℕ) where
   stop : ((l : List ℕ) → SetFrom set k l → l ≡ []) → TakesFrom tree end set k t books t books
@@ -180,6 +196,7 @@ module _ (tree : List ℕ) (end : ℕ) (set : List ℕ) (k : ℕ) (t : Taken) (b
     fits = λ ds l b s z f.
         rw (h l s, add-zero (t .count), ← z) (refl, sym (take-append-drop (t .count) books));
     over = λ ds l b s z a f. absurd (omega (arith, subst (λ (x : List ℕ). entriesIn 1 (length books) < t .count + length x) (h l s) f));
+    named = λ i l. refl;
   }
 
   pub takes-end : setSize ≤ k → TakesFrom tree end set k t books t books
@@ -194,6 +211,7 @@ module _ (tree : List ℕ) (end : ℕ) (set : List ℕ) (k : ℕ) (t : Taken) (b
     marked = λ ne′. (refl, refl);
     fits = λ ds l b s z f. absurd (ne z);
     over = λ ds l b s z a f. absurd (ne z);
+    named = λ i l. refl;
   }
 
   module _ {n : ℕ} (next : NextIn set k n) where
@@ -203,7 +221,9 @@ module _ (tree : List ℕ) (end : ℕ) (set : List ℕ) (k : ℕ) (t : Taken) (b
     pub takes-more : {place : ℕ} {t′ r : Taken} {mid after : List ℕ} → n < setSize → FindsDocument tree 0 end n place
         → Took booksArea (t .full) (t .count) ((n * bookUnit + place) ∷ []) books t′ mid → TakesFrom tree end set (n + 1) t′ mid r after
         → TakesFrom tree end set k t books r after
-    takes-more {place} {t′} {r} {mid} {after} small F T M = record { marked = kept; fits = more; over = past }
+    takes-more {place} {t′} {r} {mid} {after} small F T M =
+        let N = took-named T in
+        record { marked = kept; fits = more; over = past; named = λ i l. M .named i (omega (arith, N .0)) ∙ N .1 i l }
       where
         room : (t′ ≡ taken (t .full) (t .count + 1)) × (mid ≡ set′ books (t .count) (n * bookUnit + place))
             → TakesFrom tree end set (n + 1) (taken (t .full) (t .count + 1)) (set′ books (t .count) (n * bookUnit + place)) r after
@@ -255,6 +275,7 @@ takes-whole tree end set full stand books T = record {
   marked = T .marked;
   fits = λ ds l b a w s z f. T .fits ds l b (set-from a w s) z f;
   over = λ ds l b a w s z c f. T .over ds l b (set-from a w s) z c f;
+  named = T .named;
 }
 
 -- whether a document is there, and where

@@ -31,6 +31,7 @@ resumedBook s r = record {
   «first_local» = s .«first_local»;
   «first_public» = s .«first_public»;
   «entry_point» = s .«entry_point»;
+  «standing_methods» = s .«standing_methods»;
   strict = s .strict;
 }
 

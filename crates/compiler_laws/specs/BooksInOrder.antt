@@ -10,6 +10,7 @@ use lib.ListN.{length, replicate}
 use Rattle.words.specs.Ast.{Document}
 use Rattle.words.specs.Areas.{entriesIn, entryWord, entryField, constantsArea, errorsArea, booksArea}
 use Rattle.words.specs.Object.{Constant, defaultConstants}
+use Rattle.words.specs.declared.reply.Totals.{Totals}
 use Rattle.definition.specs.Uses.{Use, Limits, firstOver}
 use Rattle.definition.specs.Compiler.{Error}
 use Rattle.definition.specs.Program.{bit, entriesFrom, constantEntry, errorEntry, globalDependencies}
@@ -154,5 +155,27 @@ begunBook strict t constants = record {
   «first_local» = 0;
   «first_public» = 0;
   «entry_point» = 0;
+  «standing_methods» = 0;
+  strict = strict;
+}
+
+-- and onto a program that stands, by its totals
+abbrev pub begunOnto : Bool → Totals → struct.Book
+begunOnto strict t = record {
+  full = 0;
+  code = t .code;
+  constants = t .constants;
+  functions = t .functions;
+  models = t .models;
+  properties = t .properties;
+  methods = t .methods;
+  locals = t .«context_locals»;
+  publics = t .«public_names»;
+  errors = 0;
+  file = 0;
+  «first_local» = 0;
+  «first_public» = 0;
+  «entry_point» = t .«entry_point»;
+  «standing_methods» = t .methods;
   strict = strict;
 }

@@ -7,7 +7,7 @@ use mathlib.Core.List.{List}
 use lib.Dec.{ltb}
 use Rattle.words.specs.declared.reply.Totals.{Totals}
 use Rattle.words.specs.declared.reply.Reply as struct
-use Rattle.words.specs.Reply.{delivery, refusal}
+use Rattle.words.specs.Reply.{noTotals, delivery, refusal}
 use Rattle.compiler_laws.specs.declared.book.Book as book
 use Rattle.compiler_laws.specs.BooksInOrder.{Zero, Cleared, Emptied, MarkedFrom}
 use Rattle.definition.specs.Uses.{firstNotPublic}
@@ -32,9 +32,16 @@ totals s books globals = record {
   «global_dependencies» = globals;
 }
 
+-- a row's number and place, with the totals of a program that stays as it was
+abbrev pub refusalWith : Totals → ℕ → ℕ → struct.Reply
+refusalWith t row place = record { number = row; place = place; totals = t }
+
 -- `refused_by`: a mark below 16 is an area's, row 9; from there on it is an include's, row 11 (specs/Uses.antt of `definition`)
+abbrev pub markRefusalWith : Totals → ℕ → struct.Reply
+markRefusalWith t full = cond (ltb full firstNotPublic) (refusalWith t 9 full) (refusalWith t 11 (full - firstNotPublic))
+
 abbrev pub markRefusal : ℕ → struct.Reply
-markRefusal full = cond (ltb full firstNotPublic) (refusal 9 full) (refusal 11 (full - firstNotPublic))
+markRefusal full = markRefusalWith noTotals full
 
 -- `finish`: after a full area all is cleared; after a row all but the errors; else the areas stay, and the reply has their totals
 pub record Finishes (s : book.Book) (row place : ℕ) (c k f m p t l u n b e o c″ k″ f″ m″ p″ t″ l″ u″ n″ b″ e″ o″ : List ℕ) (r : struct.Reply) : Type 0 where

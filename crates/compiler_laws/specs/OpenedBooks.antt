@@ -25,6 +25,7 @@ openedBook s index = record {
   «first_local» = s .locals;
   «first_public» = s .publics;
   «entry_point» = s .«entry_point»;
+  «standing_methods» = s .«standing_methods»;
   strict = s .strict;
 }
 

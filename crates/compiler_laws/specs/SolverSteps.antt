@@ -6,7 +6,7 @@ use mathlib.Core.Path.{_≡_}
 use mathlib.Core.Bool.{Bool, true, false, cond}
 use mathlib.Core.Option.{none, some}
 use mathlib.Core.List.{List, [], _∷_, _++_}
-use lib.ListN.{length, take, drop}
+use lib.ListN.{length, getD, take, drop}
 use lib.Dec.{eqb}
 use Rattle.words.specs.Ast.{Definition, Document}
 use Rattle.words.specs.Areas.{entriesIn, entryField, booksArea}
@@ -135,7 +135,8 @@ abbrev pub waiting : List Document → List ℕ → List ℕ
 waiting ds [] = []
 waiting ds (n ∷ ns) = bookWord ds n ∷ waiting ds ns
 
--- `take_books`: an entry for each book needed, behind those of so many that stand, where there is room for all; else the mark. With a mark set nothing changes
+-- `take_books`: an entry for each book needed, behind those of so many that stand, where there is room for all; else the mark. With a mark set nothing changes,
+-- and those that stand never do
 pub record TakesBooks (tree : List ℕ) (end : ℕ) (set : List ℕ) (full stand : ℕ) (books : List ℕ) (r : Taken) (after : List ℕ) : Type 0 where
   pub marked : (full ≡ 0 → ⊥) → (r .full ≡ full) × (after ≡ books)
   pub fits : (ds : List Document) (numbers : List ℕ) → Bundle ds tree 0 end → Ascends 0 numbers → Below setSize numbers → SetIs set numbers → full ≡ 0
@@ -143,6 +144,7 @@ pub record TakesBooks (tree : List ℕ) (end : ℕ) (set : List ℕ) (full stand
       → (r ≡ taken 0 (stand + length numbers)) × (after ≡ take stand books ++ (waiting ds numbers ++ drop (stand + length numbers) books))
   pub over : (ds : List Document) (numbers : List ℕ) → Bundle ds tree 0 end → Ascends 0 numbers → Below setSize numbers → SetIs set numbers → full ≡ 0
       → stand ≤ entriesIn 1 (length books) → entriesIn 1 (length books) < stand + length numbers → r .full ≡ booksArea
+  pub named : (k : ℕ) → k < stand → getD after k 0 ≡ getD books k 0
 
 -- `narrow_includes`: the includes among the definitions from a place up to the end are below narrowSize
 pub record NarrowIncludes (tree : List ℕ) (at end : ℕ) (r : Bool) : Type 0 where
@@ -152,6 +154,15 @@ pub record NarrowIncludes (tree : List ℕ) (at end : ℕ) (r : Bool) : Type 0 w
 -- `narrow`: the file numbers of the documents from a place up to the end, and the numbers they include, are below narrowSize
 pub record Narrows (tree : List ℕ) (at end : ℕ) (r : Bool) : Type 0 where
   pub below : r ≡ true → (ds : List Document) → Bundle ds tree at end → InSets narrowSize ds
+
+-- `narrow_books`: whether numbers are all below narrowSize
+pub record NarrowNumbers (numbers : List ℕ) (r : Bool) : Type 0 where
+  pub below : r ≡ true → Below narrowSize numbers
+  pub above : r ≡ false → Below narrowSize numbers → ⊥
+
+-- `add_books`: an empty set that has room for numbers becomes theirs
+pub record AddsNumbers (numbers set after : List ℕ) : Type 0 where
+  pub adds : SetIs set [] → Below (length set * 64) numbers → SetIs after numbers
 
 -- whether the includes among the definitions from a place up to the end are all in a set
 pub record AllIncluded (tree : List ℕ) (at end : ℕ) (set : List ℕ) (r : Bool) : Type 0 where

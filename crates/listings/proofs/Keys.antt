@@ -1,63 +1,48 @@
 -- The searches of the listing: a property's index in its model, the method that comes next, and how many errors there are. Each loop's invariant is that the
 -- whole answer is the answer from here. Assumes nothing.
 use Prim.Native.Nat.{ℕ, suc, _+_, _-_, _≤_, _<_}
+use native.Mathlib.Numerals.{add-one}
 use native.Mathlib.Omega.{arith}
 use mathlib.Core.Path.{_≡_, refl, sym, ap, _∙_}
 use mathlib.Core.Bool.{Bool, true, false, cond}
 use mathlib.Core.List.{List}
 use lib.Dec.{eqb, ltb}
 use borrow.Author.Tests.{eq-eqb, ne-eqb, lt-ltb, le-ltb}
-use Rattle.listings.specs.Sections.{propertyModel, propertyIndex, methodModel, methodName, isBelow, errorNumber, errorsFrom}
+use Rattle.listings.specs.Sections.{propertyModel, propertiesOf, propertyIndex, methodModel, methodName, isBelow, errorNumber, errorsFrom}
 use Rattle.listings.specs.Selecting.{isAbove, isLess, lesser, leastFrom, methodAfter, methodAt}
 use Rattle.listings.specs.declared.methods.Method.{Method}
 use Rattle.listings.specs.declared.methods.Method.the-variants.{Entry, Over}
 
--- a property's index
-pub record Counted (w : List ℕ) (i model index j : ℕ) : Type 0 where
-  pub whole : propertyIndex w i ≡ index + propertyIndex w j
-  pub same : propertyModel w j ≡ model
-  pub passed : index + j ≡ i
+-- a property's index: how many of the j entries passed are of its model
+pub record Counted (w : List ℕ) (model index j : ℕ) : Type 0 where
+  pub counts : index ≡ propertiesOf w model j
+  pub most : index ≤ j
 
-module _ (w : List ℕ) (i model : ℕ) where
-  pub counted-begin : model ≡ propertyModel w i → Counted w i model 0 i
-  counted-begin e = record { whole = omega arith; same = sym e; passed = omega arith }
+module _ (w : List ℕ) (model : ℕ) where
+  pub counted-begin : Counted w model 0 0
+  unfolding propertiesOf
+  counted-begin = record { counts = refl; most = omega arith }
 
-  step : (j : ℕ) → propertyIndex w (suc j) ≡ cond (eqb (propertyModel w (suc j)) (propertyModel w j)) (suc (propertyIndex w j)) 0
-  unfolding propertyIndex
-  step j = refl
+  step : (j : ℕ) (b : Bool) → eqb (propertyModel w j) model ≡ b → propertiesOf w model (j + 1) ≡ cond b 1 0 + propertiesOf w model j
+  unfolding propertiesOf
+  step j b e = ap (propertiesOf w model) (add-one j) ∙ ap (λ (t : Bool). cond t 1 0 + propertiesOf w model j) e
 
-  at-pred : (j : ℕ) → 0 < j → propertyIndex w j ≡ cond (eqb (propertyModel w j) (propertyModel w (j - 1))) (suc (propertyIndex w (j - 1))) 0
-  at-pred j h =
-      let e : j ≡ suc (j - 1) = omega (arith, h) in
-      ap (propertyIndex w) e ∙ (step (j - 1) ∙ ap (λ (k : ℕ). cond (eqb (propertyModel w k) (propertyModel w (j - 1))) (suc (propertyIndex w (j - 1))) 0)
-      (sym e))
+  pub counted-more : {index j other next : ℕ} → Counted w model index j → other ≡ propertyModel w j → other ≡ model → next ≡ index + 1
+      → Counted w model next (j + 1)
+  counted-more {index} {j} {other} {next} h o e n =
+      let one = step j true (eq-eqb (propertyModel w j) model (sym o ∙ e)) in
+      record { counts = omega (arith, h .counts, one, n); most = omega (arith, h .most, n) }
 
-  pub counted-more : {index j other : ℕ} → Counted w i model index j → 0 < j → other ≡ propertyModel w (j - 1) → other ≡ model
-      → Counted w i model (index + 1) (j - 1)
-  counted-more {index} {j} {other} h l o e =
-      let one : propertyIndex w j ≡ suc (propertyIndex w (j - 1)) =
-      at-pred j l ∙ ap (λ (b : Bool). cond b (suc (propertyIndex w (j - 1))) 0)
-      (eq-eqb (propertyModel w j) (propertyModel w (j - 1)) (h .same ∙ (sym e ∙ o))) in
-      let whole = h .whole in
-      let passed = h .passed in
-      record { whole = omega (arith, whole, one); same = sym o ∙ e; passed = omega (arith, passed, l) }
+  pub counted-other : {index j other next : ℕ} → Counted w model index j → other ≡ propertyModel w j → (other ≡ model → ⊥) → next ≡ index
+      → Counted w model next (j + 1)
+  counted-other {index} {j} {other} {next} h o d n =
+      let none = step j false (ne-eqb (propertyModel w j) model (λ q. d (o ∙ q))) in
+      record { counts = omega (arith, h .counts, none, n); most = omega (arith, h .most, n) }
 
-  pub counted-other : {index j other : ℕ} → Counted w i model index j → 0 < j → other ≡ propertyModel w (j - 1) → (other ≡ model → ⊥)
-      → index ≡ propertyIndex w i
-  counted-other {index} {j} {other} h l o n =
-      let none : propertyIndex w j ≡ 0 =
-      at-pred j l ∙ ap (λ (b : Bool). cond b (suc (propertyIndex w (j - 1))) 0)
-      (ne-eqb (propertyModel w j) (propertyModel w (j - 1)) (λ q. n (o ∙ (sym q ∙ h .same)))) in
-      let whole = h .whole in
-      omega (arith, whole, none)
-
-  pub counted-all : {index j : ℕ} → Counted w i model index j → j ≤ 0 → index ≡ propertyIndex w i
-  unfolding propertyIndex
-  counted-all {index} {j} h l =
-      let e : j ≡ 0 = omega (arith, l) in
-      let none : propertyIndex w j ≡ 0 = ap (propertyIndex w) e in
-      let whole = h .whole in
-      omega (arith, whole, none)
+  pub counted-all : {index : ℕ} (i j : ℕ) → Counted w model index j → j ≤ i → i ≤ j → model ≡ propertyModel w i → index ≡ propertyIndex w i
+  counted-all {index} i j h a b e =
+      let all : j ≡ i = omega (arith, a, b) in
+      h .counts ∙ (λ k. propertiesOf w (e k) (all k))
 
 -- the order of methods
 module _ (w : List ℕ) (i j : ℕ) {m o : ℕ} (M : m ≡ methodModel w i) (O : o ≡ methodModel w j) where

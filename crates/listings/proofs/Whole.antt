@@ -2,7 +2,7 @@
 use Prim.Native.Nat.{ℕ}
 use mathlib.Core.Path.{_≡_, sym, ap, _∙_}
 use mathlib.Core.Bool.{Bool, true, false, cond}
-use mathlib.Core.List.{List, _∷_, _++_}
+use mathlib.Core.List.{List, [], _∷_, _++_}
 use lib.ListN.{length}
 use borrow.Author.Tests.{eq-eqb, ne-eqb}
 use Rattle.words.specs.Areas.{clearedFrom}
@@ -15,7 +15,7 @@ use Rattle.line_writer.specs.Written.{startAt, lineAt}
 use Rattle.line_writer.specs.declared.place.Place.{Place}
 use Rattle.line_writer.specs.declared.writer.Fields.{Fields}
 use Rattle.listings.specs.Lines.{linesAt}
-use Rattle.listings.specs.Sections.{totalsLine, refusalLine, section, each, functionCode, methods, errorsIn}
+use Rattle.listings.specs.Sections.{totalsLine, refusalLine, section, each, functionCode, methods, errorsIn, listsErrors}
 use Rattle.listings.specs.Selecting.{selected}
 use Rattle.listings.proofs.Sorting.{selected-sorted}
 use Rattle.listings.specs.Listing.{Areas, deliveryLines, refusalLines, listing, Finishes}
@@ -65,11 +65,26 @@ delivery-written t w bs x a b c d e f g h i r X A B C D E F G H I R =
     (follows g (section ContextValues (w .locals) (t .«context_locals»)) _ H
     (follows h (section Globals (w .constants) (t .constants)) (section Files (w .books) (t .books)) I R))))))))
 
-pub refusal-written : (reply : Reply) (errors bs : List ℕ) (x : Fields) (a r : Placed) {n : ℕ} → x ≡ refusalLine reply → a ≡ lineAt x (startAt 0 bs)
-    → n ≡ errorsIn errors → r ≡ linesAt (section Errors errors n) a → r ≡ linesAt (refusalLines reply errors) (startAt 0 bs)
-unfolding refusalLines
-refusal-written reply errors bs x a r X A N R =
-    heads (startAt 0 bs) (refusalLine reply) (section Errors errors (errorsIn errors)) X A (R ∙ ap (λ (n : ℕ). linesAt (section Errors errors n) a) N)
+-- a refusal's line, with or without errors
+abbrev errorLines : (errors : List ℕ) → Bool → List Fields
+errorLines errors b = cond b (section Errors errors (errorsIn errors)) []
+
+module _ (reply : Reply) (errors bs : List ℕ) (x : Fields) (a : Placed) (X : x ≡ refusalLine reply) (A : a ≡ lineAt x (startAt 0 bs)) {t : Bool}
+    (T : t ≡ listsErrors (reply .number)) where
+  with-errors : (r : Placed) → r ≡ linesAt (errorLines errors t) a → r ≡ linesAt (refusalLines reply errors) (startAt 0 bs)
+  unfolding refusalLines
+  with-errors r R =
+      heads (startAt 0 bs) (refusalLine reply) (errorLines errors (listsErrors (reply .number))) X A
+      (R ∙ ap (λ (b : Bool). linesAt (errorLines errors b) a) T)
+
+  pub refusal-written : (r : Placed) {n : ℕ} → t ≡ true → n ≡ errorsIn errors → r ≡ linesAt (section Errors errors n) a
+      → r ≡ linesAt (refusalLines reply errors) (startAt 0 bs)
+  refusal-written r y N R =
+      with-errors r (R ∙ (ap (λ (n : ℕ). linesAt (section Errors errors n) a) N ∙ ap (λ (b : Bool). linesAt (errorLines errors b) a) (sym y)))
+
+  pub refusal-alone : t ≡ false → a ≡ linesAt (refusalLines reply errors) (startAt 0 bs)
+  unfolding linesAt
+  refusal-alone n = with-errors a (ap (λ (b : Bool). linesAt (errorLines errors b) a) (sym n))
 
 -- the listing
 module _ (reply : Reply) (w : Areas) (errors out : List ℕ) (m : Placed) {after : List ℕ} {r : Converted} (F : Finishes m after r)

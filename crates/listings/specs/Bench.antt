@@ -8,6 +8,7 @@ use lib.Dec.{leb}
 use Rattle.words.specs.Opcode.{word, unword}
 use Rattle.words.specs.Program.{codeOf}
 use Rattle.words.specs.Record.{packPosition}
+use Rattle.words.specs.Reply.{refusal as refused}
 use Rattle.words.specs.declared.reply.Reply.{Reply}
 use Rattle.words.specs.declared.reply.Totals.{Totals}
 use Rattle.definition.specs.Answer.{Reply as Answered, answer, replyOf, areasOf}
@@ -17,7 +18,8 @@ use Rattle.column_files.specs.Convert.{Conversion, success, refusal, answerBy}
 use Rattle.column_lines.specs.Numeral.{digitsBy, written, rightJustified}
 use Rattle.line_writer.specs.declared.writer.Fields.{Fields}
 use Rattle.listings.specs.Lines.{lineBytes, lineFits, textOf, allFit}
-use Rattle.listings.specs.Sections.{line, propertyIndex, entryLine, isListed, eachFrom, insertMethod, methodOrder, errorsFrom}
+use Rattle.listings.specs.Sections.{line, section, propertiesOf, entryLine, isListed, eachFrom, insertMethod, methodOrder, errorsFrom}
+use Rattle.listings.specs.declared.lines.Section.the-variants.{Properties}
 use Rattle.listings.specs.Listing.{Areas, deliveryLines, refusalLines, listingLines, printed}
 
 -- the reply and the areas that the definition answers, as the listing takes them
@@ -56,7 +58,7 @@ areasBy m = record {
 
 -- the lines for the words of a tree, with areas of some lengths
 listed : List ℕ → List ℕ → List Fields
-unfolding run tablesOf errorTables replyOf areasOf word unword codeOf propertyIndex entryLine isListed eachFrom insertMethod methodOrder errorsFrom
+unfolding run tablesOf errorTables replyOf areasOf word unword codeOf propertiesOf entryLine isListed eachFrom insertMethod methodOrder errorsFrom
     deliveryLines refusalLines
 listed w lengths =
     listingLines (replyBy (replyOf (answer false w lengths))) (areasBy (areasOf lengths (answer false w lengths)))
@@ -106,6 +108,23 @@ by-model = refl
 faulty : listed (book (r 16 2 (packPosition 1 7) 3 ∷ r 14 1 0 4 ∷ [])) ample ≡ l 0 7 2 0 0 0 0 0 ∷ l 11 0 10 1 7 16 0 3 ∷ []
 unfolding listed
 faulty = refl
+
+-- the program check's refusal, of area 1: area 11 is as lent, and the old error there is not listed; after row 7 it would be
+old-errors : map (λ (row : ℕ). refusalLines (refused row 1048577) (10 ∷ 0 ∷ 16 ∷ 3 ∷ [])) (3 ∷ 7 ∷ [])
+    ≡ (l 0 3 1048577 0 0 0 0 0 ∷ []) ∷ (l 0 7 1048577 0 0 0 0 0 ∷ l 11 0 10 0 0 16 0 3 ∷ []) ∷ []
+unfolding refusalLines errorsFrom eachFrom entryLine isListed
+old-errors = refl
+
+-- properties of models 0 and 1 in turn, as no fresh program has them: each model's are numbered from 0 on
+apart : section Properties (0 ∷ 7 ∷ 1 ∷ 7 ∷ 0 ∷ 8 ∷ 1 ∷ 9 ∷ 0 ∷ 5 ∷ []) 5 ≡
+    l 6 0 0 0 0 0 0 7
+    ∷ l 6 1 0 0 0 0 0 7
+    ∷ l 6 0 1 0 0 0 0 8
+    ∷ l 6 1 1 0 0 0 0 9
+    ∷ l 6 0 2 0 0 0 0 5
+    ∷ []
+unfolding propertiesOf eachFrom entryLine isListed
+apart = refl
 
 -- a line as text: the constant 5 is the integer -7
 constant-text : textOf (line 4 5 2 0 0 0 0 18446744073709551609 true ∷ []) ≡

@@ -3,7 +3,7 @@
 use Prim.Native.Nat.{ℕ}
 use mathlib.Core.Bool.{cond}
 use mathlib.Core.Path.{_≡_}
-use mathlib.Core.List.{List, _∷_, _++_}
+use mathlib.Core.List.{List, [], _∷_, _++_}
 use lib.ListN.{length}
 use lib.Dec.{eqb}
 use Rattle.words.specs.Areas.{clearedFrom}
@@ -15,7 +15,7 @@ use Rattle.column_files.specs.declared.Converted.{Converted}
 use Rattle.line_writer.specs.Placed.{Placed}
 use Rattle.line_writer.specs.declared.writer.Fields.{Fields}
 use Rattle.listings.specs.Lines.{textOf, allFit}
-use Rattle.listings.specs.Sections.{refusalLine, totalsLine, section, each, functionCode, methods, errorsIn}
+use Rattle.listings.specs.Sections.{refusalLine, totalsLine, section, each, functionCode, methods, errorsIn, listsErrors}
 use Rattle.listings.specs.declared.lines.Section.the-variants.{Functions, Constants, Models, Properties, ContextValues, Globals, Files, Errors}
 
 -- the words of a program's areas that are listed
@@ -50,9 +50,9 @@ deliveryLines t a =
     ++ (section ContextValues (a .locals) (t .«context_locals») ++ (section Globals (a .constants) (t .constants)
     ++ section Files (a .books) (t .books)))))))))
 
--- a refusal: section 0, 'followed by 11s alone'
+-- a refusal: section 0, 'followed by 11s alone', after rows 7 and 8
 unfoldable pub refusalLines : Reply → List ℕ → List Fields
-refusalLines r errors = refusalLine r ∷ section Errors errors (errorsIn errors)
+refusalLines r errors = refusalLine r ∷ cond (listsErrors (r .number)) (section Errors errors (errorsIn errors)) []
 
 abbrev pub listingLines : Reply → Areas → (errors : List ℕ) → List Fields
 listingLines r a errors = cond (eqb (r .number) 0) (deliveryLines (r .totals) a) (refusalLines r errors)

@@ -1,7 +1,7 @@
 -- The lines of 01's listing as data: eight numbers each, from the reply and the words of the areas ('unused fields 0'; 'Sections ascend, then indices').
 -- docs/FORMAT.md has the words of an entry
-use Prim.Native.Nat.{ℕ, zero, suc, _/_}
-use mathlib.Core.Bool.{Bool, true, false, cond}
+use Prim.Native.Nat.{ℕ, zero, suc, _+_, _/_}
+use mathlib.Core.Bool.{Bool, true, false, cond, _||_}
 use mathlib.Core.List.{List, [], _∷_, _++_, map}
 use lib.ListN.{length}
 use lib.Dec.{eqb, ltb}
@@ -75,13 +75,17 @@ constantLine w i =
 abbrev pub modelLine : List ℕ → ℕ → Fields
 modelLine w i = line 5 i (entryWord (widthOf modelsArea) i 0 w) 0 0 0 0 (entryWord (widthOf modelsArea) i 1 w) false
 
--- a property's index in its model, whose properties stand together
+-- a property's model, and how many of the first n entries are of a model
 abbrev pub propertyModel : List ℕ → ℕ → ℕ
 propertyModel w i = entryWord (widthOf propertiesArea) i 0 w
 
-unfoldable pub propertyIndex : List ℕ → ℕ → ℕ
-propertyIndex w zero = 0
-propertyIndex w (suc i) = cond (eqb (propertyModel w (suc i)) (propertyModel w i)) (suc (propertyIndex w i)) 0
+unfoldable pub propertiesOf : List ℕ → (model : ℕ) → ℕ → ℕ
+propertiesOf w model zero = 0
+propertiesOf w model (suc n) = cond (eqb (propertyModel w n) model) 1 0 + propertiesOf w model n
+
+-- a property's index in its model: the earlier entries of the model, together or apart (2026-01: 'no order of entries fails any')
+abbrev pub propertyIndex : List ℕ → ℕ → ℕ
+propertyIndex w i = propertiesOf w (propertyModel w i) i
 
 -- '6 property: model, index, name last'
 abbrev pub propertyLine : List ℕ → ℕ → Fields
@@ -199,3 +203,8 @@ errorsFrom w i (suc n) = cond (eqb (errorNumber w i) 0) 0 (suc (errorsFrom w (su
 
 abbrev pub errorsIn : List ℕ → ℕ
 errorsIn w = errorsFrom w 0 (length w / widthOf errorsArea)
+
+-- whether a refusal lists errors: row 7 ('errors listed') and row 8 ('one error 11 each') alone. After the program check's row 3 'all memory' is 'as lent', and
+-- what area 11 then has are no errors of this call; after any other row the area is zero
+abbrev pub listsErrors : (row : ℕ) → Bool
+listsErrors row = eqb row 7 || eqb row 8

@@ -15,6 +15,7 @@ use crate::lines::REFUSAL;
 use crate::lines::Section;
 use crate::lines::TOTALS;
 use crate::sections::errors_in;
+use crate::sections::lists_errors;
 use crate::sections::write_code;
 use crate::sections::write_methods;
 use crate::sections::write_section;
@@ -95,14 +96,17 @@ fn write_delivery(
     write_section(Section::Files, books, totals.books, out, i)
 }
 
-// A refusal: section 0, then the errors.
+// A refusal: section 0, then the errors, after rows 7 and 8.
 fn write_refusal(reply: Reply, errors: &[u64], out: &mut [u8]) -> Place
     ensures { λ r. ⌜ placed r (now (out .exit)) ≡ linesAt (refusalLines reply (now (errors .entry))) (startAt 0 (now (out .entry))) ⌝ }
 {
     let first = refusal_line(reply);
     let place = write_line(out, 0, first);
-    let count = errors_in(errors);
-    write_section(Section::Errors, errors, count, out, place)
+    if lists_errors(reply.number) {
+        let count = errors_in(errors);
+        return write_section(Section::Errors, errors, count, out, place);
+    }
+    place
 }
 
 // The reply, and zeros after the text; where something did not fit, row 9 and zeros.

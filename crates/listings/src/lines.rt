@@ -180,19 +180,18 @@ fn model_line(models: &[u64], i: usize) -> Fields
     short_line(MODEL, i as u64, file, name, false)
 }
 
-// A property's index in its model: the entries of the model just ahead of it.
+// A property's index in its model: the earlier entries of the model, which need not stand together.
 fn property_index(properties: &[u64], i: usize) -> u64
     ensures { λ r. ⌜ r ≡ propertyIndex (now (properties .entry)) i ⌝ }
 {
     let model = entry_word(properties, PROPERTY_WORDS, i, 0);
     let mut index: u64 = 0;
-    let mut j = i;
-    while j > 0 {
-        if entry_word(properties, PROPERTY_WORDS, j - 1, 0) != model {
-            return index;
+    let mut j: usize = 0;
+    while j < i {
+        if entry_word(properties, PROPERTY_WORDS, j, 0) == model {
+            index += 1;
         }
-        index += 1;
-        j -= 1;
+        j += 1;
     }
     index
 }

@@ -2,7 +2,7 @@
 ghost use mathlib.Core.Path.{_≡_};
 ghost use Rattle.line_writer.specs.Placed.{placed};
 ghost use Rattle.listings.specs.Lines.{linesAt};
-ghost use Rattle.listings.specs.Sections.{section, each, functionCode, errorsIn};
+ghost use Rattle.listings.specs.Sections.{section, each, functionCode, errorsIn, listsErrors};
 ghost use Rattle.listings.specs.Selecting.{methodLines, selected};
 use crate::lines::Section;
 use crate::lines::write_entry;
@@ -15,6 +15,8 @@ use words::areas::ERROR_WORDS;
 use words::areas::entry_word;
 use words::program::code_of;
 use words::program::function_record;
+use words::reply::BOOK_FAULTY;
+use words::reply::RING;
 
 // The lines of the first n entries of an area.
 pub fn write_section(kind: Section, area: &[u64], n: u64, out: &mut [u8], place: Place) -> Place
@@ -95,4 +97,14 @@ pub fn errors_in(errors: &[u64]) -> u64
         i += 1;
     }
     n as u64
+}
+
+// Whether a refusal lists errors: after the program check's row 3 area 11 is as lent, and what it has are no errors of this call.
+pub fn lists_errors(row: u64) -> bool
+    ensures { λ r. ⌜ r ≡ listsErrors row ⌝ }
+{
+    if row == BOOK_FAULTY {
+        return true;
+    }
+    row == RING
 }

@@ -8,10 +8,10 @@ use borrow.Author.Needs.{needs}
 use native.Mathlib.Omega.{arith}
 
 abbrev Inv-loop : tie.InvT-loop
-Inv-loop part words numbers at n i₀ i = i ≤ length words
+Inv-loop part words numbers at n past i₀ i = i ≤ length words
 
 abbrev μ-loop : tie.MeasureT-loop
-μ-loop part words numbers at n i₀ i = length words - i
+μ-loop part words numbers at n past i₀ i = length words - i
 
 pub same-spec : {M : Type 1} → statement M
 same-spec =

@@ -1,6 +1,7 @@
 -- `book_compiler::book::push_error` meets its contract: it lends part 11. Assumes nothing.
 -- Made from Proof.answers by `answers make`: edit that file, and not this one.
-use mathlib.Core.Path.{refl}
+use mathlib.Core.Path.{refl, ap}
+use Rattle.compiler_laws.specs.declared.book.Book.{Book}
 use Rattle.memory.specs.Layout.{part, withPart}
 use Rattle.book_compiler.proofs.BookParts.{area-part, area-wide, area-back}
 use Rattle.book_compiler.proofs.ConstantCount.{fault-constants}
@@ -18,9 +19,12 @@ returns c =
     let c5 = c .before .before .before .before .before in
     let c12 = c5 .before .before .before .before .before .before .before in
     record {
-      constants = fault-constants (c12 .args .number) (positionAt (c12 .args .tree .now) (c12 .args .at)) (kindAt (c12 .args .tree .now) (c12 .args .at))
-          (valueAt (c12 .args .tree .now) (c12 .args .at)) (part (c12 .args .starts .now) 11 (c12 .args .memory .now)) (c5 .working .ensures)
-          (c .before .before .before .fault .ensures) (c .resumed .ensures);
+      counts = record {
+        constants = fault-constants (c12 .args .number) (positionAt (c12 .args .tree .now) (c12 .args .at)) (kindAt (c12 .args .tree .now) (c12 .args .at))
+            (valueAt (c12 .args .tree .now) (c12 .args .at)) (part (c12 .args .starts .now) 11 (c12 .args .memory .now)) (c5 .working .ensures)
+            (c .before .before .before .fault .ensures) (c .resumed .ensures);
+        standing = ap (λ (b : Book). b .«standing_methods») (c .resumed .ensures);
+      };
       acts = area-part {i = 11} (c12 .args .starts .now) (c12 .args .memory .now) (c .before .before .before .fault .last .1 .1 .0)
           (fault-simulates (c12 .args .number) (tokenAt (c12 .args .tree .now) (c12 .args .at)) (c5 .working .ensures) (faults (c12 .args .tree .now) (c12 .args .at)
           (c12 .args .number) (c .before .before .before .fault .ensures))
@@ -30,12 +34,12 @@ returns c =
 returns-2 : tie.Need-returns-2
 returns-2 c =
     let c6 = c .before .before .before .before .before .before in
-    record { constants = refl; acts = area-wide {i = 11} (omega arith) (c6 .args .starts .now) (c6 .args .memory .now) _ (c .if2 .left) }
+    record { counts = record { constants = refl; standing = refl }; acts = area-wide {i = 11} (omega arith) (c6 .args .starts .now) (c6 .args .memory .now) _ (c .if2 .left) }
 
 returns-3 : tie.Need-returns-3
 returns-3 c =
     let c5 = c .before .before .before .before .before in
-    record { constants = refl; acts = area-back {i = 11} (omega arith) (c5 .args .starts .now) (c5 .args .memory .now) _ (c .if1 .left) }
+    record { counts = record { constants = refl; standing = refl }; acts = area-back {i = 11} (omega arith) (c5 .args .starts .now) (c5 .args .memory .now) _ (c .if1 .left) }
 
 pub push-error-spec : {M : Type 1} → statement M
 push-error-spec =

@@ -13,7 +13,7 @@ unfolding part withPart
 returns c =
     let c9 = c .before .before .before .before .before .before .before .before .before in
     record {
-      constants = c .before .before .copy-entries .ensures .1;
+      counts = c .before .before .copy-entries .ensures .1;
       acts = area-part {i = 6} (c9 .args .starts .now) (c9 .args .memory .now)
           (c .before .before .copy-entries .last .0) (c .before .before .copy-entries .ensures .0) (c .before .before .copy-entries .kept .0);
     }
@@ -21,11 +21,11 @@ returns c =
 returns-2 : tie.Need-returns-2
 returns-2 c =
     let c5 = c .before .before .before .before .before in
-    record { constants = refl; acts = area-wide {i = 6} (omega arith) (c5 .args .starts .now) (c5 .args .memory .now) _ (c .if2 .left) }
+    record { counts = record { constants = refl; standing = refl }; acts = area-wide {i = 6} (omega arith) (c5 .args .starts .now) (c5 .args .memory .now) _ (c .if2 .left) }
 
 returns-3 : tie.Need-returns-3
 returns-3 c = record {
-  constants = refl;
+  counts = record { constants = refl; standing = refl };
   acts = area-back {i = 6} (omega arith) (c .before .before .before .before .args .starts .now)
       (c .before .before .before .before .args .memory .now) _ (c .if1 .left);
 }

@@ -13,7 +13,7 @@ unfolding part withPart
 returns c =
     let c10 = c .before .before .before .before .before .before .before .before .before .before in
     record {
-      constants = c .before .before .publish-entry .ensures .1;
+      counts = c .before .before .publish-entry .ensures .1;
       acts = area-part {i = 8} (c10 .args .starts .now) (c10 .args .memory .now)
           (c .before .before .publish-entry .last .0) (c .before .before .publish-entry .ensures .0) (c .before .before .publish-entry .kept .0);
     }
@@ -21,12 +21,12 @@ returns c =
 returns-2 : tie.Need-returns-2
 returns-2 c =
     let c6 = c .before .before .before .before .before .before in
-    record { constants = refl; acts = area-wide {i = 8} (omega arith) (c6 .args .starts .now) (c6 .args .memory .now) _ (c .if2 .left) }
+    record { counts = record { constants = refl; standing = refl }; acts = area-wide {i = 8} (omega arith) (c6 .args .starts .now) (c6 .args .memory .now) _ (c .if2 .left) }
 
 returns-3 : tie.Need-returns-3
 returns-3 c =
     let c5 = c .before .before .before .before .before in
-    record { constants = refl; acts = area-back {i = 8} (omega arith) (c5 .args .starts .now) (c5 .args .memory .now) _ (c .if1 .left) }
+    record { counts = record { constants = refl; standing = refl }; acts = area-back {i = 8} (omega arith) (c5 .args .starts .now) (c5 .args .memory .now) _ (c .if1 .left) }
 
 pub publish-spec : {M : Type 1} → statement M
 publish-spec =

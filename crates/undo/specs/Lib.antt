@@ -1,0 +1,4 @@
+pub mod Fits
+pub mod Notes
+pub mod Stood
+pub mod Turns
