@@ -36,6 +36,9 @@ pub fn capacities(lengths: &Lengths) -> Counts {
     std::array::from_fn(|i| MAX_ENTRIES.min((lengths[i] / ENTRY_WORDS[i]) as u64))
 }
 
+/// Words of a reply: row, place and fifteen totals.
+pub const REPLY_WORDS: usize = 17;
+
 /// What a call returns beside the areas. Row 0 is a delivery; a refusal has no totals.
 #[derive(Clone, Copy, Debug, Default, PartialEq, Eq)]
 pub struct Reply {
@@ -44,6 +47,8 @@ pub struct Reply {
     pub totals: Counts,
     pub entry_point: u64,
     pub globals: u64,
+    /// 2026-08: "the number of bundles delivered into it, 1 when fresh".
+    pub bundles: u64,
 }
 
 impl Reply {
@@ -51,14 +56,13 @@ impl Reply {
         Reply { row, place, ..Reply::default() }
     }
 
-    /// Row, place, the twelve totals, entry point, global dependencies.
-    pub fn words(&self) -> [u64; 16] {
-        let mut out = [0; 16];
+    /// Row, place, the twelve totals, entry point, global dependencies, bundles.
+    pub fn words(&self) -> [u64; REPLY_WORDS] {
+        let mut out = [0; REPLY_WORDS];
         out[0] = self.row;
         out[1] = self.place;
         out[2..14].copy_from_slice(&self.totals);
-        out[14] = self.entry_point;
-        out[15] = self.globals;
+        out[14..].copy_from_slice(&[self.entry_point, self.globals, self.bundles]);
         out
     }
 }

@@ -2,7 +2,7 @@
 //! there may be, chains of books, doublings. Too much for a comparison over thousands of cases; each
 //! call is made on a thread with a small stack.
 
-use crate::areas::{area, Lengths, Lent, AREAS, ENTRY_WORDS, UNLIMITED};
+use crate::areas::{area, Lengths, Lent, Reply, AREAS, ENTRY_WORDS, UNLIMITED};
 use crate::clock::now;
 use crate::compare::{Side, STALE};
 use crate::model::{compile, Run};
@@ -217,10 +217,6 @@ impl OntoCalls for NarrowOnto<'_> {
         self.seconds = seconds;
         replied
     }
-
-    fn counts_bundles(&self) -> bool {
-        false
-    }
 }
 
 /// A bundle laid onto the least program: what it must answer is the model's answer to the bundle by itself, or after a refusal
@@ -234,7 +230,8 @@ pub fn judge_onto(side: &mut dyn OntoCalls, bundle: &Hostile) -> Result<(u64, u6
     let Run { reply, areas: mut left, .. } = run;
     let mut totals = least.totals;
     if reply.row == 0 {
-        totals = Totals { areas: reply.totals, entry_point: reply.entry_point, globals: reply.globals, ..totals };
+        let Reply { totals: areas, entry_point, globals, .. } = reply;
+        totals = Totals { areas, entry_point, globals, bundles: totals.bundles + 1 };
     } else {
         let errors = std::mem::take(&mut left[area::ERRORS - 1]);
         left = least.entries;
@@ -269,10 +266,6 @@ mod tests {
                 let replied = Standing.call(order, tree, strict, lengths, memory);
                 memory[lengths[0]] ^= 1;
                 replied
-            }
-
-            fn counts_bundles(&self) -> bool {
-                false
             }
         }
         let is_small = |bundle: &Hostile| bundle.words.len() < 4000 && bundle.lengths.iter().sum::<usize>() < 2_000_000;

@@ -30,6 +30,8 @@ pub mod onto_real;
 pub mod onto_sample;
 pub mod onto_seen;
 pub mod onto_small;
+pub mod onto_trial_sample;
+pub mod onto_trials;
 pub mod onto_work;
 #[cfg(feature = "link")]
 pub mod ours;

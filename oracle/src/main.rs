@@ -56,6 +56,9 @@ oracle onto --calls N [--seed S] [--plant FAULT] [--ours]; or --calls N S
     the same reading against that of standing.rs (or the library, in memories with tables of slots and with lengths that pass
     the end) over the calls of N sequences, odd and damaged programs among them, some in memories that end early: reply and
     every word
+oracle onto --trials N [--seed S] [--plant FAULT] [--ours]; or --trials N S
+    the same over N sequences: a bundle is tried on a grown program and committed as it was tried, and from the same state with
+    another bundle, in the other mode, with other counts, in other lengths and with each of the trial's totals otherwise
 oracle onto --damages N [--seed S] [--plant FAULT] [--ours]; or --damages N S
     the same over every single damage of two samples and of N programs made by chance, each with a bundle laid on
 oracle onto --edges [--plant FAULT] [--ours]
@@ -367,6 +370,7 @@ fn run_onto(arguments: &Arguments) -> ExitCode {
     use oracle::onto_calls::{compare_calls, compare_damages, compare_edges, OntoCalls, Standing};
     use oracle::onto_grown::{compare_grown, Look, Ours};
     use oracle::onto_small::compare_small;
+    use oracle::onto_trials::compare_trials;
     if arguments.has("--faults") {
         Fault::ALL.iter().for_each(|fault| println!("{fault:?}"));
         return ExitCode::SUCCESS;
@@ -387,12 +391,19 @@ fn run_onto(arguments: &Arguments) -> ExitCode {
     let start = Instant::now();
     println!("seed {seed}");
     let is_ours = arguments.has("--ours");
-    let first = if ["--calls", "--damages", "--edges"].iter().any(|flag| arguments.has(flag)) {
-        let mut side: Box<dyn OntoCalls> = match (reading.fault, is_ours) {
+    let side = || -> Box<dyn OntoCalls> {
+        match (reading.fault, is_ours) {
             (Some(_), _) => Box::new(reading),
             (None, true) => onto_library(),
             (None, false) => Box::new(Standing),
-        };
+        }
+    };
+    let first = if arguments.has("--trials") {
+        let seen = compare_trials(&mut *side(), seed, arguments.number("--trials", 1000));
+        seen.print();
+        seen.first
+    } else if ["--calls", "--damages", "--edges"].iter().any(|flag| arguments.has(flag)) {
+        let mut side = side();
         let seen = if arguments.has("--edges") {
             compare_edges(&mut *side)
         } else if arguments.has("--damages") {
@@ -571,6 +582,7 @@ const COMMANDS: [Command; 21] = [
             Number("--self"),
             Number("--small"),
             Number("--calls"),
+            Number("--trials"),
             Number("--damages"),
             Number("--seed"),
             Word("--plant"),

@@ -960,7 +960,8 @@ impl<'a> Work<'a> {
         ];
         let totals = self.used;
         let globals = self.constants.iter().filter(|c| c[2] == 1).count() as u64;
-        (Reply { row: 0, place: 0, totals, entry_point: self.entry_point, globals }, areas)
+        // 2026-08: "1 when fresh"; who runs this onto a program counts on from that.
+        (Reply { row: 0, place: 0, totals, entry_point: self.entry_point, globals, bundles: 1 }, areas)
     }
 }
 

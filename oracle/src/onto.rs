@@ -68,8 +68,16 @@ pub enum Fault {
     TrialCounted,
     /// A trial writes the program.
     TrialWritten,
+    /// A trial leaves the marks that the work set.
+    TrialMarked,
+    /// A commit that delivers does not count its bundle.
+    CommitNotCounted,
     /// A commit compares every total.
     EveryTotalCompared,
+    /// A commit does not compare the number of global dependencies.
+    GlobalsNotCompared,
+    /// After row 13 the areas are the work's.
+    DifferingKept,
     /// A commit compares totals where the work refuses.
     TotalsBeforeRefusal,
     /// A commit is stale only where its count is smaller.
@@ -83,7 +91,7 @@ pub enum Fault {
 }
 
 impl Fault {
-    pub const ALL: [Fault; 29] = [
+    pub const ALL: [Fault; 33] = [
         Fault::MarkLeft,
         Fault::MethodLeft,
         Fault::EntryPointLeft,
@@ -107,7 +115,11 @@ impl Fault {
         Fault::BundleNotCounted,
         Fault::TrialCounted,
         Fault::TrialWritten,
+        Fault::TrialMarked,
+        Fault::CommitNotCounted,
         Fault::EveryTotalCompared,
+        Fault::GlobalsNotCompared,
+        Fault::DifferingKept,
         Fault::TotalsBeforeRefusal,
         Fault::StaleWhereSmaller,
         Fault::StaleAfterWork,
@@ -348,45 +360,56 @@ impl Reading {
     /// 2026-08: "A trial reports what laying the bundle on would answer, with line 1's totals; the standing program is
     /// unchanged and all beyond it zero but for listed errors. .. a trial hands that count on."
     pub fn trial(&self, words: &[u64], strict: bool, lent: Lent) -> Answered {
-        let mut answered = self.lay_on(words, strict, lent);
-        if answered.row == 0 {
-            let errors = std::mem::take(&mut answered.areas[area::ERRORS - 1]);
-            if !self.is(Fault::TrialWritten) {
-                answered.areas = lent.areas.clone();
-            }
-            answered.areas[area::ERRORS - 1] = errors;
-            if !self.is(Fault::TrialCounted) {
-                answered.totals.bundles = lent.totals.bundles;
-            }
+        self.on_trial(self.lay_on(words, strict, lent), lent)
+    }
+
+    /// The trial of a bundle, from what laying it on answers.
+    pub fn on_trial(&self, laid: Answered, lent: Lent) -> Answered {
+        if laid.row != 0 {
+            return laid;
         }
-        answered
+        let Answered { row, place, mut totals, areas: work } = laid;
+        if !self.is(Fault::TrialCounted) {
+            totals.bundles = lent.totals.bundles;
+        }
+        let mut areas = if self.is(Fault::TrialWritten) { work.clone() } else { lent.areas.clone() };
+        if self.is(Fault::TrialMarked) {
+            let stood = lent.totals.of(area::CONSTANTS) as usize * ENTRY_WORDS[area::CONSTANTS - 1];
+            areas[area::CONSTANTS - 1][..stood].copy_from_slice(&work[area::CONSTANTS - 1][..stood]);
+        }
+        areas[area::ERRORS - 1].fill(0);
+        Answered { row, place, totals, areas }
     }
 
     /// "A commit takes the trial's totals and count; .. it answers as the trial did, but a delivery's count is one more.
     /// Checks: 12 .. right after the program check if the count differs; 13 .., place 0, after the work, with the program as
     /// it stood."
     pub fn commit(&self, words: &[u64], strict: bool, lent: Lent, trial: &Totals) -> Answered {
-        if let Some(refused) = self.checked(words, lent) {
-            return refused;
+        self.committed(self.lay_on(words, strict, lent), lent, trial)
+    }
+
+    /// The commit of a bundle, from what laying it on answers.
+    pub fn committed(&self, laid: Answered, lent: Lent, trial: &Totals) -> Answered {
+        if laid.is_unfit() {
+            return laid;
         }
         let stands = lent.totals.bundles;
         let is_stale = trial.bundles != stands && !(self.is(Fault::StaleWhereSmaller) && trial.bundles > stands);
-        let stale = is_stale.then(|| self.refused((STALE_TRIAL, stands), lent, None));
-        if stale.is_some() && !self.is(Fault::StaleAfterWork) {
-            return stale.expect("it is");
+        if is_stale && (laid.row == 0 || !self.is(Fault::StaleAfterWork)) {
+            return self.refused((STALE_TRIAL, stands), lent, None);
         }
-        let laid = self.laid(words, strict, lent);
-        let differs = match self.fault {
-            Some(Fault::EveryTotalCompared) => trial.areas != laid.totals.areas,
-            _ => compared(trial) != compared(&laid.totals),
-        };
-        if differs && (laid.row == 0 || self.is(Fault::TotalsBeforeRefusal)) {
-            return self.refused((TOTALS_DIFFER, 0), lent, None);
+        if self.differs(trial, &laid.totals) && (laid.row == 0 || self.is(Fault::TotalsBeforeRefusal)) {
+            let refused = self.refused((TOTALS_DIFFER, 0), lent, None);
+            return if self.is(Fault::DifferingKept) { Answered { areas: laid.areas, ..refused } } else { refused };
         }
-        if laid.row == 0 {
-            return stale.unwrap_or(laid);
-        }
-        laid
+        let counted = u64::from(laid.row == 0 && self.is(Fault::CommitNotCounted));
+        Answered { totals: Totals { bundles: laid.totals.bundles - counted, ..laid.totals }, ..laid }
+    }
+
+    fn differs(&self, trial: &Totals, laid: &Totals) -> bool {
+        let globals = if self.is(Fault::GlobalsNotCompared) { laid.globals } else { trial.globals };
+        compared(&Totals { globals, ..*trial }) != compared(laid)
+            || self.is(Fault::EveryTotalCompared) && trial.areas != laid.areas
     }
 }
 

@@ -28,12 +28,6 @@ pub trait OntoCalls {
     /// passes the end is cut there (docs/FORMAT.md, 'The twelve areas'). `order` has the program's totals.
     fn call(&mut self, order: &Order, tree: &[u64], strict: bool, lengths: &Lengths, memory: &mut [u64]) -> Replied;
 
-    /// Whether totals carry the number of bundles (2026-08). Before, every call is asked for as laying on, with a number that
-    /// stands, and it is not looked at in the reply.
-    fn counts_bundles(&self) -> bool {
-        true
-    }
-
     /// Whether a call is lent with every table of slots, and with lengths that pass the end; else in one of these ways, drawn.
     fn is_lent_every_way(&self) -> bool {
         false
@@ -65,11 +59,6 @@ pub fn answered(reading: &Reading, call: &Call) -> Answered {
     }
 }
 
-/// Whether the program check refused: "All memory and totals then stay as lent".
-fn is_unfit(answered: &Answered) -> bool {
-    answered.row == BAD_SHAPE && answered.place > PROGRAM_PLACE
-}
-
 /// Writes an answer where a side would; 2026-12: after the call all slots "are zero (as lent where the program check refuses)".
 fn write(answered: Answered, keeps_slots: bool, memory: &mut [u64]) -> Replied {
     let words = answered.areas.concat();
@@ -92,7 +81,7 @@ impl OntoCalls for Reading {
         let keeps_slots = match self.fault {
             Some(Fault::SlotsLeft) => true,
             Some(Fault::SlotsCleared) => false,
-            _ => is_unfit(&answered),
+            _ => answered.is_unfit(),
         };
         write(answered, keeps_slots, memory)
     }
@@ -104,7 +93,7 @@ pub struct Standing;
 impl OntoCalls for Standing {
     fn call(&mut self, order: &Order, tree: &[u64], strict: bool, lengths: &Lengths, memory: &mut [u64]) -> Replied {
         let answered = lent_call(order, tree, strict, lengths, memory).answer();
-        let keeps_slots = is_unfit(&answered);
+        let keeps_slots = answered.is_unfit();
         write(answered, keeps_slots, memory)
     }
 }
@@ -116,19 +105,34 @@ pub(crate) struct Way {
     pub(crate) slots: Vec<u64>,
 }
 
-/// A table of each length worth trying, with stale words in it, and no table but lengths that pass the end.
-fn ways(call: &Call, wanted: &Answered, random: &mut Random) -> Vec<Way> {
+/// How many ways there are: tables of several lengths, and lengths that pass the end.
+const WAYS: usize = 7;
+
+/// A table of a length worth trying, with stale words in it; the last way is no table but lengths that pass the end.
+fn way(call: &Call, wanted: &Answered, at: usize, random: &mut Random) -> Way {
     let exact = lengths_of(&call.areas);
     let room = (exact[area::CONSTANTS - 1] / ENTRY_WORDS[area::CONSTANTS - 1]) as u64;
     let constants = wanted.totals.of(area::CONSTANTS).min(room) as usize;
-    let tables = lengths_of_tables(constants, random);
-    let mut ways: Vec<Way> =
-        tables.iter().map(|&slots| Way { lengths: exact, slots: stale(slots, constants, random) }).collect();
-    // The last area that has a word ends where the memory does, whatever is said of it and of those behind it.
-    let last = (0..AREAS).rev().find(|&i| exact[i] > 0).unwrap_or(0);
-    let past = std::array::from_fn(|i| if i < last { exact[i] } else { usize::MAX });
-    ways.push(Way { lengths: past, slots: Vec::new() });
-    ways
+    match lengths_of_tables(constants, random).get(at) {
+        Some(&slots) => Way { lengths: exact, slots: stale(slots, constants, random) },
+        None => {
+            // The last area that has a word ends where the memory does, whatever is said of it and of those behind it.
+            let last = (0..AREAS).rev().find(|&i| exact[i] > 0).unwrap_or(0);
+            let past = std::array::from_fn(|i| if i < last { exact[i] } else { usize::MAX });
+            Way { lengths: past, slots: Vec::new() }
+        }
+    }
+}
+
+/// Each of them.
+fn ways(call: &Call, wanted: &Answered, random: &mut Random) -> Vec<Way> {
+    (0..WAYS).map(|at| way(call, wanted, at, random)).collect()
+}
+
+/// One that is drawn.
+pub(crate) fn drawn_way(call: &Call, wanted: &Answered, random: &mut Random) -> Way {
+    let at = random.index(WAYS);
+    way(call, wanted, at, random)
 }
 
 /// Words before and after what is lent that no call may touch.
@@ -156,17 +160,14 @@ pub(crate) fn judge_in(side: &mut dyn OntoCalls, call: &Call, wanted: &Answered,
     memory.extend(BESIDE);
     let tree = call.words.clone();
     let replied = side.call(&call.order, &tree, call.strict, &way.lengths, &mut memory[BESIDE.len()..end]);
-    let mut expected = Replied { row: wanted.row, place: wanted.place, totals: wanted.totals };
-    if !side.counts_bundles() {
-        expected.totals.bundles = replied.totals.bundles;
-    }
+    let expected = Replied { row: wanted.row, place: wanted.place, totals: wanted.totals };
     if replied != expected {
         return Err(format!("replied {replied:?}, not {expected:?}"));
     }
     if !memory.starts_with(&BESIDE) || !memory.ends_with(&BESIDE) || tree != call.words {
         return Err("words beside the memory, or the bundle, were written".to_string());
     }
-    let slots = if is_unfit(wanted) { way.slots.clone() } else { vec![0; way.slots.len()] };
+    let slots = if wanted.is_unfit() { way.slots.clone() } else { vec![0; way.slots.len()] };
     match differing(&memory[BESIDE.len()..end], &wanted.areas, &slots) {
         None => Ok(()),
         Some(message) => Err(format!("row {}: {message}", expected.row)),
@@ -187,28 +188,16 @@ pub fn judge(side: &mut dyn OntoCalls, call: &Call) -> Result<Judged, String> {
     let answered = answered(&Reading::default(), call);
     let drawn = call.words.iter().fold(call.words.len() as u64, |sum, &word| sum.rotate_left(7) ^ word);
     let mut random = Random::for_case(drawn, call.areas.concat().len() as u64);
-    let mut ways = ways(call, &answered, &mut random);
-    if !side.is_lent_every_way() {
-        ways = vec![ways.swap_remove(random.index(ways.len()))];
-    }
+    let ways = match side.is_lent_every_way() {
+        true => ways(call, &answered, &mut random),
+        false => vec![drawn_way(call, &answered, &mut random)],
+    };
     for way in &ways {
         let table = format!("{} slots, lengths {:?}", way.slots.len(), way.lengths);
         judge_in(side, call, &answered, way).map_err(|message| format!("{message} ({table})"))?;
     }
     let slots = ways.iter().map(|way| way.slots.len() as u64).sum();
     Ok(Judged { answered, asked: ways.len() as u64, slots })
-}
-
-/// The call as a side has it: one that does not count bundles lays on, onto a program with a count that stands.
-pub fn as_known(side: &dyn OntoCalls, call: &Call) -> Option<Call> {
-    let order = match call.order {
-        Order::Fresh => return None,
-        order if side.counts_bundles() => order,
-        Order::Lay(totals) | Order::Trial(totals) | Order::Commit(totals, _) => {
-            Order::Lay(Totals { bundles: 1, ..totals })
-        }
-    };
-    Some(Call { order, ..call.clone() })
 }
 
 #[derive(Clone, Debug, Default)]
@@ -242,9 +231,11 @@ impl Compared {
     }
 
     fn seen(&mut self, side: &mut dyn OntoCalls, call: &Call, name: impl Fn() -> String) {
-        let Some(call) = as_known(side, call) else { return };
+        if call.order == Order::Fresh {
+            return;
+        }
         self.calls += 1;
-        let judged = match judge(side, &call) {
+        let judged = match judge(side, call) {
             Ok(judged) => judged,
             Err(message) => {
                 self.differences += 1;

@@ -4,14 +4,14 @@
 
 use crate::areas::{answer, area, Answer, Areas, Counts, Delivery, Lengths, Reply, AREAS, ENTRY_WORDS};
 use crate::onto::{Lent, Reading};
-use crate::onto_calls::{answered, as_known, judge, lengths_of, OntoCalls};
+use crate::onto_calls::{answered, judge, OntoCalls};
 use crate::onto_real::{Grown, Kept, Laid};
 use crate::onto_seen::Seen;
 use crate::random::Random;
 use crate::real::Outcome;
 use crate::records::{kind, records, words, Record, MAX_TEXT};
 use crate::shape::check;
-use crate::standing::{entries_of, fresh, program_check, Answered, Call, Order, Totals, PROGRAM_PLACE};
+use crate::standing::{entries_of, program_check, Answered, Call, Order, Totals, PROGRAM_PLACE, TOTALS_DIFFER};
 use crate::standing_calls::{bundle, damaged, shelf, Program, ROOMY};
 
 const BOOK_TWICE: u64 = 5;
@@ -45,10 +45,20 @@ pub trait KeptProgram {
     /// The least program, in place of the one that was kept.
     fn start(&mut self);
 
+    /// What a bundle by itself compiles to, in its place: row and place.
+    fn compile(&mut self, tree: &[u64], strict: bool) -> (u64, u64);
+
     /// Lays a bundle on: row and place.
     fn lay_on(&mut self, tree: &[u64], strict: bool) -> (u64, u64);
 
-    /// The program as words: the twelve totals, entry point, number of global dependencies, and each area's entries.
+    /// Tries a bundle: the totals that the program would have, or row and place. The trial is kept for the commit.
+    fn trial(&mut self, tree: &[u64], strict: bool) -> Result<Totals, (u64, u64)>;
+
+    /// Lays a bundle on as the last trial said: row and place.
+    fn commit(&mut self, tree: &[u64], strict: bool) -> (u64, u64);
+
+    /// The program as words: the twelve totals, entry point, numbers of global dependencies and of bundles, and each area's
+    /// entries.
     fn saved(&self) -> Vec<u64>;
 
     /// Goes on with a program of these words.
@@ -71,8 +81,49 @@ impl Ours<'_> {
 
 /// The words that a side must save of a program.
 fn saved(program: &Program) -> Vec<u64> {
-    let Totals { areas, entry_point, globals, .. } = program.totals;
-    [&areas[..], &[entry_point, globals], &program.entries.concat()].concat()
+    let Totals { areas, entry_point, globals, bundles } = program.totals;
+    [&areas[..], &[entry_point, globals, bundles], &program.entries.concat()].concat()
+}
+
+/// A bundle tried and then committed on a program that is kept: row and place. The trial must leave the program, and answer the
+/// totals of the one that comes of it.
+fn tried_and_committed(
+    kept: &mut dyn KeptProgram,
+    tree: &[u64],
+    strict: bool,
+    after: &Totals,
+) -> Result<(u64, u64), String> {
+    let before = kept.saved();
+    let tried = kept.trial(tree, strict);
+    if kept.saved() != before {
+        return Err("the program that is kept is another after a trial".to_string());
+    }
+    match tried {
+        Err(refusal) => Ok(refusal),
+        Ok(totals) if totals != (Totals { bundles: after.bundles - 1, ..*after }) => {
+            Err(format!("a trial on the program that is kept answers {totals:?}, before {after:?}"))
+        }
+        Ok(_) => Ok(kept.commit(tree, strict)),
+    }
+}
+
+/// A trial of nothing, and a commit of a book in its place, on a program that is kept: refused by row 13 with the program as it
+/// stood.
+fn commits_another(kept: &mut dyn KeptProgram, program: &Program) -> Result<(), String> {
+    let books = &program.entries[area::BOOKS - 1];
+    let Some(&stands) = books.first() else { return Ok(()) };
+    let added = (1..=MAX_TEXT).find(|file| !books.contains(file)).expect("there are not so many books");
+    let alone = |file| [kind::DOCUMENT, 1, 0, file];
+    let before = kept.saved();
+    let tried = kept.trial(&alone(stands), false);
+    if tried != Ok(program.totals) {
+        return Err(format!("a trial of a book that stands answers {tried:?} on the program that is kept"));
+    }
+    let replied = kept.commit(&alone(added), false);
+    if replied != (TOTALS_DIFFER, 0) || kept.saved() != before {
+        return Err(format!("a commit of another bundle answers {replied:?}, or changes the program that is kept"));
+    }
+    Ok(())
 }
 
 /// A sequence of bundles laid on one program, held against the Rust.
@@ -124,19 +175,21 @@ impl<'a> Sequence<'a> {
     /// The reading's answer to a call; the library's must be the right reading's.
     fn answers(&mut self, call: &Call) -> Result<Answered, String> {
         if let Some(ours) = &mut self.ours {
-            if let Some(call) = as_known(ours.calls, call) {
-                let judged = judge(ours.calls, &call).map_err(|message| format!("the library {message}"))?;
-                self.seen.asked += judged.asked;
-            }
+            let judged = judge(ours.calls, call).map_err(|message| format!("the library {message}"))?;
+            self.seen.asked += judged.asked;
         }
         Ok(answered(&self.reading, call))
     }
 
-    /// The bundle onto the program that the library's side keeps: row and place as the Rust has them, and then the words of the
-    /// reading's program.
-    fn keeps(&mut self, tree: &[u64], strict: bool, wanted: (u64, u64)) -> Result<(), String> {
+    /// The bundle onto the program that the library's side keeps, or as a fresh one: row and place as the Rust has them, and then
+    /// the words of the reading's program.
+    fn keeps(&mut self, tree: &[u64], strict: bool, is_fresh: bool, wanted: (u64, u64)) -> Result<(), String> {
         let Some(ours) = &mut self.ours else { return Ok(()) };
-        let replied = ours.kept.lay_on(tree, strict);
+        let replied = match is_fresh {
+            true => ours.kept.compile(tree, strict),
+            false if self.random.chance(500) => ours.kept.lay_on(tree, strict),
+            false => tried_and_committed(ours.kept, tree, strict, &self.program.totals)?,
+        };
         if replied != wanted {
             return Err(format!("the program that is kept answers {replied:?}, not {wanted:?}"));
         }
@@ -148,6 +201,9 @@ impl<'a> Sequence<'a> {
         // Now and then as somebody else who loads it.
         if self.random.chance(300) {
             ours.kept.load(&words)?;
+        }
+        if self.random.chance(200) {
+            commits_another(ours.kept, &self.program)?;
         }
         Ok(())
     }
@@ -255,6 +311,7 @@ impl<'a> Sequence<'a> {
             totals: answered.totals.areas,
             entry_point: answered.totals.entry_point,
             globals: answered.totals.globals,
+            bundles: answered.totals.bundles,
         };
         let Answer::Delivered(ours) = answer(&reply, &answered.areas) else { unreachable!("row 0 delivers") };
         if ours != *theirs {
@@ -297,7 +354,7 @@ impl<'a> Sequence<'a> {
     /// The trial of a call, and commits that are stale or have other totals; answers the commit to make.
     fn tried(&mut self, call: &Call, totals: &Totals, rust: &Answer) -> Result<Call, String> {
         let trial = Call { order: Order::Trial(*totals), ..call.clone() };
-        let reported = answered(&self.reading, &trial);
+        let reported = self.answers(&trial)?;
         let laid = self.answers(call)?;
         self.seen.trials += 1;
         self.is_kept(&trial, totals, &reported)?;
@@ -312,7 +369,7 @@ impl<'a> Sequence<'a> {
             let stale = [0, totals.bundles - 1, totals.bundles + 1, u64::MAX];
             let bundles = self.random.pick(&stale);
             let other = Call { order: Order::Commit(*totals, Totals { bundles, ..reported.totals }), ..call.clone() };
-            let refused = answered(&self.reading, &other);
+            let refused = self.answers(&other)?;
             self.refuses(&other, totals, &refused, (12, totals.bundles), &[])?;
         }
         if self.random.chance(300) {
@@ -323,7 +380,7 @@ impl<'a> Sequence<'a> {
                 _ => other.areas[self.random.pick(&[1, 2, 3, 6, 11])] += 1,
             }
             let other = Call { order: Order::Commit(*totals, other), ..call.clone() };
-            let refused = answered(&self.reading, &other);
+            let refused = self.answers(&other)?;
             match rust {
                 Answer::Delivered(_) => self.refuses(&other, totals, &refused, (13, 0), &[])?,
                 Answer::Refused { row, place, errors } => {
@@ -332,7 +389,12 @@ impl<'a> Sequence<'a> {
             }
         }
         self.seen.commits += 1;
-        Ok(Call { order: Order::Commit(*totals, reported.totals), ..call.clone() })
+        let mut trial = reported.totals;
+        if self.random.chance(300) {
+            // One that line 1 does not show.
+            trial.areas[self.random.pick(&[0, 4, 5, 7, 8, 9, 10])] = self.random.next();
+        }
+        Ok(Call { order: Order::Commit(*totals, trial), ..call.clone() })
     }
 
     /// With one area an entry shorter than the work needs.
@@ -395,7 +457,7 @@ impl<'a> Sequence<'a> {
                 let file_alone = Kept { files: kept.files, ..Kept::default() };
                 self.seen.half_books += u64::from(kept != file_alone);
                 self.seen.half_changed += u64::from(kept.methods_changed || kept.entry_point_changed);
-                self.keeps(tree, strict, (*row, *place))
+                self.keeps(tree, strict, false, (*row, *place))
             }
             Answer::Delivered(theirs) => {
                 self.delivers(&call, &totals, &answered, theirs)?;
@@ -404,7 +466,7 @@ impl<'a> Sequence<'a> {
                     return Err(format!("the work uses {peaks:?} entries, not {:?}", answered.totals.areas));
                 }
                 self.grows(laid, &answered, theirs.clone())?;
-                self.keeps(tree, strict, (0, 0))
+                self.keeps(tree, strict, false, (0, 0))
             }
         }
     }
@@ -437,13 +499,12 @@ impl<'a> Sequence<'a> {
         let laid = self.grown.lay(tree, false);
         let Outcome::Answer(Answer::Delivered(theirs)) = &laid.outcome else { return Ok(()) };
         let theirs = theirs.clone();
-        let areas = lengths_for(&mut self.random, &peaks).map(|length| vec![0; length]);
-        let first = fresh(tree, false, &lengths_of(&areas));
-        let totals = Totals { bundles: 0, ..Totals::default() };
+        let areas = lengths_for(&mut self.random, &peaks).map(|length| vec![0xA5A5; length]);
         let call = Call { order: Order::Fresh, words: tree.to_vec(), strict: false, areas };
-        self.delivers(&call, &totals, &first, &theirs)?;
+        let first = self.answers(&call)?;
+        self.delivers(&call, &Totals::default(), &first, &theirs)?;
         self.grows(laid, &first, theirs)?;
-        self.keeps(tree, false, (0, 0))
+        self.keeps(tree, false, true, (0, 0))
     }
 
     /// Rows 2 to 5 are not the Rust's.
@@ -453,7 +514,7 @@ impl<'a> Sequence<'a> {
         let call = Call { order: Order::Lay(totals), words: tree.to_vec(), strict: false, areas };
         let answered = self.answers(&call)?;
         self.refuses(&call, &totals, &answered, row, &[])?;
-        self.keeps(tree, false, row)
+        self.keeps(tree, false, false, row)
     }
 
     pub(crate) fn bundle(&mut self, tree: &[u64], strict: bool) -> Result<(), String> {

@@ -1,16 +1,18 @@
 //! Stored cases of laying on (02, 2026-01) for a program that replays them with no Rust at hand; sample/README.md says their form.
-//! Both readings agree on each, and where a program is made by bundles the Rust was asked too.
+//! Both readings agree on each, and where a program is made by bundles the Rust was asked too. Those of trial and commit are in
+//! onto_trial_sample.rs.
 
 use crate::areas::{area, Areas, Counts, Lengths, AREAS, ENTRY_WORDS};
 use crate::onto::{Lent, Reading};
 use crate::onto_calls::{answered, judge, Standing};
 use crate::onto_grown::{Look, Sequence};
 use crate::onto_seen::Seen;
+use crate::onto_trial_sample::{add_commits, add_trials};
 use crate::pieces::{absent, apply, document, function, identifier, include, leaf, locals, named, statement};
 use crate::random::Random;
 use crate::records::{flatten, kind, Node, MAIN, MAX_TEXT};
 use crate::sample::{numbers, prefix};
-use crate::standing::{Answered, Call, Order, Totals, PROGRAM_PLACE};
+use crate::standing::{entries_of, Answered, Call, Order, Totals, MOST_BUNDLES, PROGRAM_PLACE};
 use crate::standing_calls::{calls, Program, ROOMY};
 use std::collections::BTreeSet;
 
@@ -19,8 +21,8 @@ const SEED: u64 = 2026;
 const CASE_BYTES: usize = 8_000;
 const CASE_NUMBERS: usize = 1_000;
 const CASE_MEMORY: usize = 6_000;
-/// For the generated cases; the pieces are always taken.
-const GENERATED_BYTES: usize = 50_000;
+/// For the generated cases of laying on, of trial and of commit; the pieces are always taken.
+const GENERATED_BYTES: [usize; 3] = [50_000, 8_000, 8_000];
 /// The number of the 41s in every piece.
 const THIS: u64 = 7;
 
@@ -64,11 +66,11 @@ fn touching() -> Vec<Node> {
 }
 
 /// A bundle, and the bundles that make the program that it is laid onto.
-struct Piece {
-    name: &'static str,
-    stands: Vec<Vec<Node>>,
-    bundle: Vec<Node>,
-    strict: bool,
+pub(crate) struct Piece {
+    pub(crate) name: &'static str,
+    pub(crate) stands: Vec<Vec<Node>>,
+    pub(crate) bundle: Vec<Node>,
+    pub(crate) strict: bool,
 }
 
 /// Pieces onto the library, in the present mode.
@@ -135,7 +137,7 @@ fn strictly() -> Vec<(&'static str, Vec<Node>)> {
     ]
 }
 
-fn pieces() -> Vec<Piece> {
+pub(crate) fn pieces() -> Vec<Piece> {
     let piece = |strict| move |(name, bundle)| Piece { name, stands: vec![vec![library()]], bundle, strict };
     let mut out: Vec<Piece> = onto_library().into_iter().map(piece(false)).collect();
     out.extend(strictly().into_iter().map(piece(true)));
@@ -155,20 +157,19 @@ fn pieces() -> Vec<Piece> {
 // Programs.
 
 /// What the bundles make, one after the other.
-fn grown(stands: &[Vec<Node>]) -> Program {
+pub(crate) fn grown(stands: &[Vec<Node>]) -> Program {
     stands.iter().fold(Program::least(), |program, bundle| {
         let lengths = std::array::from_fn(|i| program.entries[i].len() + 60 * ENTRY_WORDS[i]);
         let (areas, totals) = (program.lent(&lengths), program.totals);
         let call = Call { order: Order::Lay(totals), words: flatten(bundle), strict: false, areas };
         let answered = answered(&Reading::default(), &call);
         assert_eq!(answered.row, 0, "a standing program is delivered");
-        let totals = Totals { bundles: 1, ..answered.totals };
-        Program { entries: crate::standing::entries_of(&answered.areas, &totals), totals }
+        Program { entries: entries_of(&answered.areas, &answered.totals), totals: answered.totals }
     })
 }
 
 /// Areas with room for so many entries and a tail shorter than one; area 11 holds old errors.
-fn lent(program: &Program, entries: &Counts) -> (Areas, Totals) {
+pub(crate) fn lent(program: &Program, entries: &Counts) -> (Areas, Totals) {
     let lengths: Lengths = std::array::from_fn(|i| entries[i] as usize * ENTRY_WORDS[i] + ENTRY_WORDS[i] - 1);
     let mut areas = program.lent(&lengths);
     areas[area::ERRORS - 1].fill(5);
@@ -178,7 +179,7 @@ fn lent(program: &Program, entries: &Counts) -> (Areas, Totals) {
 }
 
 /// The most entries that the work uses in each area.
-fn peaks(program: &Program, words: &[u64], strict: bool) -> Counts {
+pub(crate) fn peaks(program: &Program, words: &[u64], strict: bool) -> Counts {
     let areas = program.lent(&[0; AREAS]);
     let lent = Lent { areas: &areas, totals: &program.totals };
     let (peaks, _) = Reading::default().needs(words, strict, lent, ROOMY);
@@ -188,7 +189,7 @@ fn peaks(program: &Program, words: &[u64], strict: bool) -> Counts {
 /// One word of a program, or one of its totals, otherwise.
 type Damage = (&'static str, fn(&mut Areas, &mut Totals));
 
-const DAMAGES: [Damage; 19] = [
+const DAMAGES: [Damage; 24] = [
     ("an unknown opcode", |areas, _| areas[0][0] = 0xFF << 56),
     ("a constant past the pool", |areas, totals| areas[0][0] = 0x02 << 56 | totals.of(area::CONSTANTS)),
     ("null is a boolean", |areas, _| areas[1][0] = 1),
@@ -210,6 +211,11 @@ const DAMAGES: [Damage; 19] = [
     ("a break", |_, totals| totals.areas[9] = 1),
     ("a file twice", |areas, _| areas[11][1] = areas[11][0]),
     ("a file that is no text", |areas, _| areas[11][0] = MAX_TEXT + 1),
+    ("no bundle", |_, totals| totals.bundles = 0),
+    ("the most bundles", |_, totals| totals.bundles = MOST_BUNDLES),
+    ("a bundle too many", |_, totals| totals.bundles = MOST_BUNDLES + 1),
+    ("bundles past 32 bits", |_, totals| totals.bundles = u64::MAX),
+    ("a scope name before the bundles", |_, totals| (totals.areas[8], totals.bundles) = (1, 0)),
     ("any words as area 11", |areas, totals| {
         areas[10].fill(u64::MAX);
         totals.areas[10] = u64::MAX;
@@ -217,7 +223,7 @@ const DAMAGES: [Damage; 19] = [
 ];
 
 /// A program that no bundle makes: repeated constants, code in no function and in two, a function that starts nowhere.
-fn odd() -> Program {
+pub(crate) fn odd() -> Program {
     let mut entries = Areas::default();
     entries[area::CODE - 1] = vec![0x07 << 56, 0, 0x01 << 56 | 5, 0, 0x06 << 56 | 1 << 40, 0];
     entries[area::CONSTANTS - 1] =
@@ -235,33 +241,49 @@ fn odd() -> Program {
 
 fn totals_of(call: &Call) -> Totals {
     match call.order {
-        Order::Lay(totals) => totals,
-        other => unreachable!("a stored case lays on, not {other:?}"),
+        Order::Lay(totals) | Order::Trial(totals) | Order::Commit(totals, _) => totals,
+        Order::Fresh => unreachable!("a stored case is on a program"),
     }
 }
 
 fn words_of(totals: &Totals) -> impl Iterator<Item = u64> {
-    totals.areas.into_iter().chain([totals.entry_point, totals.globals])
+    totals.areas.into_iter().chain([totals.entry_point, totals.globals, totals.bundles])
 }
 
-/// Bundle, mode, lengths, the totals and the areas that are lent; reply, and the areas that are left.
+/// Bundle, mode, lengths, the totals that are lent, of a commit those of its trial, the areas that are lent; reply, and the areas
+/// that are left.
 fn written(call: &Call, answered: &Answered) -> String {
     let list = |words: &[u64]| numbers(std::iter::once(words.len() as u64).chain(words.iter().copied()));
     let mut lines = vec![list(&call.words), u64::from(call.strict).to_string()];
     lines.push(numbers(call.areas.iter().map(|area| area.len() as u64)));
     lines.push(numbers(words_of(&totals_of(call))));
+    if let Order::Commit(_, trial) = &call.order {
+        lines.push(numbers(words_of(trial)));
+    }
     lines.extend(call.areas.iter().map(|area| prefix(area)));
     lines.push(numbers([answered.row, answered.place].into_iter().chain(words_of(&answered.totals))));
     lines.extend(answered.areas.iter().map(|area| prefix(area)));
     lines.join("\n") + "\n"
 }
 
-#[derive(Default)]
-struct Collected {
-    names: Vec<String>,
-    cases: Vec<String>,
+/// The stored cases of one call.
+pub struct Cases {
+    /// How the files of these cases begin, and the names of the cases.
+    pub stem: &'static str,
+    call: &'static str,
+    pub names: Vec<String>,
+    pub cases: Vec<String>,
     features: BTreeSet<String>,
 }
+
+impl Cases {
+    fn of(stem: &'static str, call: &'static str) -> Cases {
+        Cases { stem, call, names: Vec::new(), cases: Vec::new(), features: BTreeSet::new() }
+    }
+}
+
+/// Those of laying on, of trial and of commit.
+pub(crate) struct Collected([Cases; 3]);
 
 /// What a case shows.
 fn features(call: &Call, answered: &Answered) -> BTreeSet<String> {
@@ -290,15 +312,25 @@ fn features(call: &Call, answered: &Answered) -> BTreeSet<String> {
     found
 }
 
+fn index_of(order: &Order) -> usize {
+    match order {
+        Order::Lay(_) => 0,
+        Order::Trial(_) => 1,
+        Order::Commit(..) => 2,
+        Order::Fresh => unreachable!("a stored case is on a program"),
+    }
+}
+
 impl Collected {
     /// Both readings must answer alike.
-    fn add(&mut self, name: &str, call: &Call) {
+    pub(crate) fn add(&mut self, name: &str, call: &Call) {
         let answered = judge(&mut Standing, call).unwrap_or_else(|message| panic!("{name}: {message}")).answered;
-        self.features.extend(features(call, &answered));
-        self.names.push(format!("laying on: {name}: row {}, place {}", answered.row, answered.place));
+        let cases = &mut self.0[index_of(&call.order)];
+        cases.features.extend(features(call, &answered));
+        cases.names.push(format!("{}: {name}: row {}, place {}", cases.call, answered.row, answered.place));
         let text = written(call, &answered);
         assert!(fits(call, &text), "{name}");
-        self.cases.push(text);
+        cases.cases.push(text);
     }
 }
 
@@ -385,25 +417,44 @@ fn add_odd(collected: &mut Collected) {
     }
 }
 
+/// The call itself, and a trial or commit as laying on too.
+fn as_laid(call: Call) -> Vec<Call> {
+    match call.order {
+        Order::Fresh => Vec::new(),
+        Order::Lay(_) => vec![call],
+        Order::Trial(totals) | Order::Commit(totals, _) => {
+            vec![Call { order: Order::Lay(totals), ..call.clone() }, call]
+        }
+    }
+}
+
 /// Generated cases that show something new, as long as there is room.
 fn add_generated(collected: &mut Collected) {
     let mut room = GENERATED_BYTES;
     for index in 0..3000 {
-        for (at, call) in calls(SEED, index).into_iter().enumerate() {
-            let (Order::Lay(totals) | Order::Trial(totals) | Order::Commit(totals, _)) = call.order else { continue };
-            let call = Call { order: Order::Lay(Totals { bundles: 1, ..totals }), ..call };
+        let numbered = calls(SEED, index).into_iter().enumerate();
+        for (at, call) in numbered.flat_map(|(at, call)| as_laid(call).into_iter().map(move |call| (at, call))) {
             let answered = answered(&Reading::default(), &call);
-            let text = written(&call, &answered);
-            let is_new = !features(&call, &answered).is_subset(&collected.features);
-            if is_new && fits(&call, &text) && text.len() <= room {
-                room -= text.len();
+            let (text, which) = (written(&call, &answered), index_of(&call.order));
+            let is_new = !features(&call, &answered).is_subset(&collected.0[which].features);
+            if is_new && fits(&call, &text) && text.len() <= room[which] {
+                room[which] -= text.len();
                 collected.add(&format!("seed {SEED} sequence {index} call {at}"), &call);
             }
         }
     }
 }
 
-/// What the cases must show, whatever they were drawn from.
+/// What the cases of trial and of commit must show.
+fn demanded_on_trial(rows: &[u64]) -> Vec<String> {
+    let mut out: Vec<String> = rows.iter().map(|row| format!("row {row}")).collect();
+    out.extend(["strict, row 0", "strict, row 11", "books 0", "moved"].map(String::from));
+    out.extend([area::CODE, area::METHODS, area::BOOKS].map(|area| format!("full {area}")));
+    out.extend([area::FUNCTIONS, area::BOOKS].map(|area| format!("unfit {area}")));
+    out
+}
+
+/// What those of laying on must show, whatever they were drawn from.
 fn demanded() -> Vec<String> {
     let mut out: Vec<String> = [0, 2, 3, 4, 5, 6, 7, 8].map(|row| format!("row {row}")).to_vec();
     out.extend(["strict, row 0", "strict, row 11", "marked", "replaced", "moved", "books 0"].map(String::from));
@@ -412,17 +463,24 @@ fn demanded() -> Vec<String> {
     out
 }
 
-/// Names and texts of the cases.
-pub fn cases() -> (Vec<String>, Vec<String>) {
-    let mut collected = Collected::default();
+/// The cases of laying on, of trial and of commit.
+pub fn cases() -> [Cases; 3] {
+    let of = |(stem, call)| Cases::of(stem, call);
+    let mut collected = Collected([("onto", "laying on"), ("trial", "trial"), ("commit", "commit")].map(of));
     add_pieces(&mut collected);
     add_damages(&mut collected);
     add_odd(&mut collected);
+    add_trials(&mut collected);
+    add_commits(&mut collected);
     add_generated(&mut collected);
-    for feature in demanded() {
-        assert!(collected.features.contains(&feature), "no case of laying on shows {feature}");
+    let rows = [0, 2, 3, 4, 5, 6, 7, 8, 12, 13];
+    let demanded = [demanded(), demanded_on_trial(&rows[..8]), demanded_on_trial(&rows)];
+    for (cases, demanded) in collected.0.iter().zip(demanded) {
+        for feature in demanded {
+            assert!(cases.features.contains(&feature), "no case of {} shows {feature}", cases.call);
+        }
     }
-    (collected.names, collected.cases)
+    collected.0
 }
 
 #[cfg(test)]

@@ -12,7 +12,7 @@ use crate::standing::{Order, Totals as Standing};
 use crate::strict_calls::Modes;
 use crate::table_calls::TableCalls;
 use crate::views::Answered;
-use clover_back_end::{calls, Converted, Mode, StandingProgram, Totals};
+use clover_back_end::{calls, Converted, Mode, Refusal, StandingProgram, Totals, Trial, TrialTotals};
 
 pub struct Library;
 
@@ -68,18 +68,18 @@ impl TableCalls for Library {
     }
 }
 
-/// The number of bundles, which no call of this layout has (2026-08), left out.
 fn crates(totals: &Standing) -> Totals {
     let mut words = [0; Totals::WORDS];
     words[..AREAS].copy_from_slice(&totals.areas);
-    words[AREAS..].copy_from_slice(&[totals.entry_point, totals.globals]);
+    words[AREAS..].copy_from_slice(&[totals.entry_point, totals.globals, totals.bundles]);
     Totals::from_words(words)
 }
 
 fn standing(totals: Totals) -> Standing {
     let words = totals.words();
     let areas = std::array::from_fn(|i| words[i]);
-    Standing { areas, entry_point: totals.entry_point, globals: totals.global_dependencies, bundles: 0 }
+    let Totals { entry_point, global_dependencies: globals, bundles, .. } = totals;
+    Standing { areas, entry_point, globals, bundles }
 }
 
 fn mode(strict: bool) -> Mode {
@@ -97,16 +97,20 @@ impl ProgramCalls for Library {
     }
 }
 
-/// `clover_lay_on`; the library has no trial and no commit (2026-08).
+/// `clover_lay_on`, `clover_trial` and `clover_commit`, and for a fresh program `clover_compile`.
 impl OntoCalls for Library {
     fn call(&mut self, order: &Order, tree: &[u64], strict: bool, lengths: &Lengths, memory: &mut [u64]) -> Replied {
-        let Order::Lay(totals) = order else { unimplemented!("the library has no call for {order:?}") };
-        let reply = calls::lay_on(mode(strict), tree, crates(totals), *lengths, memory).reply;
+        let mode = mode(strict);
+        let reply = match order {
+            Order::Fresh => calls::compile_in(mode, tree, *lengths, memory).reply,
+            Order::Lay(totals) => calls::lay_on(mode, tree, crates(totals), *lengths, memory).reply,
+            Order::Trial(totals) => calls::trial(mode, tree, crates(totals), *lengths, memory).reply,
+            Order::Commit(totals, trial) => {
+                let trial = TrialTotals(crates(trial));
+                calls::commit(mode, tree, crates(totals), trial, *lengths, memory).reply
+            }
+        };
         Replied { row: reply.number, place: reply.place, totals: standing(reply.totals) }
-    }
-
-    fn counts_bundles(&self) -> bool {
-        false
     }
 
     fn is_lent_every_way(&self) -> bool {
@@ -114,13 +118,20 @@ impl OntoCalls for Library {
     }
 }
 
-/// A program that the crate keeps.
-pub struct LibraryProgram(StandingProgram);
+/// A program that the crate keeps, and its last trial.
+pub struct LibraryProgram {
+    program: StandingProgram,
+    trial: Option<Trial>,
+}
 
 impl Default for LibraryProgram {
     fn default() -> LibraryProgram {
-        LibraryProgram(StandingProgram::least())
+        LibraryProgram { program: StandingProgram::least(), trial: None }
     }
+}
+
+fn replied(result: Result<(), Refusal>) -> (u64, u64) {
+    result.map_or_else(|refusal| (refusal.row(), refusal.place()), |()| (0, 0))
 }
 
 impl KeptProgram for LibraryProgram {
@@ -128,19 +139,32 @@ impl KeptProgram for LibraryProgram {
         *self = LibraryProgram::default();
     }
 
+    fn compile(&mut self, tree: &[u64], strict: bool) -> (u64, u64) {
+        replied(StandingProgram::compiled(tree, mode(strict)).map(|program| self.program = program))
+    }
+
     fn lay_on(&mut self, tree: &[u64], strict: bool) -> (u64, u64) {
-        let laid = self.0.lay_on(tree, mode(strict));
-        laid.map_or_else(|refusal| (refusal.row(), refusal.place()), |()| (0, 0))
+        replied(self.program.lay_on(tree, mode(strict)))
+    }
+
+    fn trial(&mut self, tree: &[u64], strict: bool) -> Result<Standing, (u64, u64)> {
+        let trial = self.program.trial(tree, mode(strict)).map_err(|refusal| replied(Err(refusal)))?;
+        Ok(standing(self.trial.insert(trial).totals()))
+    }
+
+    fn commit(&mut self, tree: &[u64], strict: bool) -> (u64, u64) {
+        let trial = self.trial.take().expect("a trial that was not committed");
+        replied(self.program.commit(tree, mode(strict), trial))
     }
 
     /// Without the layout.
     fn saved(&self) -> Vec<u64> {
-        self.0.to_words().split_off(1)
+        self.program.to_words().split_off(1)
     }
 
     fn load(&mut self, words: &[u64]) -> Result<(), String> {
         let words = [&[calls::LAYOUT][..], words].concat();
-        self.0 = StandingProgram::from_words(&words).map_err(|error| error.to_string())?;
+        self.program = StandingProgram::from_words(&words).map_err(|error| error.to_string())?;
         Ok(())
     }
 }

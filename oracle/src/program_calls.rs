@@ -5,7 +5,7 @@ use crate::areas::{area, Areas, Lengths, AREAS, ENTRY_WORDS};
 use crate::parts::Part;
 use crate::random::Random;
 use crate::records::MAX_TEXT;
-use crate::standing::{program_check, Totals, BAD_SHAPE, PROGRAM_PLACE};
+use crate::standing::{program_check, Totals, BAD_SHAPE, MOST_BUNDLES, PROGRAM_PLACE};
 use crate::standing_calls::{damaged, each_damage, odd, sample, Program};
 
 /// A side: row and place.
@@ -24,9 +24,8 @@ fn split(memory: &[u64], lengths: &Lengths) -> Areas {
     })
 }
 
-/// No call takes the number of bundles yet (2026-08): it is one that stands.
 fn reading(areas: &Areas, totals: &Totals) -> [u64; 2] {
-    match program_check(areas, &Totals { bundles: 1, ..*totals }) {
+    match program_check(areas, totals) {
         Some(number) => [BAD_SHAPE, PROGRAM_PLACE + number as u64],
         None => [0, 0],
     }
@@ -132,11 +131,16 @@ pub fn compare(side: &mut dyn ProgramCalls, seed: u64, count: u64) -> Compared {
 
 /// Bytes of the stored cases that the program reads at most.
 const STORED: usize = 60_000;
-/// Numbers of a case before the words: the twelve totals, the entry point, the number of global dependencies, twelve lengths.
+/// Numbers of a case before the words: the twelve totals, the entry point, the numbers of global dependencies and of bundles,
+/// twelve lengths.
 const ENTRY_POINT: usize = 12;
 const GLOBALS: usize = 13;
-const LENGTHS: usize = 14;
-const WORDS: usize = 26;
+const BUNDLES: usize = 14;
+const LENGTHS: usize = 15;
+const WORDS: usize = 27;
+
+/// Numbers of bundles at their limits.
+const COUNTS: [u64; 8] = [0, 1, 2, MOST_BUNDLES - 1, MOST_BUNDLES, MOST_BUNDLES + 1, MOST_BUNDLES + 2, u64::MAX];
 
 /// A stored program: the numbers of its line.
 struct Stored {
@@ -153,9 +157,8 @@ impl Stored {
         });
         let totals = &program.totals;
         let lengths = areas.each_ref().map(|area| area.len() as u64);
-        let numbers =
-            [&totals.areas[..], &[totals.entry_point, totals.globals], &lengths, &areas.concat(), &[9, 9]].concat();
-        Stored { numbers }
+        let beside = [totals.entry_point, totals.globals, totals.bundles];
+        Stored { numbers: [&totals.areas[..], &beside, &lengths, &areas.concat(), &[9, 9]].concat() }
     }
 
     fn answer(numbers: &[u64]) -> [u64; 2] {
@@ -163,7 +166,7 @@ impl Stored {
             areas: std::array::from_fn(|i| numbers[i]),
             entry_point: numbers[ENTRY_POINT],
             globals: numbers[GLOBALS],
-            bundles: 1,
+            bundles: numbers[BUNDLES],
         };
         let lengths: Lengths = std::array::from_fn(|i| numbers[LENGTHS + i] as usize);
         reading(&split(&numbers[WORDS..], &lengths), &totals)
@@ -333,6 +336,9 @@ pub fn stored() -> Part {
     numbers(&mut lines, "entry point", ENTRY_POINT);
     numbers(&mut lines, "global dependencies", GLOBALS);
     let edits = |lines: &mut Lines, label: &str, edits: &[(usize, u64)]| lines.edit(label, &small, edits);
+    for count in COUNTS {
+        edits(&mut lines, &format!("bundles {count}"), &[(BUNDLES, count)]);
+    }
     for opcode in (0..=0x58).chain([0xFF]) {
         // In no function, with operand 0.
         let at = small.at(area::CODE, 10, 0);
@@ -344,6 +350,10 @@ pub fn stored() -> Part {
     edits(&mut lines, "two keys of methods apart", &[(word(area::METHODS, 2, 1), 7)]);
     edits(&mut lines, "two keys of public names apart", &[(word(area::PUBLIC, 2, 1), 7)]);
     edits(&mut lines, "area 1 before area 12", &[(word(area::BOOKS, 1, 0), 8), (word(area::CODE, 0, 0), 0)]);
+    edits(&mut lines, "area 1 before the bundles", &[(BUNDLES, 0), (word(area::CODE, 0, 0), 0)]);
+    edits(&mut lines, "area 10 before the bundles", &[(BUNDLES, MOST_BUNDLES + 1), (area::BREAKS - 1, 1)]);
+    edits(&mut lines, "a book and the bundles", &[(BUNDLES, u64::MAX), (word(area::BOOKS, 1, 0), 8)]);
+    edits(&mut lines, "area 11 and the most bundles", &[(BUNDLES, MOST_BUNDLES), (area::ERRORS - 1, u64::MAX)]);
     edits(&mut lines, "area 6 before area 8", &[(word(area::METHODS, 2, 1), 7), (word(area::PUBLIC, 2, 1), 7)]);
     edits(
         &mut lines,
@@ -451,7 +461,7 @@ mod tests {
 
     #[test]
     fn planted_faults_are_seen() {
-        let faults: [Fault; 9] = [
+        let faults: [Fault; 13] = [
             // The area beside.
             |_, _, answer| answer[1] += u64::from(answer[1] == PROGRAM_PLACE + 7),
             |_, _, answer| answer[0] = 0,
@@ -493,6 +503,15 @@ mod tests {
                 let reads = areas[area::CODE - 1].iter().step_by(2).any(|&word| word == 0x07 << 56);
                 if answer[0] == 0 && reads {
                     *answer = [BAD_SHAPE, PROGRAM_PLACE + 1];
+                }
+            },
+            // The number of bundles not looked at, one too many let through, one too few, and looked at ahead of the areas.
+            |_, totals, _| totals.bundles = 1,
+            |_, totals, _| totals.bundles -= u64::from(totals.bundles == MOST_BUNDLES + 1),
+            |_, totals, _| totals.bundles += u64::from(totals.bundles == MOST_BUNDLES),
+            |_, totals, answer| {
+                if !(1..=MOST_BUNDLES).contains(&totals.bundles) {
+                    *answer = [BAD_SHAPE, PROGRAM_PLACE + area::BOOKS as u64];
                 }
             },
         ];

@@ -352,9 +352,10 @@ pub fn files() -> Files {
     let (strict, cases) = strict_cases();
     split(&mut files, "strict", &cases);
     files.insert("strict.txt".to_string(), (strict.join("\n") + "\n").into_bytes());
-    let (laid, cases) = onto_sample::cases();
-    split(&mut files, "onto", &cases);
-    files.insert("onto.txt".to_string(), (laid.join("\n") + "\n").into_bytes());
+    for stored in onto_sample::cases() {
+        split(&mut files, stored.stem, &stored.cases);
+        files.insert(format!("{}.txt", stored.stem), (stored.names.join("\n") + "\n").into_bytes());
+    }
     split(&mut files, "to-records", &column_cases());
     split(&mut files, "to-column", &line_cases());
     add_listings(&mut files);

@@ -62,6 +62,13 @@ pub struct Answered {
     pub areas: Areas,
 }
 
+impl Answered {
+    /// Whether the program check refused: "All memory and totals then stay as lent".
+    pub fn is_unfit(&self) -> bool {
+        self.row == BAD_SHAPE && self.place > PROGRAM_PLACE
+    }
+}
+
 // The program check.
 
 /// A program as it is lent: whole areas, and totals.

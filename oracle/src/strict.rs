@@ -167,7 +167,7 @@ mod tests {
         if row == NAME_NOT_PUBLIC {
             // 01: "after any other refusal every area is zero"; "every total 0".
             assert_eq!(run.areas, Areas::default());
-            assert_eq!(run.reply.words()[2..], [0; 14]);
+            assert_eq!(run.reply.words()[2..], [0; 15]);
         }
     }
 

@@ -33,6 +33,7 @@ impl From<clover_back_end::Reply> for Reply {
             ],
             entry_point: totals.entry_point,
             globals: totals.global_dependencies,
+            bundles: totals.bundles,
         }
     }
 }
@@ -55,6 +56,7 @@ impl From<Reply> for clover_back_end::Reply {
             books: total(area::BOOKS),
             entry_point: reply.entry_point,
             global_dependencies: reply.globals,
+            bundles: reply.bundles,
         };
         clover_back_end::Reply { number: reply.row, place: reply.place, totals }
     }
@@ -105,6 +107,7 @@ fn delivered(program: &Program, answered: &Answered) -> Result<Viewed, String> {
         totals: std::array::from_fn(|i| totals.of(Area::ALL[i])),
         entry_point: totals.entry_point,
         globals: totals.global_dependencies,
+        bundles: totals.bundles,
     };
     let public = listed("public names", program.public_names())?;
     let flat: Vec<u64> = public.iter().flat_map(|name| [name.file, name.name.number(), name.constant]).collect();

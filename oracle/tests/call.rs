@@ -56,7 +56,7 @@ fn a_right_call_is_alike() {
 
 #[test]
 fn wrong_calls_are_seen() {
-    let faults: [SpoilCall; 9] = [
+    let faults: [SpoilCall; 11] = [
         |_, (areas, _)| {
             if let Some(last) = areas[11].last_mut() {
                 *last ^= 1;
@@ -74,6 +74,8 @@ fn wrong_calls_are_seen() {
         |reply, _| reply.place ^= u64::from(reply.number == 9),
         |reply, _| reply.place ^= u64::from(reply.number == 0),
         |reply, _| reply.totals.errors ^= u64::from(reply.number != 0),
+        |reply, _| reply.totals.bundles ^= u64::from(reply.number == 0),
+        |reply, _| reply.totals.bundles ^= u64::from(reply.number != 0),
         |_, (areas, _)| {
             if let (true, Some(first)) = (!areas[8].is_empty(), areas[9].first_mut()) {
                 *first = 1;
@@ -147,9 +149,10 @@ fn on_refusal(viewed: &mut Viewed, spoil: fn(&mut u64, &mut u64, &mut Vec<ErrorA
 
 #[test]
 fn wrong_views_are_seen() {
-    let faults: [SpoilView; 21] = [
+    let faults: [SpoilView; 22] = [
         |viewed| viewed.reply.totals[8] += u64::from(viewed.reply.row == 0),
         |viewed| viewed.reply.globals += u64::from(viewed.reply.row == 0),
+        |viewed| viewed.reply.bundles += u64::from(viewed.reply.row == 0),
         |viewed| on_delivery(viewed, |d| d.functions.iter_mut().for_each(|f| f.parameters = f.locals)),
         |viewed| on_delivery(viewed, |d| d.functions.iter_mut().for_each(|f| f.locals = f.parameters)),
         |viewed| on_delivery(viewed, |d| d.functions.iter_mut().for_each(|f| f.rescue = 0)),

@@ -65,7 +65,7 @@ fn the_sample_is_current() {
             .map(|(_, content)| content.len())
             .sum()
     };
-    assert!(size(false) < 400_000 && size(true) < 1_500_000);
+    assert!(size(false) < 500_000 && size(true) < 1_500_000);
     for (name, content) in &files {
         let kept = std::fs::read(folder.join(name)).unwrap_or_else(|e| panic!("{name}: {e}; run the sample command"));
         assert!(kept == *content, "{name} is not what the sample command writes");
@@ -105,7 +105,7 @@ fn the_sample_replays() {
         for _ in 0..next() {
             let words: Vec<u64> = (0..next()).map(|_| next()).collect();
             let lengths: areas::Lengths = std::array::from_fn(|_| next() as usize);
-            let reply: Vec<u64> = (0..16).map(|_| next()).collect();
+            let reply: Vec<u64> = (0..areas::REPLY_WORDS).map(|_| next()).collect();
             let mut memory = areas::Memory::new(&lengths, 1);
             let met: areas::Reply = Model.compile(&words, memory.lend()).reply.into();
             assert_eq!(met.words().to_vec(), reply);

@@ -15,11 +15,11 @@
 use crate::areas::{areas_in, AREAS};
 use crate::mode::Mode;
 use crate::program::Totals;
-use crate::reply::{Answer, Checked, Converted, Reply, Tabled, Version};
+use crate::reply::{Answer, Checked, Converted, Reply, Tabled, TrialTotals, Tried, Version};
 use std::sync::Once;
 
 /// The layout that this crate was written for. The first call holds the library's to it.
-pub const LAYOUT: u64 = 5;
+pub const LAYOUT: u64 = 6;
 
 extern "C" {
     fn clover_version() -> Version;
@@ -54,6 +54,21 @@ extern "C" {
         tree: *const u64, tree_words: usize,
         mode: u64,
         standing: Totals,
+        lengths: Lengths,
+        memory: *mut u64, memory_words: usize,
+    ) -> Reply;
+    fn clover_trial(
+        tree: *const u64, tree_words: usize,
+        mode: u64,
+        standing: Totals,
+        lengths: Lengths,
+        memory: *mut u64, memory_words: usize,
+    ) -> Reply;
+    fn clover_commit(
+        tree: *const u64, tree_words: usize,
+        mode: u64,
+        standing: Totals,
+        trial: Totals,
         lengths: Lengths,
         memory: *mut u64, memory_words: usize,
     ) -> Reply;
@@ -169,7 +184,8 @@ pub fn compile_in<'a>(mode: Mode, tree: &[u64], lengths: [usize; AREAS], memory:
 /// checked as [`check_program`] does: where it fails, every word stays as it is. A delivery is what stood and what the bundle
 /// adds, then zeros. Any other refusal leaves the program, and in area 11 the errors of rows 7 and 8 and zeros. After a refusal
 /// the reply's totals are those lent. What is left over behind the last area is the table of slots, as in [`compile_in`]: zeros
-/// after every call but the check's refusal. What area 11 holds before, and its total, do not matter.
+/// after every call but the check's refusal. What area 11 holds before, and its total, do not matter. The number of bundles is
+/// one more after a delivery.
 pub fn lay_on<'a>(
     mode: Mode,
     tree: &[u64],
@@ -186,6 +202,59 @@ pub fn lay_on<'a>(
             tree.as_ptr(), tree.len(),
             mode.word(),
             standing,
+            words,
+            memory.as_mut_ptr(), size,
+        )
+    };
+    Answer { reply, areas: areas_in(lengths, memory) }
+}
+
+/// What [`lay_on`] would answer, with the number of bundles as it was lent. The program stays as it stood, whatever is answered:
+/// area 11 alone, and the slots, are as laying on leaves them.
+pub fn trial<'a>(
+    mode: Mode,
+    tree: &[u64],
+    standing: Totals,
+    lengths: [usize; AREAS],
+    memory: &'a mut [u64],
+) -> Tried<'a> {
+    hold_to_layout();
+    let (words, size) = (Lengths(lengths), memory.len());
+    // Both slices outlive the call, and the memory is another than the tree.
+    #[rustfmt::skip]
+    let reply = unsafe {
+        clover_trial(
+            tree.as_ptr(), tree.len(),
+            mode.word(),
+            standing,
+            words,
+            memory.as_mut_ptr(), size,
+        )
+    };
+    Tried { reply, areas: areas_in(lengths, memory) }
+}
+
+/// Lays a bundle on as its [`trial`] said. Right behind the program check comes row 12, where the trial's number of bundles is not
+/// the program's; after the work, where it would deliver, row 13, where one of the totals that line 1 of a listing has is not the
+/// trial's. Else the call is [`lay_on`].
+pub fn commit<'a>(
+    mode: Mode,
+    tree: &[u64],
+    standing: Totals,
+    trial: TrialTotals,
+    lengths: [usize; AREAS],
+    memory: &'a mut [u64],
+) -> Answer<'a> {
+    hold_to_layout();
+    let (words, size) = (Lengths(lengths), memory.len());
+    // Both slices outlive the call, and the memory is another than the tree.
+    #[rustfmt::skip]
+    let reply = unsafe {
+        clover_commit(
+            tree.as_ptr(), tree.len(),
+            mode.word(),
+            standing,
+            trial.0,
             words,
             memory.as_mut_ptr(), size,
         )

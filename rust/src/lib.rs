@@ -4,7 +4,8 @@
 //! A bundle of books goes in as records, four words each ([`records`] writes them); a program comes
 //! out in memory that the caller lends ([`Areas`], or a slice of its own through `calls`), read through
 //! [`Program`]. Texts are numbers throughout; a [`Texts`] knows what they say. Later bundles are laid onto
-//! a program that stands (`StandingProgram`), which can be saved and loaded.
+//! a program that stands (`StandingProgram`), which can be saved and loaded; what a bundle would do to it can be
+//! seen first (`StandingProgram::trial`).
 //!
 //! ```
 //! # #[cfg(feature = "link")]
@@ -67,6 +68,8 @@ mod saved;
 mod standing;
 mod table;
 mod texts;
+#[cfg(feature = "link")]
+mod trial;
 
 pub use areas::{areas_in, slots_for, Area, Areas, AREAS};
 pub use column_file::{LineFault, LINE_BYTES};
@@ -84,10 +87,12 @@ pub use mode::Mode;
 pub use position::Position;
 pub use program::{ContextLocal, Function, Method, Model, Program, PublicName, Totals};
 pub use refusal::{Error, ErrorKind, Refusal, Token};
-pub use reply::{Answer, Checked, Converted, Reply, Tabled, Version};
+pub use reply::{Answer, Checked, Converted, Reply, Tabled, TrialTotals, Tried, Version};
 #[cfg(feature = "link")]
 pub use saved::LoadError;
 #[cfg(feature = "link")]
 pub use standing::{check_program, StandingProgram};
 pub use table::TABLE_LINE_BYTES;
 pub use texts::{Text, TextTable, Texts, TextsError};
+#[cfg(feature = "link")]
+pub use trial::Trial;

@@ -7,7 +7,7 @@ use crate::position::Position;
 use crate::texts::Text;
 use std::fmt;
 
-/// How many entries each area holds, and two numbers beside them.
+/// How many entries each area holds, and three numbers beside them.
 #[repr(C)]
 #[derive(Clone, Copy, Debug, Default, PartialEq, Eq)]
 pub struct Totals {
@@ -39,6 +39,9 @@ pub struct Totals {
     pub entry_point: u64,
     /// Constants that name globals.
     pub global_dependencies: u64,
+    /// Bundles delivered into the program: 1 when it is fresh, one more with each that is laid on. A program stands with 1 to
+    /// 4,294,967,294.
+    pub bundles: u64,
 }
 
 impl Totals {
@@ -61,15 +64,13 @@ impl Totals {
     }
 
     /// How many numbers there are.
-    pub const WORDS: usize = AREAS + 2;
+    pub const WORDS: usize = AREAS + 3;
 
-    /// All of them: the areas' totals in the order of their numbers, the entry point, the number of global dependencies.
+    /// All of them: the areas' totals in the order of their numbers, the entry point, the number of global dependencies, the
+    /// number of bundles.
     pub fn words(&self) -> [u64; Totals::WORDS] {
-        std::array::from_fn(|at| match Area::ALL.get(at) {
-            Some(&area) => self.of(area),
-            None if at == AREAS => self.entry_point,
-            None => self.global_dependencies,
-        })
+        let beside = [self.entry_point, self.global_dependencies, self.bundles];
+        std::array::from_fn(|at| Area::ALL.get(at).map_or_else(|| beside[at - AREAS], |&area| self.of(area)))
     }
 
     /// From the numbers in that order.
@@ -90,6 +91,7 @@ impl Totals {
             books: of(Area::Books),
             entry_point: words[AREAS],
             global_dependencies: words[AREAS + 1],
+            bundles: words[AREAS + 2],
         }
     }
 }
@@ -110,7 +112,7 @@ impl<'a> Program<'a> {
         Program { areas: Area::each(used), totals }
     }
 
-    /// How many entries there are, the entry point and the number of global dependencies.
+    /// How many entries there are, the entry point, and the numbers of global dependencies and of bundles.
     pub fn totals(&self) -> Totals {
         self.totals
     }
@@ -477,7 +479,7 @@ mod tests {
         let totals = Totals::from_words(words);
         assert_eq!(totals.words(), words);
         assert!(Area::ALL.iter().all(|&area| totals.of(area) == 99 + area.number()));
-        assert_eq!((totals.entry_point, totals.global_dependencies), (112, 113));
+        assert_eq!((totals.entry_point, totals.global_dependencies, totals.bundles), (112, 113, 114));
     }
 
     #[test]

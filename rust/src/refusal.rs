@@ -95,6 +95,13 @@ pub enum Refusal {
         /// The first such name, where the records were at hand.
         name: Option<Text>,
     },
+    /// Row 12 of a commit: its trial was made of another number of bundles.
+    StaleTrial {
+        /// How many bundles the program has.
+        bundles: u64,
+    },
+    /// Row 13 of a commit: the program would have other totals than its trial answered.
+    TotalsDiffer,
 }
 
 impl Refusal {
@@ -117,6 +124,8 @@ impl Refusal {
             9 => Area::from_number(place).map_or(Refusal::OutputShort, |area| Refusal::AreaFull { area }),
             10 => Refusal::NotATable { record: place },
             11 => Refusal::NameNotPublic { record: place, name: None },
+            12 => Refusal::StaleTrial { bundles: place },
+            13 => Refusal::TotalsDiffer,
             other => unreachable!("no reply of this layout has the number {other}"),
         })
     }
@@ -135,13 +144,15 @@ impl Refusal {
             Refusal::AreaFull { .. } | Refusal::OutputShort | Refusal::LineBufferShort => 9,
             Refusal::NotATable { .. } => 10,
             Refusal::NameNotPublic { .. } => 11,
+            Refusal::StaleTrial { .. } => 12,
+            Refusal::TotalsDiffer => 13,
         }
     }
 
     /// Its place.
     pub fn place(&self) -> u64 {
         match self {
-            Refusal::BadLength | Refusal::OutputShort => 0,
+            Refusal::BadLength | Refusal::OutputShort | Refusal::TotalsDiffer => 0,
             Refusal::BadLine { line, .. } => *line,
             Refusal::BadShape { record, .. }
             | Refusal::TooDeep { record }
@@ -154,6 +165,7 @@ impl Refusal {
             Refusal::UnknownError { index } => *index,
             Refusal::BadProgram { area } => PROGRAM_PLACE + area.number(),
             Refusal::LineBufferShort => LINE_BUFFER,
+            Refusal::StaleTrial { bundles } => *bundles,
         }
     }
 
@@ -171,6 +183,8 @@ impl Refusal {
             Refusal::AreaFull { .. } | Refusal::OutputShort | Refusal::LineBufferShort => "area full",
             Refusal::NotATable { .. } => "not a table",
             Refusal::NameNotPublic { .. } => "name not public",
+            Refusal::StaleTrial { .. } => "stale trial",
+            Refusal::TotalsDiffer => "totals differ",
         }
     }
 
@@ -228,6 +242,10 @@ impl Refusal {
                 let name = name.map_or_else(|| "a name".into(), |name| texts.spelt(name));
                 format!("{word}: record {record}, an include, lists {name}, which is not public in its file")
             }
+            Refusal::StaleTrial { bundles } => {
+                format!("{word}: the program's number of bundles is {bundles}, and was another at its trial")
+            }
+            Refusal::TotalsDiffer => format!("{word}: the program would have other totals than its trial answered"),
         }
     }
 }
@@ -357,13 +375,16 @@ mod tests {
             spelt(11, 4),
             "name not public: record 4, an include, lists a name, which is not public in its file"
         );
+        assert_eq!(spelt(12, 3), "stale trial: the program's number of bundles is 3, and was another at its trial");
+        assert_eq!(spelt(13, 0), "totals differ: the program would have other totals than its trial answered");
     }
 
     #[test]
     fn rows_and_places_come_back() {
         let ring = ErrorKind::Ring.number();
         let errors = [ring, 0, 0, 5, ring, 0, 0, 6, 0, 0, 0, 0];
-        for (row, place) in [(1, 4), (2, 0), (3, 5), (4, 64), (5, 2), (6, 8), (7, 2), (8, 2), (9, 7), (9, 0), (11, 4)] {
+        let rows = [(1, 4), (2, 0), (3, 5), (4, 64), (5, 2), (6, 8), (7, 2), (8, 2), (9, 7), (9, 0), (11, 4)];
+        for (row, place) in rows.into_iter().chain([(12, 3), (13, 0)]) {
             let listed = if row == 8 { &errors[..] } else { &[] };
             let refusal = Refusal::of(row, place, listed).expect("a row");
             assert_eq!((refusal.row(), refusal.place()), (row, place));

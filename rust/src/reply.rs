@@ -87,7 +87,7 @@ impl Tabled {
     }
 }
 
-/// Of the compile call and of laying on.
+/// Of the compile call, of laying on, of a trial and of a commit.
 #[repr(C)]
 #[derive(Clone, Copy, Debug, Default, PartialEq, Eq)]
 pub struct Reply {
@@ -95,11 +95,12 @@ pub struct Reply {
     pub number: u64,
     /// The refusal's place, or 0.
     pub place: u64,
-    /// After a refusal all 0, of laying on as they were lent.
+    /// After a refusal all 0, of a call on a program that stands as they were lent. Of a trial those that the program would
+    /// have, with the number of bundles as it was lent.
     pub totals: Totals,
 }
 
-/// The reply of a compile call or of laying on, and the areas whole as it left them: entries, then zeros.
+/// The reply of a compile call, of laying on or of a commit, and the areas whole as it left them: entries, then zeros.
 #[derive(Clone, Copy, Debug)]
 pub struct Answer<'a> {
     /// The reply.
@@ -117,5 +118,26 @@ impl<'a> Answer<'a> {
             Some(refusal) => Err(refusal),
             None => Ok(Program::new(&self.areas, totals)),
         }
+    }
+}
+
+/// Totals that a trial answered, as a commit takes them: apart from the program's own, so that neither is given for the other.
+#[derive(Clone, Copy, Debug, PartialEq, Eq)]
+pub struct TrialTotals(pub Totals);
+
+/// The reply of a trial and the areas whole as it left them: the program that stood, which the reply's totals are not of.
+#[derive(Clone, Copy, Debug)]
+pub struct Tried<'a> {
+    /// The reply.
+    pub reply: Reply,
+    /// The areas, in the order of their numbers.
+    pub areas: [&'a [u64]; AREAS],
+}
+
+impl Tried<'_> {
+    /// The totals that the program would have, for a commit, or why the bundle would be refused.
+    pub fn totals(&self) -> Result<TrialTotals, Refusal> {
+        let Reply { number, place, totals } = self.reply;
+        Refusal::of(number, place, self.areas[Area::Errors.index()]).map_or(Ok(TrialTotals(totals)), Err)
     }
 }

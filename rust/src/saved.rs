@@ -27,7 +27,8 @@ pub enum LoadError {
         /// How many there should be; where the totals themselves are cut off, as many as these and the layout have.
         wanted: u128,
     },
-    /// An area is no part of a program: it fails the program check. Area 11: its total is not 0.
+    /// An area is no part of a program: it fails the program check, area 12 also by the number of bundles. Area 11: its total is
+    /// not 0.
     BadArea {
         /// The first such area.
         area: Area,

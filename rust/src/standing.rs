@@ -1,5 +1,5 @@
 //! Programs that stand: whether words and totals that somebody lends are one (docs/FORMAT.md, 'The program check'), and bundles
-//! laid onto one ('Laying on').
+//! laid onto one ('Laying on'). Trials and commits are in trial.rs.
 
 use crate::areas::{areas_in, entries_for, words_for, Area, Areas, AREAS};
 use crate::calls;
@@ -40,7 +40,7 @@ impl Areas {
 
 /// A program that stands, to lay bundles onto: one memory with its areas, and its totals. It is made by a delivery, or from words
 /// that pass the program check, and only deliveries change it; so it passes the check of every later call, and its views are
-/// those of any delivered program.
+/// those of any delivered program. (After 4,294,967,295 bundles it is full: every later call is refused by the check.)
 ///
 /// ```
 /// use clover_back_end::{Mode, StandingProgram};
@@ -61,18 +61,19 @@ impl Areas {
 /// ```
 #[derive(Clone, Debug)]
 pub struct StandingProgram {
-    areas: Areas,
-    totals: Totals,
+    pub(crate) areas: Areas,
+    pub(crate) totals: Totals,
 }
 
 impl StandingProgram {
     /// Words that the memory of a program may have in [`lay_on`](StandingProgram::lay_on): 1 GiB.
     pub const MOST_WORDS: usize = 1 << 27;
 
-    /// The least program: null, true and false, and no book. A bundle laid onto it gives what it gives by itself.
+    /// The least program: null, true and false, and no book. A bundle laid onto it gives what it gives by itself, but that the
+    /// number of bundles is 2: no program with less than one stands, so that the least has one.
     pub fn least() -> StandingProgram {
         let constants = [0, 0, 0, 1, 1, 0, 1, 0, 0];
-        let totals = Totals { constants: 3, ..Totals::default() };
+        let totals = Totals { constants: 3, bundles: 1, ..Totals::default() };
         let words = [&[calls::LAYOUT][..], &totals.words(), &constants].concat();
         StandingProgram::from_words(&words).expect("three constants are a program")
     }
@@ -101,7 +102,7 @@ impl StandingProgram {
         Program::new(&areas_in(lengths, memory), self.totals)
     }
 
-    /// How many entries there are, the entry point and the number of global dependencies.
+    /// How many entries there are, the entry point, and the numbers of global dependencies and of bundles.
     pub fn totals(&self) -> Totals {
         self.totals
     }
@@ -127,14 +128,29 @@ impl StandingProgram {
 
     /// The same in a memory of at most so many words, or of as many as it has.
     pub fn lay_on_within(&mut self, tree: &[u64], mode: Mode, most: usize) -> Result<(), Refusal> {
+        self.growing(tree, most, |program| {
+            let lengths = program.areas.lengths();
+            let answer = calls::lay_on(mode, tree, program.totals, lengths, program.areas.lend());
+            let laid = answer.program().map(|laid| laid.totals());
+            program.delivered(tree, laid)
+        })
+    }
+
+    /// A call on the program, made again in a larger memory where an area is full, as long as that has at most so many words.
+    pub(crate) fn growing<T>(
+        &mut self,
+        tree: &[u64],
+        most: usize,
+        mut call: impl FnMut(&mut StandingProgram) -> Result<T, Refusal>,
+    ) -> Result<T, Refusal> {
         self.make_room(tree, most);
         loop {
-            // A refusal leaves the program, so that it can be moved and the bundle laid on again.
-            match self.lay_on_here(tree, mode) {
+            // A refusal leaves the program, so that it can be moved and the call made again.
+            match call(self) {
                 Err(Refusal::AreaFull { area }) if self.areas.len_grown(area) <= most => {
                     self.areas = self.areas.moved(self.areas.grown(area));
                 }
-                laid => return laid,
+                answered => return answered,
             }
         }
     }
@@ -158,17 +174,15 @@ impl StandingProgram {
         }
     }
 
-    /// One call in the memory as it is.
-    fn lay_on_here(&mut self, tree: &[u64], mode: Mode) -> Result<(), Refusal> {
-        let lengths = self.areas.lengths();
-        let answer = calls::lay_on(mode, tree, self.totals, lengths, self.areas.lend());
-        match answer.program().map(|program| program.totals()) {
-            Ok(totals) => {
-                self.totals = totals;
-                Ok(())
-            }
-            Err(refusal) => Err(with_reason(refusal, tree, Some(self.program()))),
-        }
+    /// The totals of a program that was delivered into the memory, or why it was refused.
+    pub(crate) fn delivered(&mut self, tree: &[u64], laid: Result<Totals, Refusal>) -> Result<(), Refusal> {
+        self.totals = laid.map_err(|refusal| self.refused(tree, refusal))?;
+        Ok(())
+    }
+
+    /// The refusal of a bundle with its reason. The program is as it stood.
+    pub(crate) fn refused(&self, tree: &[u64], refusal: Refusal) -> Refusal {
+        with_reason(refusal, tree, Some(self.program()))
     }
 }
 

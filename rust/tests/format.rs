@@ -101,12 +101,14 @@ fn the_example_is_a_bundle() {
 #[cfg(feature = "link")]
 #[test]
 fn rows_have_their_words() {
+    use clover_back_end::Refusal;
     let found = pairs("Refusals");
     let words =
         ["bad line", "bad length", "bad shape", "too deep", "book twice", "book missing", "book faulty", "ring"];
     assert!((1..).zip(words).all(|(row, word)| holds(&found, row, word)) && holds(&found, 9, "area full"));
     let deep = clover_back_end::check(&[]).expect_err("row 3");
-    assert!(holds(&found, deep.row(), deep.word()));
+    let commits = [Refusal::StaleTrial { bundles: 3 }, Refusal::TotalsDiffer];
+    assert!([deep].iter().chain(&commits).all(|refusal| holds(&found, refusal.row(), refusal.word())));
 }
 
 /// The example of 'Errors in words' is what the library writes.
@@ -135,16 +137,17 @@ fn the_example_of_errors_in_words_is_written() {
     assert!(page().contains("of kinds 1, 11 to 16, 30, 35, 40 and 41 a text"));
 }
 
-/// The example of 'Laying on', and the least program of 'A program saved'.
+/// The examples of 'Laying on' and of 'Trial and commit', and the least program of 'A program saved'.
 #[cfg(feature = "link")]
 #[test]
 fn the_examples_of_laying_on_are_so() {
-    use clover_back_end::{Mode, Refusal, StandingProgram};
+    use clover_back_end::{Mode, Refusal, StandingProgram, Totals};
     let lines =
         |words: &[u64]| words.chunks(4).map(|record| format!("`{}`", spaced(record))).collect::<Vec<_>>().join(", ");
     let mut program = StandingProgram::compiled(&[1, 1, 0, 2], Mode::Present).expect("delivered");
     let totals = |program: &StandingProgram| (program.totals().constants, program.totals().books);
-    assert_eq!((totals(&program), program.totals().words().iter().sum::<u64>()), ((3, 1), 4));
+    // Beside these the number of bundles, 1.
+    assert_eq!((totals(&program), program.totals().words().iter().sum::<u64>()), ((3, 1), 5));
     let missing = [1, 2, 0, 3, 11, 1, 0, 8];
     let refusal = program.lay_on(&missing, Mode::Present).expect_err("file 8 is missing");
     assert_eq!((refusal, totals(&program)), (Refusal::BookMissing { file: Text::from_number(8) }, (3, 1)));
@@ -154,8 +157,18 @@ fn the_examples_of_laying_on_are_so() {
     let page = page();
     assert!(page.contains(&format!("The bundle {}, file 3 with", lines(&including))), "{}", lines(&including));
     assert!(page.contains(&format!("The bundle {}\nis refused", lines(&missing))), "{}", lines(&missing));
+    // 'Trial and commit': constants, books and bundles.
+    let mut program = StandingProgram::compiled(&[1, 1, 0, 2], Mode::Present).expect("delivered");
+    let three = |totals: Totals| [totals.constants, totals.books, totals.bundles];
+    let spelt = |[constants, books, bundles]: [u64; 3]| format!("{constants}, {books} and {bundles}");
+    let trial = program.trial(&including, Mode::Present).expect("it would be delivered");
+    let answered = format!("answers the totals {} (constants, books, bundles)", spelt(three(trial.totals())));
+    assert!(page.contains(&answered) && program.program().words(Area::Books) == [2], "{answered}");
+    program.commit(&including, Mode::Present, trial).expect("delivered");
+    let answered = format!("the commit with these totals answers {}.", spelt(three(program.totals())));
+    assert!(page.contains(&answered), "{answered}");
     let least = StandingProgram::least().to_words();
-    let parts = [&least[..1], &least[1..15], &least[15..]].map(|part| format!("`{}`", spaced(part))).join(", ");
+    let parts = [&least[..1], &least[1..16], &least[16..]].map(|part| format!("`{}`", spaced(part))).join(", ");
     assert!(page.contains(&format!("The least program is {parts}.")), "{parts}");
 }
 

@@ -2,76 +2,13 @@
 //! own memory.
 #![cfg(feature = "link")]
 
-use clover_back_end::records::{Definitions, Records};
-use clover_back_end::{calls, columns_to_records, compile, errors_in_words};
+mod shared;
+
+use clover_back_end::records::Records;
+use clover_back_end::{calls, compile, errors_in_words};
 use clover_back_end::{Area, Areas, ErrorKind, LoadError, Mode, Position, Program, Refusal, Reply, StandingProgram};
 use clover_back_end::{ShapeFault, Text, Texts, Totals, AREAS};
-use std::path::Path;
-
-const NONE: Position = Position::NONE;
-/// Files.
-const BEAMS: Text = Text::from_number(2);
-const ROOFS: Text = Text::from_number(3);
-const ABSENT: Text = Text::from_number(8);
-/// Names.
-const THIS: Text = Text::from_number(7);
-const LOAD: Text = Text::from_number(9);
-const BEAM: Text = Text::from_number(20);
-const SPAN: Text = Text::from_number(21);
-const BENDS: Text = Text::from_number(40);
-const BREAKS: Text = Text::from_number(41);
-
-/// What writes a book.
-type Book = fn(&mut Definitions);
-
-fn bundle(books: &[(Text, Book)]) -> Vec<u64> {
-    let mut tree = Records::new();
-    books.iter().for_each(|(file, inside)| tree.document(*file, inside));
-    tree.into_words()
-}
-
-/// A public model with a method, a public function, a private one that says a text, and a name with a value.
-fn beams(book: &mut Definitions) {
-    book.public_model(BEAM, |model| model.property(SPAN));
-    book.implement(BEAM, |methods| methods.function(BENDS).this_parameter(THIS).body(|_| {}));
-    book.public_function(SPAN).body(|body| body.expression(|slot| slot.float(1.35, Position::new(3, 5))));
-    book.function(LOAD).body(|body| body.expression(|slot| slot.string(LOAD)));
-    book.local(|local| local.integer(ABSENT, 7, NONE));
-}
-
-/// A method of the other book's model again and one more, and a `main` that reads a global by the name of the text above.
-fn roofs(book: &mut Definitions) {
-    book.include(BEAMS, |names| names.name(BEAM, BEAM));
-    book.implement(BEAM, |methods| {
-        methods.function(BENDS).body(|_| {});
-        methods.function(BREAKS).this_parameter(THIS).body(|_| {});
-    });
-    book.function(Text::MAIN).body(|body| body.expression(|slot| slot.identifier(LOAD)));
-}
-
-/// The same and then a model that is nowhere: an error 10.
-fn faulty(book: &mut Definitions) {
-    roofs(book);
-    book.implement(ABSENT.at(Position::new(9, 11)), |_| {});
-}
-
-fn empty(_: &mut Definitions) {}
-
-fn standing(books: &[(Text, Book)]) -> StandingProgram {
-    StandingProgram::compiled(&bundle(books), Mode::Present).expect("delivered")
-}
-
-fn laid(mut program: StandingProgram, books: &[(Text, Book)]) -> StandingProgram {
-    program.lay_on(&bundle(books), Mode::Present).expect("delivered");
-    program
-}
-
-fn examples() -> Vec<Vec<u64>> {
-    let folder = Path::new(env!("CARGO_MANIFEST_DIR")).join("../examples");
-    let names = ["snow", "drift", "combination", "utilisation", "limit_state", "misspelt"];
-    let read = |name| std::fs::read(folder.join(format!("{name}.col"))).expect("an example");
-    names.map(|name| columns_to_records(&read(name)).expect("a column file")).to_vec()
-}
+use shared::*;
 
 // Deliveries.
 
@@ -82,9 +19,10 @@ fn onto_the_least_program_as_by_itself() {
         let fresh = StandingProgram::compiled(&tree, Mode::Present).expect("delivered");
         let mut least = StandingProgram::least();
         least.lay_on(&tree, Mode::Present).expect("delivered");
-        assert_eq!(least.to_words(), fresh.to_words());
+        assert_eq!((fresh.totals().bundles, least.to_words()), (1, counting(2, &fresh)));
     }
-    assert_eq!(StandingProgram::least().program().constants().len(), 3);
+    let least = StandingProgram::least();
+    assert_eq!((least.program().constants().len(), least.totals().bundles), (3, 1));
 }
 
 /// The second bundle needs no copy of the book that stands; one bundle of both compiles them in this order.
@@ -92,11 +30,11 @@ fn onto_the_least_program_as_by_itself() {
 fn one_after_the_other_as_all_at_once() {
     let both = standing(&[(ROOFS, roofs), (BEAMS, beams)]);
     let grown = laid(standing(&[(BEAMS, beams)]), &[(ROOFS, roofs)]);
-    assert_eq!(grown.to_words(), both.to_words());
+    assert_eq!(grown.to_words(), counting(2, &both));
     assert!(grown.program().books().eq([BEAMS, ROOFS]));
     // And from nothing, each by itself.
     let grown = laid(laid(StandingProgram::least(), &[(BEAMS, beams)]), &[(ROOFS, roofs)]);
-    assert_eq!(grown.to_words(), both.to_words());
+    assert_eq!(grown.to_words(), counting(3, &both));
 }
 
 /// Of what stands a delivery may set marks, give a method another function, and name another entry point.
@@ -130,13 +68,12 @@ fn a_delivery_leaves_what_stood() {
 #[test]
 fn books_that_stand_are_passed_over() {
     let stood = standing(&[(BEAMS, beams)]);
-    let words = stood.to_words();
     // A copy that says something else, with an include that is nowhere; a root that stands.
     let copy: Book = |book| {
         book.public_model(ABSENT, |_| {});
         book.include(ABSENT, |_| {});
     };
-    assert_eq!(laid(stood.clone(), &[(BEAMS, copy)]).to_words(), words);
+    assert_eq!(laid(stood.clone(), &[(BEAMS, copy)]).to_words(), counting(2, &stood));
     let with_copy = laid(stood.clone(), &[(ROOFS, roofs), (BEAMS, copy)]);
     assert_eq!(with_copy.to_words(), laid(stood.clone(), &[(ROOFS, roofs)]).to_words());
     // Two books that include each other, where one stands.
@@ -174,6 +111,7 @@ fn many_bundles_grow_one_program() {
     assert_eq!((read.books().len(), read.functions().len(), read.public_names().len()), (60, 60, 60));
     let (memory, lengths) = program.memory();
     assert_eq!(clover_back_end::check_program(memory, lengths, program.totals()), Ok(()));
+    assert_eq!(program.totals().bundles, 61);
     assert_eq!(StandingProgram::from_words(&program.to_words()).expect("saved").to_words(), program.to_words());
 }
 
@@ -216,7 +154,7 @@ fn a_refused_bundle_leaves_all_words() {
     assert_eq!(refuses(&bundle(&[(Text::from_number(4), ring)])).row(), 8);
     // And the bundle that is right is delivered after them as it is without.
     let both = standing(&[(ROOFS, roofs), (BEAMS, beams)]);
-    assert_eq!(laid(program, &[(ROOFS, roofs)]).to_words(), both.to_words());
+    assert_eq!(laid(program, &[(ROOFS, roofs)]).to_words(), counting(2, &both));
 }
 
 #[test]
@@ -262,7 +200,7 @@ fn a_full_area_is_grown_as_far_as_it_may() {
     // A loaded program has no room to spare.
     let saved = standing(&[(BEAMS, beams)]).to_words();
     let tree = bundle(&[(ROOFS, roofs)]);
-    let both = standing(&[(ROOFS, roofs), (BEAMS, beams)]).to_words();
+    let both = counting(2, &standing(&[(ROOFS, roofs), (BEAMS, beams)]));
     let mut program = StandingProgram::from_words(&saved).expect("saved");
     let exact = program.memory().0.len();
     for most in [0, exact] {
@@ -295,17 +233,17 @@ fn a_full_area_is_grown_as_far_as_it_may() {
 
 // Saved and loaded.
 
-/// The layout, fourteen totals, and then the entries.
+/// The layout, fifteen totals, and then the entries.
 #[test]
 fn the_form_of_a_saved_program() {
     let least = StandingProgram::least().to_words();
-    let head = [5, 0, 3, 0, 0, 0, 0, 0, 0, 0, 0, 0, 0, 0, 0];
+    let head = [6, 0, 3, 0, 0, 0, 0, 0, 0, 0, 0, 0, 0, 0, 0, 1];
     assert_eq!(least, [&head[..], &[0, 0, 0, 1, 1, 0, 1, 0, 0]].concat());
     let program = standing(&[(BEAMS, beams)]);
     let words = program.to_words();
-    assert_eq!((words[0], &words[1..15]), (calls::LAYOUT, &program.totals().words()[..]));
+    assert_eq!((words[0], &words[1..16]), (calls::LAYOUT, &program.totals().words()[..]));
     let read = program.program();
-    assert_eq!(words[15..], Area::ALL.iter().map(|&area| read.words(area)).collect::<Vec<_>>().concat());
+    assert_eq!(words[16..], Area::ALL.iter().map(|&area| read.words(area)).collect::<Vec<_>>().concat());
 }
 
 #[test]
@@ -323,9 +261,11 @@ fn a_saved_program_comes_back() {
 fn words_that_are_no_saved_program() {
     let saved = standing(&[(BEAMS, beams)]).to_words();
     let load = |words: &[u64]| StandingProgram::from_words(words).map(|_| ()).expect_err("no program");
-    assert_eq!(load(&[]), LoadError::BadLength { words: 0, wanted: 15 });
-    assert_eq!(load(&saved[..14]), LoadError::BadLength { words: 14, wanted: 15 });
-    assert_eq!(load(&[&[4], &saved[1..]].concat()), LoadError::OtherLayout { layout: 4 });
+    assert_eq!(load(&[]), LoadError::BadLength { words: 0, wanted: 16 });
+    assert_eq!(load(&saved[..15]), LoadError::BadLength { words: 15, wanted: 16 });
+    // As it was saved before the totals had the number of bundles.
+    let before = [&[5], &saved[1..BUNDLES], &saved[BUNDLES + 1..]].concat();
+    assert_eq!(load(&before), LoadError::OtherLayout { layout: 5 });
     let (words, wanted) = (saved.len(), saved.len() as u128);
     assert_eq!(load(&saved[..words - 1]), LoadError::BadLength { words: words - 1, wanted });
     assert_eq!(load(&[&saved[..], &[0]].concat()), LoadError::BadLength { words: words + 1, wanted });
@@ -343,9 +283,12 @@ fn words_that_are_no_saved_program() {
     assert_eq!(with(11, 1), LoadError::BadArea { area: Area::Errors });
     assert_eq!(with(13, 99), LoadError::BadArea { area: Area::Functions });
     assert_eq!(with(14, 1), LoadError::BadArea { area: Area::Constants });
+    for bundles in [0, 4_294_967_295, 1 << 32, u64::MAX] {
+        assert_eq!(with(BUNDLES, bundles), LoadError::BadArea { area: Area::Books }, "{bundles}");
+    }
     let spelt = load(&saved[..words - 1]).to_string();
     assert_eq!(spelt, format!("no saved program: {} words in place of {words}", words - 1));
-    assert_eq!(with(0, 4).to_string(), "no saved program: its layout is 4, and this crate is for 5");
+    assert_eq!(with(0, 5).to_string(), "no saved program: its layout is 5, and this crate is for 6");
     assert_eq!(with(13, 99).to_string(), "no saved program: area 3, functions, is no part of a program");
     // Areas 9 and 10 hold nothing between two calls.
     let mut scope = saved.clone();
@@ -362,7 +305,7 @@ fn each_damaged_word_is_refused() {
     let saved = program.to_words();
     let starts: Vec<usize> = Area::ALL
         .iter()
-        .scan(15, |next, &area| {
+        .scan(16, |next, &area| {
             let start = *next;
             *next += program.program().words(area).len();
             Some(start)
@@ -384,14 +327,31 @@ fn each_damaged_word_is_refused() {
         let mut words = saved.clone();
         words[at] = u64::MAX;
         let loaded = StandingProgram::from_words(&words);
-        assert_eq!(loaded.is_ok(), at >= 15 && free(at), "word {at}");
+        assert_eq!(loaded.is_ok(), at >= 16 && free(at), "word {at}");
     }
+}
+
+/// The greatest number of bundles that stands leads to one that does not.
+#[test]
+fn the_number_of_bundles_has_an_end() {
+    let stood = standing(&[(BEAMS, beams)]);
+    let mut program = StandingProgram::from_words(&counting(4_294_967_294, &stood)).expect("the greatest");
+    program.lay_on(&bundle(&[(ROOFS, roofs)]), Mode::Present).expect("delivered");
+    assert_eq!(program.totals().bundles, 4_294_967_295);
+    let words = program.to_words();
+    let full = Refusal::BadProgram { area: Area::Books };
+    assert_eq!(program.lay_on(&bundle(&[(ABSENT, empty)]), Mode::Present), Err(full.clone()));
+    assert_eq!(program.trial(&bundle(&[(ABSENT, empty)]), Mode::Present), Err(full));
+    assert_eq!(program.to_words(), words);
+    let refused = StandingProgram::from_words(&words).map(|_| ()).expect_err("no call takes it");
+    assert_eq!(refused, LoadError::BadArea { area: Area::Books });
 }
 
 /// A program that no bundle makes but that passes the check: it can be read and laid onto.
 #[test]
 fn an_odd_program_stands() {
-    let totals = Totals { code: 2, constants: 5, functions: 2, context_locals: 1, books: 1, ..Totals::default() };
+    let counts = Totals { code: 2, constants: 5, functions: 2, context_locals: 1, books: 1, ..Totals::default() };
+    let totals = Totals { bundles: 7, ..counts };
     // A `this` read without a local, and code in no function; an integer twice; a function without code that starts nowhere.
     let entries: [&[u64]; 5] = [
         &[7 << 56, 0, 6 << 56 | 99, 0],
@@ -405,7 +365,7 @@ fn an_odd_program_stands() {
     assert_eq!(program.to_words(), words);
     assert!(format!("{:?}", program.program()).contains("functions"));
     program.lay_on(&bundle(&[(ROOFS, beams)]), Mode::Strict).expect("delivered");
-    assert_eq!(program.program().functions().len(), 5);
+    assert_eq!((program.program().functions().len(), program.totals().bundles), (5, 8));
     let code: Vec<usize> = program.program().functions().map(|function| function.instructions().len()).collect();
     assert_eq!(code[..2], [0, 1]);
     // Of equal constants the first is shared.
@@ -431,46 +391,9 @@ fn only_a_delivery_stands() {
 
 // The call over memory of the caller's own.
 
-const STALE: u64 = 0xA5A5;
-const BESIDE: usize = 8;
-const SLOTS: usize = 30;
-/// Words of each area; every one has a tail shorter than an entry.
-const ROOM: [usize; AREAS] = [101, 100, 121, 51, 51, 50, 102, 50, 51, 50, 51, 50];
-
-/// The program of `beams` in a memory of these lengths with stale words as area 11 and as slots, and words beside all; the totals,
-/// with another of area 11.
-fn lent() -> (Vec<u64>, Totals) {
-    let program = standing(&[(BEAMS, beams)]);
-    let mut all = vec![STALE; BESIDE];
-    for (&area, length) in Area::ALL.iter().zip(ROOM) {
-        let mut words = program.program().words(area).to_vec();
-        words.resize(length, if area == Area::Errors { STALE } else { 0 });
-        all.extend(words);
-    }
-    all.extend([STALE; SLOTS + BESIDE]);
-    (all, Totals { errors: 5, ..program.totals() })
-}
-
-fn inside(all: &[u64]) -> &[u64] {
-    &all[BESIDE..all.len() - BESIDE]
-}
-
 /// Lays on, and answers the reply and the words inside after it; those beside must stay.
-fn called(tree: &[u64], mode: Mode, lengths: [usize; AREAS], totals: Totals, mut all: Vec<u64>) -> (Reply, Vec<u64>) {
-    let end = all.len() - BESIDE;
-    let reply = calls::lay_on(mode, tree, totals, lengths, &mut all[BESIDE..end]).reply;
-    assert!(all[..BESIDE].iter().chain(&all[end..]).all(|&word| word == STALE));
-    (reply, inside(&all).to_vec())
-}
-
-/// The words that a refusal leaves: all as lent, but these errors and zeros as area 11, and zeros as slots.
-fn left(all: &[u64], errors: &[u64]) -> Vec<u64> {
-    let mut words = inside(all).to_vec();
-    let (start, end) = (ROOM[..10].iter().sum::<usize>(), ROOM.iter().sum::<usize>());
-    words[start..start + ROOM[10]].fill(0);
-    words[start..start + errors.len()].copy_from_slice(errors);
-    words[end..].fill(0);
-    words
+fn called(tree: &[u64], mode: Mode, lengths: [usize; AREAS], totals: Totals, all: Vec<u64>) -> (Reply, Vec<u64>) {
+    between(all, |memory| calls::lay_on(mode, tree, totals, lengths, memory).reply)
 }
 
 #[test]
@@ -478,7 +401,7 @@ fn a_call_in_memory_of_the_callers() {
     let (all, totals) = lent();
     let (reply, words) = called(&bundle(&[(ROOFS, roofs)]), Mode::Present, ROOM, totals, all.clone());
     let grown = standing(&[(ROOFS, roofs), (BEAMS, beams)]);
-    assert_eq!(reply, Reply { number: 0, place: 0, totals: grown.totals() });
+    assert_eq!(reply, Reply { number: 0, place: 0, totals: Totals { bundles: 2, ..grown.totals() } });
     let mut wanted = Vec::new();
     for (&area, length) in Area::ALL.iter().zip(ROOM) {
         wanted.extend(grown.program().words(area));
@@ -488,7 +411,7 @@ fn a_call_in_memory_of_the_callers() {
     assert_eq!(words, wanted);
     // A root that stands: the program as it stood, no errors, no slots, and the total of area 11 is 0.
     let (reply, words) = called(&bundle(&[(BEAMS, empty)]), Mode::Strict, ROOM, totals, all.clone());
-    assert_eq!(reply, Reply { number: 0, place: 0, totals: Totals { errors: 0, ..totals } });
+    assert_eq!(reply, Reply { number: 0, place: 0, totals: Totals { errors: 0, bundles: 2, ..totals } });
     assert_eq!(words, left(&all, &[]));
 }
 

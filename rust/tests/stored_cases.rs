@@ -1,8 +1,9 @@
-//! Laying on, on the stored cases of `oracle/sample` (`onto-N.txt`; the form is in its README): the reply and every word of the
-//! memory, in one that ends with the areas, in one with stale words left over, and with lengths that pass its end.
+//! Laying on, trial and commit, on the stored cases of `oracle/sample` (`onto-N.txt`, `trial-N.txt`, `commit-N.txt`; the form is in
+//! its README): the reply and every word of the memory, in one that ends with the areas, in one with stale words left over, and
+//! with lengths that pass its end.
 #![cfg(feature = "link")]
 
-use clover_back_end::{calls, Mode, Reply, Totals, AREAS};
+use clover_back_end::{calls, Mode, Reply, Totals, TrialTotals, AREAS};
 use std::path::{Path, PathBuf};
 
 /// What row 3 of the program check adds to an area's number.
@@ -48,33 +49,58 @@ impl Numbers {
     }
 }
 
+/// Which call, as the files are named; a commit with its trial's totals.
+#[derive(Clone, Copy)]
+enum Asked {
+    LayOn,
+    Trial,
+    Commit(TrialTotals),
+}
+
+impl Asked {
+    fn read(stem: &str, numbers: &mut Numbers) -> Asked {
+        match stem {
+            "onto" => Asked::LayOn,
+            "trial" => Asked::Trial,
+            _ => Asked::Commit(TrialTotals(Totals::from_words(numbers.some()))),
+        }
+    }
+}
+
 struct Case {
     tree: Vec<u64>,
     mode: Mode,
     lengths: [usize; AREAS],
     standing: Totals,
+    asked: Asked,
     before: Vec<u64>,
     reply: Reply,
     after: Vec<u64>,
 }
 
 impl Case {
-    fn read(numbers: &mut Numbers) -> Case {
+    fn read(stem: &str, numbers: &mut Numbers) -> Case {
         let tree = numbers.list();
         let mode = if numbers.next() == 0 { Mode::Present } else { Mode::Strict };
         let lengths = numbers.some().map(|length| length as usize);
         let standing = Totals::from_words(numbers.some());
+        let asked = Asked::read(stem, numbers);
         let before = numbers.areas(lengths);
         let [number, place] = numbers.some();
         let reply = Reply { number, place, totals: Totals::from_words(numbers.some()) };
         let after = numbers.areas(lengths);
-        Case { tree, mode, lengths, standing, before, reply, after }
+        Case { tree, mode, lengths, standing, asked, before, reply, after }
     }
 
     /// The call in a memory with these words left over.
     fn judge(&self, lengths: [usize; AREAS], slots: &[u64], name: &str) {
         let mut memory = [&self.before[..], slots].concat();
-        let reply = calls::lay_on(self.mode, &self.tree, self.standing, lengths, &mut memory).reply;
+        let Case { mode, tree, standing, .. } = self;
+        let reply = match self.asked {
+            Asked::LayOn => calls::lay_on(*mode, tree, *standing, lengths, &mut memory).reply,
+            Asked::Trial => calls::trial(*mode, tree, *standing, lengths, &mut memory).reply,
+            Asked::Commit(trial) => calls::commit(*mode, tree, *standing, trial, lengths, &mut memory).reply,
+        };
         assert_eq!(reply, self.reply, "{name}");
         let is_unfit = reply.number == 3 && reply.place > PROGRAM_PLACE;
         let left = if is_unfit { slots.to_vec() } else { vec![0; slots.len()] };
@@ -90,18 +116,18 @@ impl Case {
     }
 }
 
-#[test]
-fn stored_cases_of_laying_on() {
-    let names = std::fs::read_to_string(folder().join("onto.txt")).expect("the names");
+/// The cases of the files that begin so.
+fn replay(stem: &str) {
+    let names = std::fs::read_to_string(folder().join(format!("{stem}.txt"))).expect("the names");
     let mut names = names.lines();
     for number in 1.. {
-        let path = folder().join(format!("onto-{number}.txt"));
+        let path = folder().join(format!("{stem}-{number}.txt"));
         if !path.exists() {
             break;
         }
         let mut numbers = Numbers::read(&path);
         for _ in 0..numbers.next() {
-            let case = Case::read(&mut numbers);
+            let case = Case::read(stem, &mut numbers);
             let name = names.next().expect("a name for each case");
             case.judge(case.lengths, &[], name);
             case.judge(case.lengths, &STALE, name);
@@ -110,4 +136,19 @@ fn stored_cases_of_laying_on() {
         assert_eq!(numbers.0.next(), None, "{}", path.display());
     }
     assert_eq!(names.next(), None, "a case for each name");
+}
+
+#[test]
+fn stored_cases_of_laying_on() {
+    replay("onto");
+}
+
+#[test]
+fn stored_cases_of_trials() {
+    replay("trial");
+}
+
+#[test]
+fn stored_cases_of_commits() {
+    replay("commit");
 }

@@ -14,6 +14,7 @@ from test_flattener import ROOT, module  # noqa: E402
 tool = module("book_cases", ROOT / "tools" / "book-cases")
 PROGRAM_PLACE = 1048576
 ERRORS = 10
+BAD_SHAPE, STALE = 3, 12
 
 
 def read(text):
@@ -47,23 +48,34 @@ class BookCases(unittest.TestCase):
         cases = list(read(given))
         self.assertEqual(lines[-1], f"{len(cases)} cases, 0 differ")
         self.assertEqual(len({name for name, _ in cases}), len(cases))
-        self.assertEqual({numbers[0] for _, numbers in cases}, {0, 1, 2, 3})
+        self.assertEqual({numbers[0] for _, numbers in cases}, set(range(8)))
         for (name, numbers), line in zip(cases, lines, strict=False):
             call, size = numbers[:2]
             (bundle,), at = lists(numbers, 2, 1)
             lengths, at = numbers[at:at + 12], at + 12
             stands = []
             if call >= tool.LAY_ON:
-                totals = numbers[at:at + 14]
-                stands, at = lists(numbers, at + 14, 12)
+                totals, at = numbers[at:at + 15], at + 15
+                tried, at = (numbers[at:at + 15], at + 15) if call >= tool.COMMIT else ([], at)
+                stands, at = lists(numbers, at, 12)
                 self.assertTrue(bundle, name)
-            row, place, *after_totals = numbers[at:at + 16]
-            after, at = lists(numbers, at + 16, 12)
+            row, place, *after_totals = numbers[at:at + 17]
+            after, at = lists(numbers, at + 17, 12)
             self.assertEqual((at, line), (len(numbers), f"{name}: row {row}, place {place}"))
             self.judge(name, size, lengths, stands, after)
-            if stands and row:
+            if not stands:
+                self.assertEqual(after_totals[-1], int(row == 0), name)
+                continue
+            is_tried = tool.TRIAL <= call < tool.COMMIT
+            if row:
                 self.assertEqual(after_totals, totals, name)
-                kept = range(12) if place > PROGRAM_PLACE else (i for i in range(12) if i != ERRORS)
+            else:
+                self.assertEqual(after_totals[-1], totals[-1] + int(not is_tried), name)
+            if row == STALE:
+                self.assertTrue(tried[-1] != totals[-1] == place, name)
+            if row or is_tried:
+                is_unfit = row == BAD_SHAPE and place > PROGRAM_PLACE
+                kept = range(12) if is_unfit else (i for i in range(12) if i != ERRORS)
                 self.assertTrue(all(stands[i] == after[i] for i in kept), name)
 
     def judge(self, name, size, lengths, *areas):
@@ -77,7 +89,7 @@ class BookCases(unittest.TestCase):
 
     def test_the_program_has_the_buffers(self):
         code = (ROOT / "crates" / "book_cases" / "src" / "main.rt").read_text()
-        for name in ("MOST_NAME", "MOST_TEXT", "MOST_NUMBERS", "MOST_MEMORY", "LAY_ON"):
+        for name in ("MOST_NAME", "MOST_TEXT", "MOST_NUMBERS", "MOST_MEMORY", "LAY_ON", "TRIAL", "COMMIT"):
             self.assertEqual(int(re.search(rf"const {name}: \w+ = (\d+);", code).group(1)), getattr(tool, name), name)
 
     def test_it_says_when_files_are_not_current(self):

@@ -1,12 +1,15 @@
-// The compile call and laying on, on the oracle's stored cases, `oracle/sample/compile-N.txt`, `strict-N.txt` and `onto-N.txt`, which `tools/book-cases` puts
-// into `stdin`. A case is a line with the bytes of its name and of its numbers, then both. To the compile call a memory of stale words is lent; to laying on
-// one with the areas that are stored, zeros after a list's end, and stale words behind the last area. The reply and every word of the memory must be as
-// stored: the areas one after the other, zeros after a list's end and behind the last area, or there the stale words where the program that stands is
-// refused. A line with the reply is written for each case, below it one for each part that differs, and the counts at the end.
+// The compile call, laying on, trial and commit, on the oracle's stored cases, `oracle/sample/compile-N.txt`, `strict-N.txt`, `onto-N.txt`, `trial-N.txt` and
+// `commit-N.txt`, which `tools/book-cases` puts into `stdin`. A case is a line with the bytes of its name and of its numbers, then both. To the compile call a
+// memory of stale words is lent; to the others one with the areas that are stored, zeros after a list's end, and stale words behind the last area. The reply
+// and every word of the memory must be as stored: the areas one after the other, zeros after a list's end and behind the last area, or there the stale words
+// where the program that stands is refused. A line with the reply is written for each case, below it one for each part that differs, and the counts at the
+// end.
 ghost use Prim.Native.Nat.{_≤_};
 ghost use lib.ListN.{length};
+use book_compiler::commit;
 use book_compiler::compile;
 use book_compiler::lay_on;
+use book_compiler::trial;
 use case_numbers::parse;
 use libc::STDIN_FILENO;
 use libc::STDOUT_FILENO;
@@ -21,8 +24,12 @@ const DIFFERS: u64 = 1;
 
 const NO_CASE: u64 = 2;
 
-// The first call that lays on.
+// The first call that lays on, the first on trial, and the first that commits.
 const LAY_ON: u64 = 2;
+
+const TRIAL: u64 = 4;
+
+const COMMIT: u64 = 6;
 
 const MOST_CASES: u64 = 10000;
 
@@ -34,7 +41,7 @@ const MOST_MEMORY: u64 = 6144;
 
 const AREAS: u64 = 12;
 
-const REPLY_WORDS: u64 = 16;
+const REPLY_WORDS: u64 = 17;
 
 const MOST_NUMBERS: usize = 1024;
 
@@ -140,6 +147,7 @@ fn same_reply(reply: Reply, numbers: &[u64], at: usize) -> bool {
         totals.books,
         totals.entry_point,
         totals.global_dependencies,
+        totals.bundles,
     ];
     same(0, &words, numbers, at, REPLY_WORDS, 0)
 }
@@ -211,7 +219,7 @@ fn lengths_at(numbers: &[u64], at: usize) -> [usize; 12]
     ]
 }
 
-// The totals of a program that stands, from a place on.
+// The totals of a program that stands, or of a trial, from a place on.
 fn totals_at(numbers: &[u64], at: usize) -> Totals
     requires { ⌜ at ≤ 2048 ⌝ }
 {
@@ -230,6 +238,7 @@ fn totals_at(numbers: &[u64], at: usize) -> Totals
         books: number_at(numbers, at + 11),
         entry_point: number_at(numbers, at + 12),
         global_dependencies: number_at(numbers, at + 13),
+        bundles: number_at(numbers, at + 14),
     }
 }
 
@@ -279,7 +288,7 @@ fn as_stored(
 {
     say_reply(reply);
     let is_reply = same_reply(reply, numbers, at);
-    let are_areas = same_areas(memory, numbers, lengths, at + 17, left);
+    let are_areas = same_areas(memory, numbers, lengths, at + 18, left);
     is_reply && are_areas
 }
 
@@ -292,7 +301,7 @@ fn judge_compile(tree: &[u64], strict: bool, memory: &mut [u64], numbers: &[u64]
     as_stored(reply, memory, numbers, at, at + 11, 0)
 }
 
-// What the slots must hold after laying on, where the reply stands after a place: the program check comes first, and writes nothing.
+// What the slots must hold after a call on a program, where the reply stands after a place: the program check comes first, and writes nothing.
 fn slots_left(numbers: &[u64], at: usize) -> u64
     requires { ⌜ at ≤ 2048 ⌝ }
 {
@@ -304,26 +313,65 @@ fn slots_left(numbers: &[u64], at: usize) -> u64
     0
 }
 
-// Laying on with lengths that stand from a place on, behind them the totals and the areas of the program that stands, and the reply.
-fn judge_lay_on(tree: &[u64], strict: bool, memory: &mut [u64], numbers: &[u64], at: usize) -> bool
+// Where the areas of the program that stands are, by the place of the lengths: behind its totals, and of a commit behind the trial's.
+fn lists_at(call: u64, at: usize) -> usize
     requires { ⌜ at ≤ 1024 ⌝ }
+    ensures { λ r. ⌜ 1 ≤ r ⌝ }
+{
+    if call < COMMIT {
+        return at + 27;
+    }
+    at + 42
+}
+
+// Laying on, a trial or a commit; the totals that were tried are for this one alone.
+fn ask(
+    tree: &[u64],
+    call: u64,
+    standing: Totals,
+    tried: Totals,
+    lengths: [usize; 12],
+    memory: &mut [u64],
+) -> Reply {
+    let strict = call % 2 == 1;
+    if call < TRIAL {
+        return lay_on(tree, strict, standing, lengths, memory);
+    }
+    if call < COMMIT {
+        return trial(tree, strict, standing, lengths, memory);
+    }
+    commit(tree, strict, standing, tried, lengths, memory)
+}
+
+// A call on the program that is in the memory, with lengths that stand from a place on, behind them the totals of the program and of a commit those of its
+// trial. The reply stands after another place.
+fn judge_asked(
+    tree: &[u64],
+    call: u64,
+    memory: &mut [u64],
+    numbers: &[u64],
+    at: usize,
+    last: usize,
+) -> bool
+    requires { ⌜ (at ≤ 1024) × (last ≤ 1024) ⌝ }
 {
     let lengths = lengths_at(numbers, at);
     let standing = totals_at(numbers, at + 12);
-    let end = put_areas(memory, numbers, at, at + 26);
+    let tried = totals_at(numbers, at + 27);
+    let reply = ask(tree, call, standing, tried, lengths, memory);
+    as_stored(reply, memory, numbers, at, last, slots_left(numbers, last))
+}
+
+// A call on a program: behind the lengths and the totals stand the areas of the program, and then the reply.
+fn judge_on_program(tree: &[u64], call: u64, memory: &mut [u64], numbers: &[u64], at: usize) -> bool
+    requires { ⌜ at ≤ 1024 ⌝ }
+{
+    let end = put_areas(memory, numbers, at, lists_at(call, at));
     if end > MOST_NUMBERS {
         say(b"  no case\n");
         return false;
     }
-    let reply = lay_on(tree, strict, standing, lengths, memory);
-    as_stored(
-        reply,
-        memory,
-        numbers,
-        at,
-        end - 1,
-        slots_left(numbers, end - 1),
-    )
+    judge_asked(tree, call, memory, numbers, at, end - 1)
 }
 
 // Lends a memory of so many words.
@@ -331,11 +379,10 @@ fn lend(tree: &[u64], call: u64, size: usize, numbers: &[u64], at: usize) -> boo
     requires { ⌜ (at ≤ 1024) × (size ≤ 6144) ⌝ }
 {
     let mut memory = [7777777; 6144];
-    let strict = call % 2 == 1;
     if call < LAY_ON {
-        return judge_compile(tree, strict, &mut memory[0..size], numbers, at);
+        return judge_compile(tree, call % 2 == 1, &mut memory[0..size], numbers, at);
     }
-    judge_lay_on(tree, strict, &mut memory[0..size], numbers, at)
+    judge_on_program(tree, call, &mut memory[0..size], numbers, at)
 }
 
 fn case_in(call: u64, size: u64, numbers: &[u64]) -> u64 {
@@ -358,7 +405,7 @@ fn case_in(call: u64, size: u64, numbers: &[u64]) -> u64 {
     DIFFERS
 }
 
-// The first number is the call: 0 the compile call, 1 that in strict mode; 2 laying on, 3 that in strict mode. The second is the words of the memory.
+// The first number is the call: 0 the compile call, 2 laying on, 4 a trial, 6 a commit, and one more in strict mode. The second is the words of the memory.
 fn case(numbers: &[u64]) -> u64 {
     let end = numbers.len();
     if end < 2 {

@@ -1,16 +1,17 @@
 -- The call's ways to its end over one memory: refused before the work, an area too short, a book with errors or a ring, and a delivery. By the lemmas over
 -- areas, of the parts; what is left over is zeros on each way. Assumes nothing.
-use Prim.Native.Nat.{ℕ, _*_, _≤_, _<_}
+use Prim.Native.Nat.{ℕ, _+_, _*_, _≤_, _<_}
 use native.Mathlib.Omega.{arith}
 use native.Mathlib.Decide.{ℕ-discrete}
-use mathlib.Core.Path.{_≡_, sym, ap, subst, _∙_}
-use mathlib.Core.Bool.{Bool}
+use mathlib.Core.Path.{_≡_, refl, sym, ap, subst, _∙_}
+use mathlib.Core.Bool.{Bool, true, false, cond}
 use mathlib.Core.List.{List, [], _++_}
 use lib.ListN.{length, getD, replicate}
+use lib.Dec.{eqb}
 use borrow.Author.Tests.{eqb-false}
 use Rattle.memory.specs.Layout.{part, partCount, startsOf, Fits}
 use Rattle.memory.proofs.Starts.{starts-fit}
-use Rattle.words.specs.Areas.{clearedFrom, errorsArea}
+use Rattle.words.specs.Areas.{clearedFrom, errorsArea, entryField}
 use Rattle.words.specs.declared.reply.Reply as struct
 use Rattle.words.specs.Reply.{delivery, refusal}
 use Rattle.definition.specs.Promise.{lengthsOf, Compiles}
@@ -18,13 +19,14 @@ use Rattle.definition.specs.Answer.{limitsOf}
 use Rattle.definition.specs.Program.{flat}
 use Rattle.definition.specs.Within.{Areas}
 use Rattle.compiler_laws.specs.declared.book.Book as book
-use Rattle.compiler_laws.specs.BooksInOrder.{Zero, Emptied, FrontRows, MarkedFrom}
+use Rattle.compiler_laws.specs.BooksInOrder.{Zero, Emptied, FrontRows, MarkedFrom, markOf}
 use Rattle.compiler_laws.specs.BooksInOrder as slices
 use Rattle.compiler_laws.specs.CallEnd.{totals, markRefusal}
 use Rattle.compiler_laws.specs.CallEnd as slices-end
-use Rattle.compiler_laws.proofs.CallEnd.{cleared-zero, SameLengths, lent-are, run-row, run-finished, compile-runs}
+use Rattle.compiler_laws.proofs.CallEnd.{cleared-zero, SameLengths, lent-are, marked-more, run-row, run-finished, compile-runs}
 use Rattle.book_compiler.specs.Leaves.{ClearsSlots}
 use Rattle.undo.specs.Notes.{settledMarks, plainMarks, plainMethods}
+use Rattle.undo.proofs.PlainMarks.{plain-marks-third}
 use Rattle.book_compiler.specs.RepresentsBook.{BookMemory, bookLaid, areaOf, saidBy}
 use Rattle.book_compiler.specs.BookOrder.{ReadsPart, Works, ClearsButErrors, Settles, Finishes}
 use Rattle.book_compiler.specs.BookOrder.{LentPart, Runs, partsOf}
@@ -33,7 +35,7 @@ use Rattle.book_compiler.proofs.LentParts.{lent-does, lent-other, lent-
 use Rattle.book_compiler.proofs.PartsInTurn.{ChangedUpTo, slots-lent, slots-zero}
 use Rattle.book_compiler.proofs.MemoryAreas.{memory-is, left-over-is, areas-are}
 use Rattle.book_compiler.proofs.BookBeginning.{cleared-parts}
-use Rattle.book_compiler.proofs.SaidAreas.{came-parts, constants-end, constants-settled, settled-areas}
+use Rattle.book_compiler.proofs.SaidAreas.{came-parts, constants-end, settled-areas}
 
 -- the way of `clear_but_errors`
 pub clear-end : {i : ℕ} {a w w₁ : List ℕ} → partCount ≤ i → ChangedUpTo (λ j l. clearedFrom 0 l) 0 i a w w₁ → ClearsButErrors a w w₁
@@ -53,10 +55,24 @@ finish-row y ne C says = record { full = λ h. absurd (h y); refused = λ _ _. (
 
 pub finish-whole : {m : BookMemory} {row place globals : ℕ} {after : List ℕ} {r : struct.Reply} → m .book .full ≡ 0 → row ≡ 0
     → Settles (m .book .constants) (m .book .«standing_methods») (m .starts) (m .words) after
-    → ReadsPart 2 (λ k. MarkedFrom k 0 (m .book .constants) 0 globals) (m .starts) after → r ≡ delivery (totals (m .book) place globals)
-    → Finishes m row place after r
+    → ReadsPart 2 (λ k. MarkedFrom (plainMarks k) 0 (m .book .constants) 0 globals) (m .starts) (m .words)
+    → r ≡ delivery (totals (m .book) place globals 1) → Finishes m row place after r
 finish-whole {globals = globals} y h C M says =
     record { full = λ g. absurd (g y); refused = λ _ g. absurd (g h); whole = λ _ _. (C, (globals, (M, says))) }
+
+-- `count_marked`: one mark more, whatever is noted of it
+pub marked-one : (l : List ℕ) {i count n r word one : ℕ} → i < count → word ≡ entryField 3 i 2 l → one ≡ markOf word
+    → MarkedFrom (plainMarks l) (i + 1) count (n + one) r → MarkedFrom (plainMarks l) i count n r
+marked-one l {i} {word = word} {one} inside word-is one-is M =
+    let there : one ≡ entryField 3 i 2 (plainMarks l) = one-is ∙ ap markOf word-is ∙ sym (plain-marks-third i l) in
+    marked-more inside refl (there ∙ plain-marks-third i l ∙ sym (twice (entryField 3 i 2 l)) ∙ ap markOf (sym (plain-marks-third i l))) M
+  where
+    twice : (x : ℕ) → markOf (markOf x) ≡ markOf x
+    twice x = go (eqb x 0)
+      where
+        go : (b : Bool) → _≡_ {A = ℕ} (cond (eqb (cond b 0 1) 0) 0 1) (cond b 0 1)
+        go true = refl
+        go false = refl
 
 -- the way of `settle`
 pub settled : {count stood : ℕ} {a w w₁ w₂ w′ : List ℕ} → LentPart 2 (λ k k′. k′ ≡ settledMarks count k) a w w₁
@@ -145,11 +161,7 @@ module _ {strict : Bool} {tree set a w : List ℕ} {number at : ℕ} {r : struct
             settled-areas s a w′ S (quiet f z y h),
             (
               X .1 .0,
-              (
-                rw (← constants-settled s a w′ S (quiet f z y h))
-                    (X .1 .1 .0 .on (rw (S .long) f′)),
-                X .1 .1 .1,
-              ),
+              (X .1 .1 .0 .on f′, X .1 .1 .1),
             ),
           );
     }

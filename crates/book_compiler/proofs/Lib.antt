@@ -31,7 +31,7 @@ pub mod BookEnding
 pub mod OntoBeginning
 pub mod OntoParts
 pub mod OntoEnding
-pub mod LayingOn
+pub mod OntoMemory
 pub mod ModelDefinitions
 pub mod ApplyDefinitions
 pub mod DocumentDefinitions

@@ -30,7 +30,7 @@ use Rattle.compiler_laws.specs.SolverSteps.{bookUnit, placeUnit, Distinct, Stan
 use Rattle.compiler_laws.specs.BooksInOrder.{Zero, PushesRingErrors, Accepted, MarkedFrom}
 use Rattle.compiler_laws.specs.CallEnd.{totals, markRefusal}
 use Rattle.book_compiler.specs.declared.order.Next.{Next}
-use Rattle.undo.specs.Notes.{settledMarks, plainMethods}
+use Rattle.undo.specs.Notes.{plainMarks, settledMarks, plainMethods}
 use Rattle.undo.specs.Stood.{Stood}
 use Rattle.book_compiler.specs.Represents.{slotsPart, Replaced}
 use Rattle.book_compiler.specs.RepresentsBook.{BookMemory, bookLaid, areaOf, isBookArea, RepresentsContext}
@@ -174,8 +174,8 @@ pub record Finishes (m : BookMemory) (row place : ℕ) (after : List ℕ) (r : r
   pub full : (m .book .full ≡ 0 → ⊥) → Zero after × (r ≡ markRefusal (m .book .full))
   pub refused : m .book .full ≡ 0 → (row ≡ 0 → ⊥) → ClearsButErrors (m .starts) (m .words) after × (r ≡ refusal row place)
   pub whole : m .book .full ≡ 0 → row ≡ 0 → Settles (m .book .constants) (m .book .«standing_methods») (m .starts) (m .words) after
-      × ((globals : ℕ) × (ReadsPart constantsArea (λ k. MarkedFrom k 0 (m .book .constants) 0 globals) (m .starts) after
-      × (r ≡ delivery (totals (m .book) place globals))))
+      × ((globals : ℕ) × (ReadsPart constantsArea (λ k. MarkedFrom (plainMarks k) 0 (m .book .constants) 0 globals) (m .starts) (m .words)
+      × (r ≡ delivery (totals (m .book) place globals 1))))
 
 -- areas 1 to 12 by a table of starts
 abbrev pub partsOf : List ℕ → List ℕ → Areas

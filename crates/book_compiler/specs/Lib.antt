@@ -2,6 +2,7 @@ pub mod Represents
 pub mod Leaves
 pub mod Members
 pub mod Onto
+pub mod Orders
 pub mod OntoParts
 pub mod RepresentsBook
 pub mod BookLeaves

@@ -1,9 +1,9 @@
--- What the routines of `onto.rt` promise: a memory that holds a program made ready for a bundle, what is left of it at a refusal and at a delivery, and laying
--- on from there (2026-01)
+-- What the routines of `onto.rt` and `grown.rt` promise: a memory that holds a program made ready for a bundle (2026-01), what is left of it at a refusal, at a
+-- trial and at a delivery, and a call from there (2026-08)
 -- Private contracts alone cite this file: whoever reads the promises need not believe it
-use Prim.Native.Nat.{ℕ, _*_, _<_}
+use Prim.Native.Nat.{ℕ, _+_, _*_, _%_, _^_, _<_}
 use mathlib.Core.Path.{_≡_}
-use mathlib.Core.Bool.{Bool, false, _||_}
+use mathlib.Core.Bool.{Bool, true, false, _||_}
 use mathlib.Core.Option.{none}
 use mathlib.Core.List.{List}
 use lib.ListN.{length, take}
@@ -13,15 +13,18 @@ use Rattle.words.specs.Areas.{constantsArea, methodsArea, errorsArea, booksArea
 use Rattle.words.specs.declared.reply.Totals.{Totals}
 use Rattle.words.specs.declared.reply.Reply.{Reply}
 use Rattle.words.specs.Reply.{totalOf, delivery}
-use Rattle.undo.specs.Notes.{notedMarks, restoredMarks, notedMethods, restoredMethods}
+use Rattle.undo.specs.Notes.{plainMarks, notedMarks, restoredMarks, notedMethods, restoredMethods}
 use Rattle.definition.specs.ProgramCheck.{programFault}
-use Rattle.definition.specs.Promise.{lent, LaysOn}
+use Rattle.definition.specs.Trial.{Order, countedFault, isStale}
+use Rattle.definition.specs.Promise.{lent, lentCounted, Answers}
 use Rattle.compiler_laws.specs.FileSets.{Below}
 use Rattle.compiler_laws.specs.BooksInOrder.{Zero, MarkedFrom}
-use Rattle.compiler_laws.specs.CallEnd.{totals, refusalWith, markRefusalWith}
+use Rattle.compiler_laws.specs.CallEnd.{totals, refusalWith, markRefusalWith, isTrial, differs}
 use Rattle.book_compiler.specs.Represents.{slotsPart, SlotsFilled}
+use Rattle.book_compiler.specs.Leaves.{ClearsSlots}
 use Rattle.book_compiler.specs.RepresentsBook.{BookMemory}
 use Rattle.book_compiler.specs.BookOrder.{LentPart, ReadsPart, Settles, partsOf}
+use Rattle.book_compiler.specs.Promise.{areasIn, wordsAfter}
 
 -- the parts that laying on writes at its beginning
 abbrev pub isNoted : ℕ → Bool
@@ -52,22 +55,51 @@ pub record GivenBack (t : Totals) (starts before after : List ℕ) : Type 0 wher
 pub record GivesBack (t : Totals) (starts before after : List ℕ) : Type 0 where
   pub on : Fits starts (length before) → GivenBack t starts before after
 
--- `finish_onto`: after a full area or a row what stood is given back, with the totals lent; area 11 is cleared after a full area. Else the notes and the slots
--- go, and the reply has the totals of the whole
-pub record FinishesOnto (t : Totals) (m : BookMemory) (row place : ℕ) (after : List ℕ) (r : Reply) : Type 0 where
-  pub full : (m .book .full ≡ 0 → ⊥) → (given : List ℕ) × (GivesBack t (m .starts) (m .words) given
-      × (LentPart errorsArea (λ e e′. e′ ≡ clearedFrom 0 e) (m .starts) given after × (r ≡ markRefusalWith t (m .book .full))))
+-- `undo`: given back, and no errors
+pub record Undoes (t : Totals) (starts before after : List ℕ) : Type 0 where
+  pub given : List ℕ
+  pub back : GivesBack t starts before given
+  pub bare : LentPart errorsArea (λ e e′. e′ ≡ clearedFrom 0 e) starts given after
+
+-- the count of bundles after one more, as a word
+abbrev pub nextCount : ℕ → ℕ
+nextCount n = (n + 1) % 2 ^ 64
+
+-- a delivery of the work, by the order: a trial, and a commit whose trial was answered other totals, are undone; else the notes and the slots go
+pub record EndsBy (o : Order) (t : Totals) (m : BookMemory) (place globals : ℕ) (after : List ℕ) (r : Reply) : Type 0 where
+  pub differ : differs o (totals (m .book) place globals (t .bundles)) ≡ true → Undoes t (m .starts) (m .words) after × (r ≡ refusalWith t 13 0)
+  pub tried : differs o (totals (m .book) place globals (t .bundles)) ≡ false → isTrial o ≡ true
+      → Undoes t (m .starts) (m .words) after × (r ≡ delivery (totals (m .book) place globals (t .bundles)))
+  pub kept : differs o (totals (m .book) place globals (t .bundles)) ≡ false → isTrial o ≡ false
+      → Settles (m .book .constants) (m .book .«standing_methods») (m .starts) (m .words) after
+      × (r ≡ delivery (totals (m .book) place globals (nextCount (t .bundles))))
+
+-- `finish_onto`: after a full area or a row what stood is given back, with the totals lent; area 11 is cleared after a full area. Else as the order has it
+pub record FinishesOnto (o : Order) (t : Totals) (m : BookMemory) (row place : ℕ) (after : List ℕ) (r : Reply) : Type 0 where
+  pub full : (m .book .full ≡ 0 → ⊥) → Undoes t (m .starts) (m .words) after × (r ≡ markRefusalWith t (m .book .full))
   pub refused : m .book .full ≡ 0 → (row ≡ 0 → ⊥) → GivesBack t (m .starts) (m .words) after × (r ≡ refusalWith t row place)
-  pub whole : m .book .full ≡ 0 → row ≡ 0 → Settles (m .book .constants) (m .book .«standing_methods») (m .starts) (m .words) after
-      × ((globals : ℕ) × (ReadsPart constantsArea (λ k. MarkedFrom k 0 (m .book .constants) 0 globals) (m .starts) after
-      × (r ≡ delivery (totals (m .book) place globals))))
+  pub whole : m .book .full ≡ 0 → row ≡ 0
+      → (globals : ℕ) × (ReadsPart constantsArea (λ k. MarkedFrom (plainMarks k) 0 (m .book .constants) 0 globals) (m .starts) (m .words)
+      × EndsBy o t m place globals after r)
 
 -- the file numbers of the books that stand are below a number, where the program passes the check
 pub record BooksBelow (most : ℕ) (t : Totals) (starts words : List ℕ) : Type 0 where
   pub below : Fits starts (length words) → programFault (lent (partsOf starts words) t) ≡ none → Below most (take (t .books) (part starts booksArea words))
 
--- `run_onto`: from a memory whose areas are a program that passes the check, what laying on promises of its parts; and no slots
-pub record RunsOnto (strict : Bool) (tree : List ℕ) (t : Totals) (starts before after : List ℕ) (r : Reply) : Type 0 where
-  pub lays-on : Fits starts (length before) → programFault (lent (partsOf starts before) t) ≡ none
-      → LaysOn strict tree t (partsOf starts before) (partsOf starts after) r
-  pub left-over : Fits starts (length before) → programFault (lent (partsOf starts before) t) ≡ none → Zero (part starts slotsPart after)
+-- `refuse_stale`: no errors, no slots
+pub record RefusesStale (t : Totals) (starts before after : List ℕ) (r : Reply) : Type 0 where
+  pub between : List ℕ
+  pub errors : LentPart errorsArea (λ e e′. e′ ≡ clearedFrom 0 e) starts before between
+  pub slots : ClearsSlots starts between after
+  pub says : r ≡ refusalWith t 12 (t .bundles)
+
+-- `run_onto`: from a memory whose areas are a program that passes the check, where the order is not stale, what is promised of its parts; and no slots
+pub record RunsOnto (o : Order) (strict : Bool) (tree : List ℕ) (t : Totals) (starts before after : List ℕ) (r : Reply) : Type 0 where
+  pub answers : Fits starts (length before) → countedFault (lentCounted (partsOf starts before) t) ≡ none → isStale o (t .bundles) ≡ false
+      → Answers o strict tree t (partsOf starts before) (partsOf starts after) r
+  pub left-over : Fits starts (length before) → countedFault (lentCounted (partsOf starts before) t) ≡ none → Zero (part starts slotsPart after)
+
+-- `answer_onto`, of any order: demands 1 and 2 of the areas in the memory, and every word; demand 3 follows from them (`lays-on`, `commits` of `definition_laws`)
+pub record AnswersInto (o : Order) (strict : Bool) (tree : List ℕ) (t : Totals) (lengths before after : List ℕ) (r : Reply) : Type 0 where
+  pub answers : Answers o strict tree t (areasIn lengths before) (areasIn lengths after) r
+  pub words : after ≡ wordsAfter o strict tree t lengths before

@@ -7,7 +7,7 @@ ghost use Rattle.compiler_laws.specs.BooksInOrder.{markOf, MarkedFrom};
 ghost use Rattle.compiler_laws.specs.CallEnd.{totals, markRefusal};
 ghost use Rattle.book_compiler.specs.RepresentsBook.{bookLaid};
 ghost use Rattle.book_compiler.specs.BookOrder.{LentPart, LentButErrors, ReadsPart, ClearsButErrors, Settles, Finishes};
-ghost use Rattle.undo.specs.Notes.{settledMarks, plainMethods};
+ghost use Rattle.undo.specs.Notes.{plainMarks, settledMarks, plainMethods};
 use crate::slots;
 use compiler_laws::book::Book;
 use words::areas;
@@ -27,19 +27,19 @@ pub struct Ended {
     pub place: u64,
 }
 
-// A mark of 1.
+// A mark, whatever is noted of it (2026-01).
 fn one_if(word: u64) -> u64
     ensures { λ r. ⌜ r ≡ markOf word ⌝ }
 {
-    if word == 1 {
-        return 1;
+    if word == 0 {
+        return 0;
     }
-    0
+    1
 }
 
 // The constants that are marked.
 fn count_marked(constants: &[u64], count: usize) -> u64
-    ensures { λ r. ⌜ MarkedFrom (now (constants .entry)) 0 count 0 r ⌝ }
+    ensures { λ r. ⌜ MarkedFrom (plainMarks (now (constants .entry))) 0 count 0 r ⌝ }
 {
     let mut i: usize = 0;
     let mut n: u64 = 0;
@@ -53,7 +53,7 @@ fn count_marked(constants: &[u64], count: usize) -> u64
 }
 
 pub(crate) fn count_global_dependencies(count: usize, starts: &[usize; 15], memory: &[u64]) -> u64
-    ensures { λ r. ⌜ ReadsPart constantsArea (λ k. MarkedFrom k 0 count 0 r) (now (starts .entry)) (now (memory .entry)) ⌝ }
+    ensures { λ r. ⌜ ReadsPart constantsArea (λ k. MarkedFrom (plainMarks k) 0 count 0 r) (now (starts .entry)) (now (memory .entry)) ⌝ }
 {
     let start = starts[2];
     let end = starts[3];
@@ -104,9 +104,9 @@ fn clear_but_errors(starts: &[usize; 15], memory: &mut [u64])
     }
 }
 
-// What a delivery says.
-pub(crate) fn delivered(ended: Ended, marked: u64) -> Reply
-    ensures { λ r. ⌜ r ≡ delivery (totals (ended .book) (ended .place) marked) ⌝ }
+// What a delivery says, with so many bundles.
+pub(crate) fn delivered(ended: Ended, marked: u64, bundles: u64) -> Reply
+    ensures { λ r. ⌜ r ≡ delivery (totals (ended .book) (ended .place) marked bundles) ⌝ }
 {
     let book = ended.book;
     let totals = Totals {
@@ -124,6 +124,7 @@ pub(crate) fn delivered(ended: Ended, marked: u64) -> Reply
         books: ended.place,
         entry_point: book.entry_point,
         global_dependencies: marked,
+        bundles,
     };
     Reply::delivered(totals)
 }
@@ -179,12 +180,12 @@ pub(crate) fn finish(ended: Ended, starts: &[usize; 15], memory: &mut [u64]) -> 
         clear_but_errors(starts, memory);
         return Reply::refused(ended.row, ended.place);
     }
+    let marked = count_global_dependencies(ended.book.constants, starts, memory);
     settle(
         ended.book.constants,
         ended.book.standing_methods,
         starts,
         memory,
     );
-    let marked = count_global_dependencies(ended.book.constants, starts, memory);
-    delivered(ended, marked)
+    delivered(ended, marked, 1)
 }

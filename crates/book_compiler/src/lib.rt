@@ -1,5 +1,5 @@
 // `backend/compiler.rs` and `backend/dependency_solver.rs` over one lent memory: parts by number, the state of a function in cells.
-ghost use Rattle.book_compiler.specs.Promise.{CompilesInto, LaysOnInto};
+ghost use Rattle.book_compiler.specs.Promise.{CompilesInto, LaysOnInto, TriesInto, CommitsInto};
 
 mod book;
 mod cells;
@@ -24,9 +24,8 @@ mod solver;
 mod statements;
 mod subtree;
 
+use crate::grown::Order;
 use memory::starts_of;
-use program_check::check_program;
-use tree::Shape;
 use words::areas;
 use words::reply::Reply;
 use words::reply::Totals;
@@ -55,10 +54,41 @@ pub fn lay_on(
 ) -> Reply
     ensures { λ r. ⌜ LaysOnInto strict (now (tree .entry)) standing lengths (now (memory .entry)) (now (memory .exit)) r ⌝ }
 {
-    let shape = check_program(memory, lengths, standing);
-    if let Shape::Refused(number, place) = shape {
-        return grown::refused_with(standing, number, place as u64);
-    }
-    let starts = starts_of(lengths, memory.len());
-    grown::run_onto(tree, strict, standing, &starts, memory)
+    grown::answer_onto(tree, strict, Order::Lay, standing, lengths, memory)
+}
+
+// What laying the books on would answer (2026-08), the totals that the program would have among it; the number of bundles is as lent. The program stays as it
+// stands, and after rows 7 and 8 the errors are listed.
+pub fn trial(
+    tree: &[u64],
+    strict: bool,
+    standing: Totals,
+    lengths: [usize; 12],
+    memory: &mut [u64],
+) -> Reply
+    ensures { λ r. ⌜ TriesInto strict (now (tree .entry)) standing lengths (now (memory .entry)) (now (memory .exit)) r ⌝ }
+{
+    grown::answer_onto(tree, strict, Order::Trial, standing, lengths, memory)
+}
+
+// Lays on what a trial was answered `tried` for (2026-08): row 12 where the program has another number of bundles since, row 13 where the totals of the listing's
+// line 1 are others; the program then stays as it stands.
+pub fn commit(
+    tree: &[u64],
+    strict: bool,
+    standing: Totals,
+    tried: Totals,
+    lengths: [usize; 12],
+    memory: &mut [u64],
+) -> Reply
+    ensures { λ r. ⌜ CommitsInto tried strict (now (tree .entry)) standing lengths (now (memory .entry)) (now (memory .exit)) r ⌝ }
+{
+    grown::answer_onto(
+        tree,
+        strict,
+        Order::Commit(tried),
+        standing,
+        lengths,
+        memory,
+    )
 }

@@ -2,4 +2,4 @@
 use Rattle.clover_back_end.specs.declared.Version.{Version}
 
 unfoldable pub thisVersion : Version
-thisVersion = record { version = 5; layout = 5 }
+thisVersion = record { version = 6; layout = 6 }

@@ -1,7 +1,9 @@
 // The static library: what a Rust or C program calls (docs/FORMAT.md, 'The static library'). Each function is another crate's routine under a name of
 // its own; a slice is a pointer and a length.
+use book_compiler::commit;
 use book_compiler::compile;
 use book_compiler::lay_on;
+use book_compiler::trial;
 use column_files::Converted;
 use column_files::columns_to_records;
 use column_files::records_to_columns;
@@ -14,10 +16,10 @@ use tree::Shape;
 use tree::check;
 use words::reply::Reply;
 use words::reply::Totals;
-ghost use Rattle.book_compiler.specs.Promise.{CompilesInto, LaysOnInto};
-ghost use Rattle.definition.specs.ProgramCheck.{programFault};
+ghost use Rattle.book_compiler.specs.Promise.{CompilesInto, LaysOnInto, TriesInto, CommitsInto};
+ghost use Rattle.definition.specs.Promise.{lentCounted};
+ghost use Rattle.definition.specs.Trial.{countedFault};
 ghost use Rattle.program_check.specs.Answer.{answerOf};
-ghost use Rattle.program_check.specs.Parts.{lent};
 ghost use Rattle.program_check.specs.OneMemory.{areasIn};
 ghost use mathlib.Core.Path.{_≡_};
 ghost use lib.ListN.{length};
@@ -31,9 +33,9 @@ ghost use Rattle.clover_back_end.specs.Modes.{isStrict};
 ghost use Rattle.clover_back_end.specs.Versions.{thisVersion};
 
 // Counts releases of the library: one more whenever an answer may be another than before.
-const VERSION: u64 = 5;
+const VERSION: u64 = 6;
 // Counts forms of what goes in and out (docs/FORMAT.md, 'Version and layout').
-const LAYOUT: u64 = 5;
+const LAYOUT: u64 = 6;
 
 // What the shape check and the program check answer: the number of a refusal's row and its place, or 0 and 0.
 #[repr(C)]
@@ -100,7 +102,7 @@ pub extern "C" fn clover_check(tree: &[u64]) -> Refusal
 // The program check (2026-01) on any memory, lengths and totals: row 3 with 1,048,576 plus the first area that fails, or 0 and 0.
 #[no_mangle]
 pub extern "C" fn clover_check_program(memory: &[u64], lengths: Lengths, totals: Totals) -> Refusal
-    ensures { λ r. ⌜ r ≡ refusalOf (answerOf (programFault (lent (areasIn (lengthsOf lengths) (now (memory .entry))) totals))) ⌝ }
+    ensures { λ r. ⌜ r ≡ refusalOf (answerOf (countedFault (lentCounted (areasIn (lengthsOf lengths) (now (memory .entry))) totals))) ⌝ }
 {
     let words = [
         lengths.code,
@@ -219,4 +221,62 @@ pub extern "C" fn clover_lay_on(
         lengths.books,
     ];
     lay_on(tree, mode != 0, standing, words, memory)
+}
+
+// What laying a bundle on would answer (2026-08): the program stays as it stands.
+#[no_mangle]
+pub extern "C" fn clover_trial(
+    tree: &[u64],
+    mode: u64,
+    standing: Totals,
+    lengths: Lengths,
+    memory: &mut [u64],
+) -> Reply
+    ensures { λ r. ⌜ TriesInto (isStrict mode) (now (tree .entry)) standing (lengthsOf lengths) (now (memory .entry)) (now (memory .exit)) r ⌝ }
+{
+    let words = [
+        lengths.code,
+        lengths.constants,
+        lengths.functions,
+        lengths.models,
+        lengths.properties,
+        lengths.methods,
+        lengths.context_locals,
+        lengths.public_names,
+        lengths.scope_names,
+        lengths.breaks,
+        lengths.errors,
+        lengths.books,
+    ];
+    trial(tree, mode != 0, standing, words, memory)
+}
+
+// Laying on what a trial was answered these totals for (2026-08): refused where the program has another number of bundles since, or where the totals of the
+// listing's line 1 are others.
+#[no_mangle]
+pub extern "C" fn clover_commit(
+    tree: &[u64],
+    mode: u64,
+    standing: Totals,
+    tried: Totals,
+    lengths: Lengths,
+    memory: &mut [u64],
+) -> Reply
+    ensures { λ r. ⌜ CommitsInto tried (isStrict mode) (now (tree .entry)) standing (lengthsOf lengths) (now (memory .entry)) (now (memory .exit)) r ⌝ }
+{
+    let words = [
+        lengths.code,
+        lengths.constants,
+        lengths.functions,
+        lengths.models,
+        lengths.properties,
+        lengths.methods,
+        lengths.context_locals,
+        lengths.public_names,
+        lengths.scope_names,
+        lengths.breaks,
+        lengths.errors,
+        lengths.books,
+    ];
+    commit(tree, mode != 0, standing, tried, words, memory)
 }

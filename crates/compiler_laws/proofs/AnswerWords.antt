@@ -54,9 +54,9 @@ module _ {κ : Limits} {s : struct.Book} {c k f m p t l u n b e o : List ℕ} {c
         ← books-named,
       )
 
-  pub delivered-reply : saying (delivery (totals s books globals)) ≡ replyOf (Delivery context)
+  pub delivered-reply : (bundles : ℕ) → saying (delivery (totals s books globals bundles)) ≡ replyOf (Delivery context)
   unfolding replyOf tablesOf
-  delivered-reply =
+  delivered-reply bundles =
       let S = R .ready .rest z in
       rw (
         S .code .count,

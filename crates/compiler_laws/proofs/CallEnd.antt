@@ -22,6 +22,7 @@ use Rattle.definition.specs.DependencySolver.{Worked, needed, compileNeeded}
 use Rattle.definition.specs.Program.{bit, errorTables, entriesFrom, errorEntry, globalDependencies}
 use Rattle.definition.specs.Answer.{Answer, Delivery, Refusal, answerWorked, limitsOf, answer, replyOf, areasOf}
 use Rattle.definition.specs.Within.{Areas, KeepsWithin}
+use Rattle.definition.specs.Trial.{freshBundles}
 use Rattle.building.specs.RepresentsMachine.{Filled}
 use Rattle.compiler_laws.specs.declared.book.Book as book
 use Rattle.compiler_laws.specs.BooksInOrder.{Zero, Cleared, Lent, Outcome, FrontRows, Works, MarkedFrom, markOf, Emptied}
@@ -88,11 +89,12 @@ lent-are s c k f m p t l u n b e o = record {
 }
 
 module _ (strict : Bool) (tree : List ℕ) (before : Areas) where
-  -- an answer's reply and words are the call's
+  -- an answer's reply, count and words are the call's
   answered : {after : Areas} {r : struct.Reply} (a : Answer) → length (lengthsOf before) ≡ 13 → answering strict tree before ≡ a → saying r ≡ replyOf a
-      → after ≡ areasOf (lengthsOf before) a → Compiles strict tree before after r
-  answered {after} {r} a thirteen q says holds =
+      → r .totals .bundles ≡ freshBundles a → after ≡ areasOf (lengthsOf before) a → Compiles strict tree before after r
+  answered {after} {r} a thirteen q says counts holds =
       compiles strict tree before after r thirteen (says ∙ sym (ap replyOf q)) (holds ∙ sym (ap (areasOf (lengthsOf before)) q))
+      (counts ∙ sym (ap freshBundles q))
 
   -- a refusal with these errors and zeros
   refuses : {c k f m p t l u n b e o : List ℕ} {errors : ℕ} (row place : ℕ) (es : List Error) → length (lengthsOf before) ≡ 13
@@ -101,7 +103,7 @@ module _ (strict : Bool) (tree : List ℕ) (before : Areas) where
       → Zero t → Zero l → Zero u → Zero n → Zero b → Filled 4 e (entriesFrom errorEntry 0 es) errors → Zero o
       → Compiles strict tree before (areas c k f m p t l u n b e o) (refusal row place)
   refuses {c} {k} {f} {m} {p} {t} {l} {u} {n} {b} {e} {o} row place es thirteen long q zc zk zf zm zp zt zl zu zn zb fe zo =
-      answered (Refusal row place es) thirteen q (refused-reply row place es)
+      answered (Refusal row place es) thirteen q (refused-reply row place es) refl
       (subst (λ (ls : List ℕ). areas c k f m p t l u n b e o ≡ areasOf ls (Refusal row place es)) (sym long)
       (refused-words row place es zc zk zf zm zp zt zl zu zn zb fe zo))
 
@@ -178,12 +180,12 @@ module _ (strict : Bool) (tree : List ℕ) (before : Areas) where
 
     -- a delivery
     pub compile-delivered : {globals : ℕ} {r : struct.Reply} → lengthsOf before ≡ lengthsOf (areas c′ k′ f′ m′ p′ t′ l′ u′ n′ b′ e′ o′) → s′ .full ≡ 0 → row ≡ 0
-        → MarkedFrom k′ 0 (s′ .constants) 0 globals → r ≡ delivery (totals s′ place globals)
+        → MarkedFrom k′ 0 (s′ .constants) 0 globals → r ≡ delivery (totals s′ place globals 1)
         → Compiles strict tree before (areas c′ k′ f′ m′ p′ t′ l′ u′ n′ b′ e′ o′) r
     compile-delivered long′ y zero-row M says =
         let D = answer-delivered (work .answers) (work .outcome) y zero-row (work .zeros) M in
         subst (λ (x : struct.Reply). Compiles strict tree before (areas c′ k′ f′ m′ p′ t′ l′ u′ n′ b′ e′ o′) x) (sym says)
-        (answered (Delivery (D .context)) thirteen (D .is) (D .reply)
+        (answered (Delivery (D .context)) thirteen (D .is) (D .reply 1) refl
         (subst (λ (ls : List ℕ). areas c′ k′ f′ m′ p′ t′ l′ u′ n′ b′ e′ o′ ≡ areasOf ls (Delivery (D .context))) (sym long′) (D .words)))
 
 -- `count_marked`
@@ -219,9 +221,9 @@ marked-more {k} {i} {count} {n} {r} {word} {one} inside word-is one-is M = recor
         later gs c cs h j l = let next : i + suc j ≡ i + 1 + j = omega arith in rw next at (h (suc j) (omega arith))
 
 pub mark-small : (word : ℕ) {one : ℕ} → one ≡ markOf word → one ≤ 1
-mark-small word q = go (eqb word 1) q
+mark-small word q = go (eqb word 0) q
   where
-    go : {one : ℕ} (x : Bool) → one ≡ cond x 1 0 → one ≤ 1
+    go : {one : ℕ} (x : Bool) → one ≡ cond x 0 1 → one ≤ 1
     go true q = omega arith
     go false q = omega arith
 
@@ -316,6 +318,7 @@ carried : {strict : Bool} {tree : List ℕ} {before before′ after : Areas} {r 
 carried {strict} {tree} {after = after} {r} q C = record {
   reply = C .reply ∙ ap (λ (ls : List ℕ). replyOf (answer strict tree ls)) (sym q);
   words = C .words ∙ ap (λ (ls : List ℕ). areasOf ls (answer strict tree ls)) (sym q);
+  bundles = C .bundles ∙ ap (λ (ls : List ℕ). freshBundles (answer strict tree ls)) (sym q);
   within = λ z. subst
       (λ (ls : List ℕ). KeepsWithin (programOf after r) 0 (logsIn (answer strict tree ls)))
       (sym q) (C .within z);

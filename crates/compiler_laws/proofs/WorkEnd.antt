@@ -87,7 +87,7 @@ all-marked gs cs {k} {count} F M =
 pub record Delivers (s : book.Book) (place : ℕ) (c k f m p t l u n b e o : List ℕ) (globals : ℕ) (a : Answer) : Type 0 where
   pub context : Context
   pub is : a ≡ Delivery context
-  pub reply : saying (delivery (totals s place globals)) ≡ replyOf (Delivery context)
+  pub reply : (bundles : ℕ) → saying (delivery (totals s place globals bundles)) ≡ replyOf (Delivery context)
   pub words : areas c k f m p t l u n b e o ≡ areasOf (lengthsOf (areas c k f m p t l u n b e o)) (Delivery context)
 
 module _ {κ : Limits} {s : book.Book} {c k f m p t l u n b e o rest : List ℕ} {place : ℕ} where

@@ -134,9 +134,9 @@ pub record MarkedFrom (k : List ℕ) (i count n r : ℕ) : Type 0 where
   pub marked : (gs : List ℕ) (cs : List Constant) → ((j : ℕ) → j < length cs → entryField 3 (i + j) 2 k ≡ bit (hasText (i + j) gs)) → i + length cs ≡ count
       → r ≡ n + globalDependencies gs i cs
 
--- `one_if`: a mark of 1
+-- `one_if`: a mark that is not 0 is a mark
 abbrev pub markOf : ℕ → ℕ
-markOf word = cond (eqb word 1) 1 0
+markOf word = cond (eqb word 0) 0 1
 
 -- `begun`: the counts of the beginning
 abbrev pub begunBook : Bool → Taken → ℕ → struct.Book

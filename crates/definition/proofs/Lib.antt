@@ -5,4 +5,4 @@ pub mod AllTrialRows
 pub mod AllStrictRows
 pub mod WithinBench
 pub mod PromiseBench
-pub mod LaysOnBench
+pub mod OntoPromiseBench

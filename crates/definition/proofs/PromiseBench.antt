@@ -33,6 +33,10 @@ module _ (w : ℕ) (c k f m p t l u n b e o : List ℕ) (r : struct.Reply) (C : 
   unfolding faulty stale run
   totals-said = ap (λ (x : Reply). x .totals) (C .reply)
 
+  count-said : r .totals .bundles ≡ 0
+  unfolding faulty stale run
+  count-said = C .bundles
+
   zero-said : (c ≡ replicate 12 0) × (k ≡ replicate 12 0) × (f ≡ replicate 12 0) × (m ≡ replicate 12 0) × (p ≡ replicate 12 0) × (t ≡ replicate 12 0)
       × (l ≡ replicate 12 0) × (u ≡ replicate 12 0) × (n ≡ replicate 12 0) × (b ≡ replicate 12 0) × (o ≡ replicate 12 0)
   unfolding faulty stale run

@@ -13,7 +13,6 @@ use lib.Seq.{getD-set-other}
 use lib.Dec.{T, eqb, eqb-refl}
 use Rattle.words.specs.Areas.{errorsArea}
 use Rattle.definition.specs.FunctionState.{orElse}
-use Rattle.definition.specs.Compiler.{Error}
 use Rattle.definition.specs.Book.{Context}
 use Rattle.definition.specs.Answer.{Answer, Delivery, Refusal, answerFrom, replyOf}
 use Rattle.definition.specs.Within.{Areas, Program, lengthsOf}
@@ -21,8 +20,7 @@ use Rattle.definition.specs.ProgramCheck.{programFault}
 use Rattle.definition.specs.Onto.{contextOf, OntoAnswer, Unfit, Checked, layOnBy, layOn, replyOnto, areasOnto}
 use Rattle.definition.specs.Trial.{CountedProgram, CountedReply, countFault, countedFault, Order, Lay, Trial, Commit, isStale, lineOne, sameNumbers}
 use Rattle.definition.specs.Trial.{judged, orderedBy, ordered, bundlesAfter, replyOrdered, areasOrdered}
-use Rattle.definition_laws.proofs.Answer.{refusals}
-use Rattle.definition_laws.proofs.Promise.{no-row}
+use Rattle.definition_laws.proofs.Orders.{order-row}
 use Rattle.definition_laws.proofs.OntoStays.{AsLent, refusal-stays}
 
 true-of : (b : Bool) → T b → b ≡ true
@@ -96,18 +94,13 @@ module _ (strict : Bool) (w : List ℕ) (p : CountedProgram) where
           ap Checked (ap (λ (a : Answer). cond (isStale (of a) (p .bundles)) (Refusal 12 (p .bundles) []) (judged (of a) worked)) (trial-judged worked)
           ∙ commit-on worked ∙ sym (lay-judged worked))
 
-  -- a refusal of laying on has a row
-  lay-row : (n place : ℕ) (es : List Error) → ordered Lay strict w p ≡ Checked (Refusal n place es) → n ≢ 0
-  unfolding ordered
-  lay-row n place es = go (countedFault p)
-    where
-      go : (o : Option ℕ) → orderedBy o Lay strict w p ≡ Checked (Refusal n place es) → n ≢ 0
-      go (some area) e = absurd (let z : _≡_ {A = ℕ} 0 1 = cc in omega arith)
-      go none e =
-          let q : judged Lay worked ≡ Refusal n place es = cc in
-          no-row (refusals (contextOf strict (p .program)) w (lengthsOf (p .program .areas)) n place es (sym (lay-judged worked) ∙ q))
-
 -- what an order leaves of an answer
+
+pub lay-words : (p : CountedProgram) (a : OntoAnswer) → areasOrdered Lay p a ≡ areasOnto (p .program) a
+unfolding areasOrdered
+lay-words p (Unfit area) = refl
+lay-words p (Checked (Delivery c)) = refl
+lay-words p (Checked (Refusal n place es)) = refl
 
 module _ (p : CountedProgram) (t : CountedReply) where
   commit-reply : (a : OntoAnswer) → replyOrdered (Commit t) p a ≡ replyOrdered Lay p a
@@ -116,7 +109,7 @@ module _ (p : CountedProgram) (t : CountedReply) where
   commit-reply (Checked (Delivery c)) = refl
   commit-reply (Checked (Refusal n place es)) = refl
 
-  commit-words : (a : OntoAnswer) → areasOrdered (Commit t) p a ≡ areasOrdered Lay p a
+  pub commit-words : (a : OntoAnswer) → areasOrdered (Commit t) p a ≡ areasOrdered Lay p a
   unfolding areasOrdered
   commit-words (Unfit area) = refl
   commit-words (Checked (Delivery c)) = refl
@@ -148,7 +141,7 @@ module _ (strict : Bool) (w : List ℕ) (p : CountedProgram) where
   unfolding replyOnto
   lay-count (Unfit area) q z = absurd (omega arith)
   lay-count (Checked (Delivery c)) q z = refl
-  lay-count (Checked (Refusal n place es)) q z = absurd (lay-row strict w p n place es q z)
+  lay-count (Checked (Refusal n place es)) q z = absurd (order-row Lay strict w p n place es q z)
 
   pub commit-as-trial : AsTrial strict w p t (replyOrdered (Commit t) p (ordered (Commit t) strict w p))
       (areasOrdered (Commit t) p (ordered (Commit t) strict w p))

@@ -40,7 +40,8 @@ pub mod ReadSafe
 pub mod OntoStays
 pub mod OntoGrows
 pub mod OntoLeast
-pub mod LaysOn
+pub mod Orders
+pub mod Delivers
 pub mod CommitAsTrial
 pub mod StandingWords
 pub mod StandingRoot

@@ -141,21 +141,24 @@ errors-apart (a ∷ b ∷ c ∷ d ∷ f ∷ i ∷ j ∷ k ∷ l ∷ n ∷ o ∷ 
     bounds : areaBound p′ codeArea ≡ areaBound p codeArea
     bounds = below-same (present p codeArea) (codeBound p′) (codeBound p) code-same
 
--- every call leaves a program that passes: a delivery by `onto-passes`, a refusal the one that stood
+-- every answer whose deliveries are laying on's leaves a program that passes: a delivery by `onto-passes`, a refusal the one that stood
+pub answer-left-passes : (strict : Bool) (w : List ℕ) (p : Program) (a : OntoAnswer) → length (p .areas) ≡ 13 → programFault p ≡ none
+    → ((c : Context) → a ≡ Checked (Delivery c) → layOn strict w p ≡ Checked (Delivery c))
+    → (programFault (leftBy p a) ≡ none) × (length (leftBy p a .areas) ≡ 13)
+unfolding areasOnto replyOnto
+answer-left-passes strict w p (Unfit area) n h e = (h, n)
+answer-left-passes strict w p (Checked (Delivery r)) n h e =
+    let q = e r refl in (
+      subst (λ (a : OntoAnswer). programFault (leftBy p a) ≡ none) q (onto-passes strict w p r n q),
+      subst (λ (a : OntoAnswer). length (areasOnto p a) ≡ 13) q (left-areas strict w p r n q),
+    )
+answer-left-passes strict w p (Checked (Refusal number place es)) n h e =
+    let x = filled (length (getD (p .areas) errorsArea [])) (entriesFrom errorEntry 0 es) in
+    (errors-apart (p .areas) (p .totals) (p .entryPoint) (p .globals) x n ∙ h, length-set (p .areas) errorsArea x ∙ n)
+
 pub call-passes : (strict : Bool) (w : List ℕ) (p : Program) → length (p .areas) ≡ 13 → programFault p ≡ none
     → (programFault (leftBy p (layOn strict w p)) ≡ none) × (length (leftBy p (layOn strict w p) .areas) ≡ 13)
-unfolding areasOnto replyOnto
-call-passes strict w p n h = go (layOn strict w p) refl
-  where
-    go : (a : OntoAnswer) → layOn strict w p ≡ a → (programFault (leftBy p a) ≡ none) × (length (leftBy p a .areas) ≡ 13)
-    go (Unfit area) e = (h, n)
-    go (Checked (Delivery r)) e = (
-      subst (λ (a : OntoAnswer). programFault (leftBy p a) ≡ none) e (onto-passes strict w p r n e),
-      subst (λ (a : OntoAnswer). length (areasOnto p a) ≡ 13) e (left-areas strict w p r n e),
-    )
-    go (Checked (Refusal number place es)) e =
-        let x = filled (length (getD (p .areas) errorsArea [])) (entriesFrom errorEntry 0 es) in
-        (errors-apart (p .areas) (p .totals) (p .entryPoint) (p .globals) x n ∙ h, length-set (p .areas) errorsArea x ∙ n)
+call-passes strict w p n h = answer-left-passes strict w p (layOn strict w p) n h (λ c q. q)
 
 -- what a program becomes by any number of calls, each with any bundle and in any mode
 pub data Grown (p : Program) : Program → Type 0 where

@@ -1,4 +1,4 @@
--- What the call promises follows from its reply and its words alone: a reply of number 0 is a delivery's, and a delivery keeps within itself
+-- What the call promises follows from its reply, its count of bundles and its words alone: a reply of number 0 is a delivery's, and a delivery keeps within itself
 -- (`answer-keeps`). Assumes nothing.
 use Prim.Native.Nat.{ℕ}
 use native.Mathlib.Omega.{arith}
@@ -13,6 +13,7 @@ use Rattle.definition.specs.Answer.{Answer, Delivery, Refusal, Reply, answer, r
 use Rattle.definition.specs.Within.{Areas, Program, KeepsWithin}
 use Rattle.definition_laws.proofs.Answer.{refusals, Row, row-2, row-3, row-4, row-5, row-6, row-7, row-8, row-9, row-11}
 use Rattle.definition_laws.proofs.Delivery.{answer-keeps}
+use Rattle.definition.specs.Trial.{freshBundles}
 use Rattle.definition.specs.Promise.{lengthsOf, saying, logsIn, answering, programOf, Compiles}
 
 -- every row has a number
@@ -28,7 +29,8 @@ no-row row-9 z = omega arith
 no-row row-11 z = omega arith
 
 module _ (strict : Bool) (tree : List ℕ) (before after : Areas) (r : struct.Reply) (thirteen : length (lengthsOf before) ≡ 13)
-    (reply : saying r ≡ replyOf (answering strict tree before)) (words : after ≡ areasOf (lengthsOf before) (answering strict tree before)) where
+    (reply : saying r ≡ replyOf (answering strict tree before)) (words : after ≡ areasOf (lengthsOf before) (answering strict tree before))
+    (bundles : r .totals .bundles ≡ freshBundles (answering strict tree before)) where
   keeps : (a : Answer) → answering strict tree before ≡ a → r .number ≡ 0 → KeepsWithin (programOf after r) 0 (logsIn a)
   unfolding replyOf answer
   keeps (Delivery c) q z =
@@ -47,4 +49,4 @@ module _ (strict : Bool) (tree : List ℕ) (before after : Areas) (r : struct.Re
       absurd (no-row (refusals (newContext strict) tree (lengthsOf before) n p es q) (sym says ∙ z))
 
   pub compiles : Compiles strict tree before after r
-  compiles = record { reply = reply; words = words; within = λ z. keeps (answering strict tree before) refl z }
+  compiles = record { reply = reply; words = words; bundles = bundles; within = λ z. keeps (answering strict tree before) refl z }

@@ -7,3 +7,4 @@ pub mod Sorting
 pub mod Places
 pub mod Text
 pub mod Whole
+pub mod LineOne

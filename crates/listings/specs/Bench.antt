@@ -22,7 +22,7 @@ use Rattle.listings.specs.Sections.{line, section, propertiesOf, entryLi
 use Rattle.listings.specs.declared.lines.Section.the-variants.{Properties}
 use Rattle.listings.specs.Listing.{Areas, deliveryLines, refusalLines, listingLines, printed}
 
--- the reply and the areas that the definition answers, as the listing takes them
+-- the reply and the areas that the definition answers, as the listing takes them; of the number of bundles it says nothing
 abbrev totalsBy : List ℕ → ℕ → ℕ → Totals
 totalsBy n entry globals = record {
   code = getD n 1 0;
@@ -39,6 +39,7 @@ totalsBy n entry globals = record {
   books = getD n 12 0;
   «entry_point» = entry;
   «global_dependencies» = globals;
+  bundles = 1;
 }
 
 abbrev replyBy : Answered → Reply

@@ -10,9 +10,10 @@ mod whole;
 ghost use Prim.Native.Nat.{_-_};
 ghost use mathlib.Core.Path.{_≡_};
 ghost use lib.ListN.{take, drop};
-ghost use Rattle.definition.specs.Promise.{areas};
+ghost use Rattle.definition.specs.Promise.{areas, lentCounted};
 ghost use Rattle.definition.specs.ProgramCheck.{programFault};
-ghost use Rattle.program_check.specs.Answer.{answerOf};
+ghost use Rattle.definition.specs.Trial.{countedFault};
+ghost use Rattle.program_check.specs.Answer.{answerOf, CountsToo};
 ghost use Rattle.program_check.specs.Parts.{lent};
 ghost use Rattle.program_check.specs.OneMemory.{areasIn};
 use crate::areas::entries_fine;
@@ -42,6 +43,9 @@ use words::reply::Totals;
 // "row 3 with place 1,048,576 plus the area number".
 const PROGRAM_PLACE: usize = 1048576;
 
+// "A lent count outside 1 to 4,294,967,294 fails the program check at area 12" (2026-08).
+const MOST_BUNDLES: u64 = 4294967294;
+
 // The words of a memory from one on up to another, as far as there are any.
 fn part_of(memory: &[u64], start: usize, end: usize) -> &[u64]
     ensures { λ r. ⌜ now r ≡ take (end - start) (drop start (now (memory .entry))) ⌝ }
@@ -59,9 +63,25 @@ fn part_of(memory: &[u64], start: usize, end: usize) -> &[u64]
     &memory[start..end]
 }
 
+// What the check of the areas answers, and after it that of the count of bundles.
+fn count_too(shape: Shape, bundles: u64) -> Shape
+    ensures { λ r. ⌜ CountsToo shape bundles r ⌝ }
+{
+    if let Shape::Refused(number, place) = shape {
+        return Shape::Refused(number, place);
+    }
+    if bundles < 1 {
+        return Shape::Refused(BAD_SHAPE, PROGRAM_PLACE + BOOKS as usize);
+    }
+    if bundles > MOST_BUNDLES {
+        return Shape::Refused(BAD_SHAPE, PROGRAM_PLACE + BOOKS as usize);
+    }
+    Shape::Fine
+}
+
 // The program check of areas that one memory has, one after the other by number: any words, lengths and totals; nothing is written.
 pub fn check_program(memory: &[u64], lengths: [usize; 12], totals: Totals) -> Shape
-    ensures { λ r. ⌜ r ≡ answerOf (programFault (lent (areasIn lengths (now (memory .entry))) totals)) ⌝ }
+    ensures { λ r. ⌜ r ≡ answerOf (countedFault (lentCounted (areasIn lengths (now (memory .entry))) totals)) ⌝ }
 {
     let starts = starts_of(lengths, memory.len());
     let code = part_of(memory, starts[1], starts[2]);
@@ -76,7 +96,7 @@ pub fn check_program(memory: &[u64], lengths: [usize; 12], totals: Totals) -> Sh
     let breaks = part_of(memory, starts[10], starts[11]);
     let errors = part_of(memory, starts[11], starts[12]);
     let books = part_of(memory, starts[12], starts[13]);
-    check(
+    let areas_fine = check(
         code,
         constants,
         functions,
@@ -90,7 +110,8 @@ pub fn check_program(memory: &[u64], lengths: [usize; 12], totals: Totals) -> Sh
         errors,
         books,
         totals,
-    )
+    );
+    count_too(areas_fine, totals.bundles)
 }
 
 // The program check of twelve areas. Area 11 is not looked at.

@@ -7,7 +7,7 @@ use mathlib.Core.Path.{_≡_, refl, sym, ap, _∙_}
 use mathlib.Core.Bool.{Bool, true, false, cond}
 use mathlib.Core.Option.{Option, none, some}
 use mathlib.Core.List.{List, [], _∷_}
-use lib.ListN.{length, getD, set, replicate}
+use lib.ListN.{length, getD, set, replicate, List·getD-eq-default}
 use lib.Seq.{getD-set-same, getD-set-other, set-getD}
 use lib.Dec.{eqb, ltb}
 use borrow.Author.Tests.{eqb-true, eqb-false, ne-eqb, ltb-true, ltb-false}
@@ -50,6 +50,15 @@ plain-marks-value i l = go (decLe (i * 3 + 3) (length l))
     go : Dec (i * 3 + 3 ≤ length l) → entryWord 3 i 1 (plainMarks l) ≡ entryWord 3 i 1 l
     go (yes h) = ap (λ (x : Words). x .second) (anew-at plainMark l i h)
     go (no h) = anew-beyond plainMark 0 l i 1 (omega arith)
+
+-- the mark
+pub plain-marks-third : (i : ℕ) (l : List ℕ) → entryField 3 i 2 (plainMarks l) ≡ cond (eqb (entryField 3 i 2 l) 0) 0 1
+unfolding entryField plainMarks
+plain-marks-third i l = go (decLe (i * 3 + 3) (length l))
+  where
+    go : Dec (i * 3 + 3 ≤ length l) → entryWord 3 i 2 (plainMarks l) ≡ cond (eqb (entryWord 3 i 2 l) 0) 0 1
+    go (yes h) = ap (λ (x : Words). x .third) (anew-at plainMark l i h)
+    go (no h) = anew-beyond plainMark 0 l i 2 (omega arith) ∙ rw (List·getD-eq-default l 0 {n = i * 3 + 2} (omega arith))
 
 -- the pool
 pool-from : (k i : ℕ) (l : List ℕ) → constantsFrom k i (plainMarks l) ≡ constantsFrom k i l

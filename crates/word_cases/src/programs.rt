@@ -1,6 +1,6 @@
-// The program check. `1 number number ..` has a program: fourteen totals (the last two are the entry point and the number of global dependencies), the twelve
-// lengths, the words of one memory. `2 place number ..` has the last such program with other numbers at some places of that case, counted from 0 behind the 1.
-// Row and place, or 0 and 0.
+// The program check. `1 number number ..` has a program: fifteen totals (the last three are the entry point and the numbers of global dependencies and of
+// bundles), the twelve lengths, the words of one memory. `2 place number ..` has the last such program with other numbers at some places of that case, counted
+// from 0 behind the 1. Row and place, or 0 and 0.
 use crate::elements::copy;
 use crate::shapes;
 use program_check::check_program;
@@ -9,9 +9,9 @@ use words::reply::Totals;
 const PROGRAM: u64 = 1;
 
 // Where the lengths stand, and the words.
-const LENGTHS: usize = 14;
+const LENGTHS: usize = 15;
 
-const WORDS: usize = 26;
+const WORDS: usize = 27;
 
 const MOST_NUMBERS: usize = 1024;
 
@@ -60,6 +60,7 @@ fn totals_of(numbers: &[u64]) -> Totals {
         books: number(numbers, 11),
         entry_point: number(numbers, 12),
         global_dependencies: number(numbers, 13),
+        bundles: number(numbers, 14),
     }
 }
 

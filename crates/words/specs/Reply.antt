@@ -22,6 +22,7 @@ noTotals =
       books = 0;
       «entry_point» = 0;
       «global_dependencies» = 0;
+      bundles = 0;
     }
 
 -- a row's number and place

@@ -23,6 +23,10 @@ pub const AREA_FULL: u64 = 9;
 
 pub const NAME_NOT_PUBLIC: u64 = 11;
 
+pub const STALE_TRIAL: u64 = 12;
+
+pub const TOTALS_DIFFER: u64 = 13;
+
 // What a book's mark of a full area holds where row 11 was met: this number and the include's index on, which no area has.
 pub const FIRST_NOT_PUBLIC: u64 = 16;
 
@@ -52,7 +56,8 @@ pub const ERROR_RING: u64 = 11;
 // The area numbers end here.
 const AREA_COUNT: usize = 13;
 
-// How many entries each area holds, the function that is the entry point, and how many constants are global dependencies.
+// How many entries each area holds, the function that is the entry point, how many constants are global dependencies, and how many bundles were delivered
+// into the program (2026-08).
 #[repr(C)]
 pub struct Totals {
     pub code: u64,
@@ -69,6 +74,7 @@ pub struct Totals {
     pub books: u64,
     pub entry_point: u64,
     pub global_dependencies: u64,
+    pub bundles: u64,
 }
 
 // The number of a refusal's row, or 0, with its place, and the totals.
@@ -99,6 +105,7 @@ impl Totals {
             books: 0,
             entry_point: 0,
             global_dependencies: 0,
+            bundles: 0,
         }
     }
 

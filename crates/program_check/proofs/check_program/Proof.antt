@@ -18,11 +18,14 @@ returns c =
     let c11 = c10 .before in
     let c12 = c11 .before in
     let c13 = c12 .before in
-    let c15 = c13 .before .before in
-    by-parts (c15 .args .lengths) (c15 .args .memory .now) (search (needs, c15 .good .1 .0)) (c13 .starts-of .ensures) (c15 .args .totals) (c .check .ensures)
-    (c12 .part-of .ensures) (c11 .part-of2 .ensures) (c10 .part-of3 .ensures) (c9 .part-of4 .ensures) (c8 .part-of5 .ensures) (c7 .part-of6 .ensures)
-    (c6 .part-of7 .ensures) (c5 .part-of8 .ensures) (c .before .before .before .before .part-of9 .ensures) (c .before .before .before .part-of10 .ensures)
-    (c .before .before .part-of11 .ensures) (c .before .part-of12 .ensures)
+    let c14 = c13 .before in
+    let c16 = c14 .before .before in
+    by-parts (c16 .args .lengths) (c16 .args .memory .now) (search (needs, c16 .good .1 .0)) (c14 .starts-of .ensures) (c16 .args .totals)
+    (c .count-too .ensures)
+    (c .before .check .ensures)
+    (c13 .part-of .ensures) (c12 .part-of2 .ensures) (c11 .part-of3 .ensures) (c10 .part-of4 .ensures) (c9 .part-of5 .ensures) (c8 .part-of6 .ensures)
+    (c7 .part-of7 .ensures) (c6 .part-of8 .ensures) (c5 .part-of9 .ensures) (c .before .before .before .before .part-of10 .ensures)
+    (c .before .before .before .part-of11 .ensures) (c .before .before .part-of12 .ensures)
 
 pub check-program-spec : {M : Type 1} → statement M
 check-program-spec =
@@ -64,6 +67,7 @@ check-program-spec =
     (λ c κs. search needs)
     (λ c. search needs)
     (λ c. search needs)
+    (λ c κs. search needs)
     (λ c κs. search needs)
     (λ c κs. search needs)
     returns)

@@ -82,7 +82,8 @@ impl Listing {
         Some(())
     }
 
-    /// The totals; room for the context locals, whose files and names are not known.
+    /// The totals, without the number of bundles, which no line has; room for the context locals, whose files and names are not
+    /// known.
     fn begin(&mut self, line: &Line) -> Option<()> {
         let [functions, constants, models, context_locals, entry_point, books] = line.middle;
         let none = Totals::default();

@@ -1,6 +1,8 @@
 -- `book_compiler::ending::count_marked` meets its contract. The invariant: what is counted from here is counted from the start. Assumes nothing.
 -- Made from Proof.answers by `answers make`: edit that file, and not this one.
-use Rattle.compiler_laws.proofs.CallEnd.{marked-end, marked-more, mark-small}
+use Rattle.compiler_laws.proofs.CallEnd.{marked-end, mark-small}
+use Rattle.undo.specs.Notes.{plainMarks}
+use Rattle.book_compiler.proofs.BookEnding.{marked-one}
 use Rattle.compiler_laws.specs.BooksInOrder.{MarkedFrom}
 use Prim.Native.Nat.{ℕ, _-_, _≤_}
 use Rattle.book_compiler.proofs.ending.count_marked.Statement.{statement}
@@ -9,7 +11,7 @@ use borrow.Author.Needs.{needs}
 use native.Mathlib.Omega.{arith}
 
 abbrev Inv-loop : tie.InvT-loop
-Inv-loop constants count i₀ n₀ i n = (n ≤ i) × ((r : ℕ) → MarkedFrom constants i count n r → MarkedFrom constants 0 count 0 r)
+Inv-loop constants count i₀ n₀ i n = (n ≤ i) × ((r : ℕ) → MarkedFrom (plainMarks constants) i count n r → MarkedFrom (plainMarks constants) 0 count 0 r)
 
 abbrev μ-loop : tie.MeasureT-loop
 μ-loop constants count i₀ n₀ i n = count - i
@@ -32,7 +34,7 @@ add-n c =
 loop-again : tie.Need-loop-again Inv-loop μ-loop
 loop-again c = (
   omega (arith, c .before .before .before .loop .inv .0, mark-small (c .before .entry-word .result) (c .one-if .ensures)),
-  λ r h. c .before .before .before .loop .inv .1 r (marked-more (c .before .before .loop-test .taken) (c .before .entry-word .ensures)
+  λ r h. c .before .before .before .loop .inv .1 r (marked-one _ (c .before .before .loop-test .taken) (c .before .entry-word .ensures)
       (c .one-if .ensures) h),
 )
 

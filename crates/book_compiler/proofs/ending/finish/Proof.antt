@@ -24,14 +24,14 @@ returns-2 c =
     finish-row (c7 .if1 .left) (c5 .if2 .taken) (c .before .before .before .clear-but-errors .ensures) (c .refused .ensures)
 
 same-length-3 : tie.Need-same-length-3
-same-length-3 c = (c .before .before .before .before .before .settle .kept .1 .1 .1 .0)
+same-length-3 c = (c .before .before .before .settle .kept .1 .1 .1 .0)
 
 returns-3 : tie.Need-returns-3
 returns-3 c =
     let c5 = c .before .before .before .before .before in
     let c7 = c5 .before .before in
-    finish-whole (c7 .before .before .if1 .left) (c7 .if2 .left) (c5 .settle .ensures) (c .before .count-global-dependencies .ensures)
-    (c .delivered .ensures)
+    let c9 = c7 .before .before in
+    finish-whole (c9 .if1 .left) (c7 .if2 .left) (c .before .before .before .settle .ensures) (c5 .count-global-dependencies .ensures) (c .delivered .ensures)
 
 pub finish-spec : {M : Type 1} → statement M
 finish-spec =

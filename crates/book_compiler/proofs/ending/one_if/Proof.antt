@@ -5,10 +5,10 @@ use Rattle.book_compiler.proofs.ending.one_if.Statement.{statement}
 use Rattle.book_compiler.proofs.ending.one_if.Tie as tie
 
 returns : tie.Need-returns
-returns c = rw (eq-eqb (c .before .args .word) 1 (c .if1 .taken))
+returns c = rw (eq-eqb (c .before .args .word) 0 (c .if1 .taken))
 
 returns-2 : tie.Need-returns-2
-returns-2 c = rw (ne-eqb (c .before .args .word) 1 (c .if1 .left))
+returns-2 c = rw (ne-eqb (c .before .args .word) 0 (c .if1 .left))
 
 pub one-if-spec : {M : Type 1} → statement M
 one-if-spec =

@@ -5,7 +5,7 @@ use mathlib.Core.Bool.{Bool}
 use lib.ListN.{length}
 use Prim.Native.Nat.{_/_}
 use Rattle.compiler_laws.specs.SolverSteps.{Narrows}
-use Rattle.book_compiler.proofs.LayingOn.{books-narrow}
+use Rattle.book_compiler.proofs.OntoMemory.{books-narrow}
 use Rattle.book_compiler.proofs.grown.run_onto.Statement.{statement}
 use Rattle.book_compiler.proofs.grown.run_onto.Tie as tie
 use borrow.Author.Needs.{needs}
@@ -20,13 +20,13 @@ run-onto-short-requires c κs =
     )
 
 same-length : tie.Need-same-length
-same-length c = (c .before .before .run-onto-short .kept .1 .1 .1 .1 .0)
+same-length c = (c .before .before .run-onto-short .kept .1 .1 .1 .1 .1 .0)
 
 returns : tie.Need-returns
 returns c = c .before .before .run-onto-short .ensures
 
 same-length-2 : tie.Need-same-length-2
-same-length-2 c = (c .before .before .run-onto-long .kept .1 .1 .1 .1 .0)
+same-length-2 c = (c .before .before .run-onto-long .kept .1 .1 .1 .1 .1 .0)
 
 returns-2 : tie.Need-returns-2
 returns-2 c = c .before .before .run-onto-long .ensures

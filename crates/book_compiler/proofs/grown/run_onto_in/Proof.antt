@@ -4,7 +4,7 @@ use mathlib.Core.Path.{sym, ap, subst, _∙_}
 use lib.ListN.{length}
 use Rattle.compiler_laws.specs.BooksInOrder.{Zero}
 use Rattle.book_compiler.proofs.OntoEnding.{onto-row, onto-runs}
-use Rattle.book_compiler.proofs.LayingOn.{books-held}
+use Rattle.book_compiler.proofs.OntoMemory.{books-held}
 use Rattle.book_compiler.proofs.grown.run_onto_in.Statement.{statement}
 use Rattle.book_compiler.proofs.grown.run_onto_in.Tie as tie
 use borrow.Author.Needs.{needs}
@@ -75,7 +75,7 @@ same-length-10 : tie.Need-same-length-10
 same-length-10 c =
     let c8 = c .before .before .before .before .before .before .before .before in
     let c28 = c8 .before .before .before .before .before .before .before .before .before .before .before .before .before .before .before .before .before .before .before .before in
-    (c .before .before .finish-onto .kept .1 .1 .1 .0) ∙ (c8 .compile-needed .kept .1 .1 .1 .1 .1 .0) ∙ (c28 .make-ready .kept .1 .1 .0)
+    (c .before .before .finish-onto .kept .1 .1 .1 .1 .0) ∙ (c8 .compile-needed .kept .1 .1 .1 .1 .1 .0) ∙ (c28 .make-ready .kept .1 .1 .0)
 
 returns-2 : tie.Need-returns-2
 returns-2 c =

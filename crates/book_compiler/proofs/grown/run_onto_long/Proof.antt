@@ -2,7 +2,7 @@
 -- Made from Proof.answers by `answers make`: edit that file, and not this one.
 use mathlib.Core.Path.{refl}
 use Rattle.compiler_laws.proofs.RowsBeforeWork.{fresh-zeros}
-use Rattle.book_compiler.proofs.LayingOn.{books-below}
+use Rattle.book_compiler.proofs.OntoMemory.{books-below}
 use Rattle.book_compiler.proofs.grown.run_onto_long.Statement.{statement}
 use Rattle.book_compiler.proofs.grown.run_onto_long.Tie as tie
 use borrow.Author.Needs.{needs}
@@ -20,7 +20,7 @@ run-onto-in-requires c κs =
 same-length : tie.Need-same-length
 same-length c =
     let c6 = c .before .before .before .before .before .before in
-    (c6 .run-onto-in .kept .1 .1 .1 .1 .1 .1 .1 .1 .0)
+    (c6 .run-onto-in .kept .1 .1 .1 .1 .1 .1 .1 .1 .1 .0)
 
 returns : tie.Need-returns
 returns c =

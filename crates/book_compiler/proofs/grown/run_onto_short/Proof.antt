@@ -14,7 +14,7 @@ run-onto-in-requires c κs =
 same-length : tie.Need-same-length
 same-length c =
     let c6 = c .before .before .before .before .before .before in
-    (c6 .run-onto-in .kept .1 .1 .1 .1 .1 .1 .1 .1 .0)
+    (c6 .run-onto-in .kept .1 .1 .1 .1 .1 .1 .1 .1 .1 .0)
 
 returns : tie.Need-returns
 returns c =
