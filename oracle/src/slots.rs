@@ -15,13 +15,25 @@ pub const TEXT: u64 = 4;
 /// "its home slot (a definition in specs/)": of a constant, among so many slots, which are not none.
 pub type Home<'a> = &'a dyn Fn(Constant, u64) -> u64;
 
-/// The home slot as crates/constant_slots/specs/Home.antt has it: the value times a prime that does not divide the number of slots, a
-/// float's bits folded first; each kind begins an eighth of the slots after the one before.
+/// The home slot as crates/constant_slots/specs/Home.antt has it: the value times a prime that does not divide the number of slots; each
+/// kind begins an eighth of the slots after the one before. Of a float it is its number among the round ones, or its bits, folded.
 pub fn specs_home((kind, value): Constant, slots: u64) -> u64 {
-    let value = if kind == FLOAT { value % 3_141_592_661 * (value % 2_718_281_831) % 4_294_967_291 } else { value };
-    let stride: u64 = [13, 11, 7].into_iter().find(|prime| slots % prime != 0).unwrap_or(1);
-    let sum = u128::from(value % slots) * u128::from(stride) + u128::from(kind % 8) * u128::from(slots / 8);
+    let spread = match kind {
+        FLOAT => float_number(value, slots) % (slots - u64::from(slots % 2 == 0)),
+        _ => value % slots,
+    };
+    let stride: u64 = [13, 11, 7, 5, 3].into_iter().find(|prime| slots % prime != 0).unwrap_or(1);
+    let sum = u128::from(spread) * u128::from(stride) + u128::from(kind % 8) * u128::from(slots / 8);
     (sum % u128::from(slots)) as u64
+}
+
+/// Round is a float whose bits end with ten zeros fewer, at least, than the number of slots begins with.
+fn float_number(bits: u64, slots: u64) -> u64 {
+    let zeros = slots.leading_zeros() - 10;
+    if bits.trailing_zeros() >= zeros {
+        return bits >> zeros;
+    }
+    bits % 3_162_277_669 * (bits % 2_718_281_831) % 4_294_967_291
 }
 
 /// The constants of area 2's words up to its total; marks have no part in a search.
@@ -215,6 +227,7 @@ pub fn stored_cases() -> Part {
     };
     let pair = [(INTEGER, 3), (INTEGER, 7)];
     let floats = [(FLOAT, 0), (FLOAT, 1 << 63), (INTEGER, 0), (FLOAT, 0x7FF8_0000_0000_0001)];
+    let round = [1.0f64, 1.125, 1.25, 2.0, -1.0, 0.1, 1.0625].map(|value| (FLOAT, value.to_bits()));
     let mut lines = vec![
         stored("at home", SEARCH, &hand(&pair, 4, (INTEGER, 3))),
         stored("round the end", SEARCH, &hand(&pair, 4, (INTEGER, 7))),
@@ -229,6 +242,8 @@ pub fn stored_cases() -> Part {
         stored("a text of that value", SEARCH, &hand(&floats, 9, (TEXT, 0))),
         stored("filling with repeats", FILL, &hand(&[(INTEGER, 5), (INTEGER, 5), (INTEGER, 5)], 5, (INTEGER, 0))),
         stored("filling too few slots", FILL, &hand(&floats, 3, (INTEGER, 0))),
+        stored("round floats, and two that are not", FILL, &hand(&round, 16, (INTEGER, 0))),
+        stored("six round floats, and one that is not", FILL, &hand(&round, 33, (INTEGER, 0))),
         stored("no slot to take", PUT, &hand(&pair, 2, (INTEGER, 9))),
     ];
     for index in 0..300 {
@@ -269,10 +284,18 @@ pub fn shapes(n: u64) -> Vec<(&'static str, Vec<Constant>)> {
         ("integers 1024, 2048 ..", each(&|k| (INTEGER, k * 1024))),
         ("random integers", each(&|k| (INTEGER, Random::for_case(5, k).below(1 << 62)))),
         ("texts 1, 2, 3 ..", each(&|k| (TEXT, k))),
+        ("floats 0.5, 1.0 ..", each(&|k| float(k as f64 * 0.5))),
+        ("floats 0.01, 0.02 ..", each(&|k| float(k as f64 / 100.0))),
         ("floats 0.05, 0.10 ..", each(&|k| float(k as f64 * 0.05))),
         ("floats 0.125, 0.25 ..", each(&|k| float(k as f64 / 8.0))),
         ("floats 1, 2, 3 ..", each(&|k| float(k as f64))),
+        ("floats 0.5, -0.5, 1.0, -1.0 ..", each(&|k| float((k + 1) as f64 * [0.25, -0.25][k as usize % 2]))),
+        ("floats 1 + 2^-20, 1 + 2 × 2^-20 ..", each(&|k| float(1.0 + k as f64 / 1_048_576.0))),
+        ("floats 10, 20 ..", each(&|k| float(k as f64 * 10.0))),
+        ("floats 1.35, 2.35 ..", each(&|k| float(k as f64 + 0.35))),
+        ("floats 1 + 10^-9, 1 + 2 × 10^-9 ..", each(&|k| float(1.0 + k as f64 * 1e-9))),
         ("floats of random mantissas", (0..n).map(|_| (FLOAT, random.below(1 << 52) | 0x3FF << 52)).collect()),
+        ("texts and floats 0.5 ..", each(&|k| if k % 2 == 0 { (TEXT, k / 2) } else { float(k as f64 * 0.25 + 0.25) })),
         ("texts and floats 0.05 ..", each(&|k| if k % 2 == 0 { (TEXT, k / 2) } else { float(k as f64 * 0.05) })),
         ("texts and functions", each(&|k| (4 + k % 2 * 2, k / 2))),
         ("integers, texts and functions", each(&|k| (2 + k % 3 * 2, k / 3))),
@@ -313,12 +336,28 @@ mod tests {
     /// "In n slots, n non-negative integers in a row have different home slots."
     #[test]
     fn reading_2_integers_in_a_row() {
-        for n in 1..=70u64 {
+        for n in (1..=70u64).chain([1001, 5005, 15_015]) {
             for start in [0, 1, 5, 1 << 20, 1 << 32, (1 << 63) - n] {
                 let homes: BTreeSet<u64> = (start..start + n).map(|value| specs_home((INTEGER, value), n)).collect();
                 assert_eq!(homes.len() as u64, n);
                 assert!(homes.iter().all(|&home| home < n));
             }
+        }
+    }
+
+    /// `row-of-floats`: as many round floats in a row as there are odd slots, and the powers of two among them.
+    #[test]
+    fn round_floats_in_a_row() {
+        for n in (1..=70u64).chain([1001, 1023, 1024, 1025, 15_015]) {
+            let odd = n - (n + 1) % 2;
+            let zeros = n.leading_zeros() - 10;
+            for first in [0, 1, 1.0f64.to_bits() >> zeros, (-2.5f64).to_bits() >> zeros] {
+                let homes: BTreeSet<u64> = (first..first + odd).map(|i| specs_home((FLOAT, i << zeros), n)).collect();
+                assert_eq!(homes.len() as u64, odd, "{n} slots");
+            }
+            let powers = (-500..500).take(odd as usize).map(|power| (FLOAT, 2f64.powi(power).to_bits()));
+            let homes: BTreeSet<u64> = powers.clone().map(|power| specs_home(power, n)).collect();
+            assert_eq!(homes.len(), powers.count(), "{n} slots");
         }
     }
 
@@ -482,8 +521,36 @@ mod tests {
             for (name, pool) in shapes(n) {
                 for slots in [2 * n, 2 * n + 1] {
                     let (mean, most) = looked_at(&pool, slots as usize, &specs_home);
-                    println!("{n:>8} {slots:>8} {name:32} {mean:>8.2} {most:>6}");
+                    println!("{n:>8} {slots:>8} {name:34} {mean:>8.2} {most:>6}");
                 }
+            }
+        }
+    }
+
+    /// Tables of at least twice the constants: each number from there on, some up to four times as many, multiples of round
+    /// numbers and of 1001, and powers of two.
+    fn tables(n: u64) -> Vec<u64> {
+        let near = (1..=200).map(|more| 2 * n + more);
+        let far = (0..100).map(|step| 2 * n + 1 + step * n / 50);
+        let multiples = [360, 1000, 1001, 1024, 3003, 5005].map(|factor| (2 * n).div_ceil(factor) * factor);
+        let power = (2 * n).next_power_of_two();
+        near.chain(far).chain(multiples).chain([power - 1, power, power + 1, 2 * power]).collect()
+    }
+
+    /// Every shape in all of these tables: `cargo test --release slots_of_many_tables -- --ignored --nocapture` prints the mean of
+    /// the means, the greatest and where it is.
+    #[test]
+    #[ignore]
+    fn slots_of_many_tables() {
+        for n in [1_000, 20_000] {
+            let tables = tables(n);
+            for (name, pool) in shapes(n) {
+                let mean = |&slots: &u64| (looked_at(&pool, slots as usize, &specs_home).0, slots);
+                let means: Vec<(f64, u64)> = tables.iter().map(mean).collect();
+                let all = means.iter().map(|mean| mean.0).sum::<f64>() / means.len() as f64;
+                let (most, slots) =
+                    means.into_iter().fold((0.0, 0), |most, mean| if mean.0 > most.0 { mean } else { most });
+                println!("{n:>8} {name:34} {all:>8.2} {most:>8.2} among {slots}");
             }
         }
     }

@@ -1,6 +1,6 @@
 -- The ways through the routines of `slots.rt`: what a turn makes of `look` and of `firstEmpty`, and the arithmetic of a home. Assumes nothing.
 use Prim.Native.Nat.{ℕ, zero, suc, _+_, _-_, _*_, _/_, _%_, _^_, _≤_, _<_}
-use native.Mathlib.Nat.{mod-lt, mul-le-mul, mul-le-mul-left, mul-le-mul-right}
+use native.Mathlib.Nat.{mod-lt, mod-eq-of-lt, div-mul-le-self, lt-of-le-of-lt, mul-le-mul, mul-le-mul-left, mul-le-mul-right}
 use native.Mathlib.Omega.{arith}
 use mathlib.Core.Path.{_≡_, refl, sym, ap, subst, _∙_}
 use mathlib.Core.Logic.{_≢_}
@@ -10,10 +10,10 @@ use mathlib.Core.List.{List}
 use lib.ListN.{length, getD, set}
 use lib.Dec.{eqb, ltb}
 use borrow.Author.Tests.{eq-eqb, ne-eqb, lt-ltb, le-ltb}
-use Rattle.words.specs.Object.{Constant, constantOf}
+use Rattle.words.specs.Object.{Constant, constantOf, floatKind}
 use Rattle.constant_slots.specs.declared.plain.Found.the-variants.{At, Nothing}
 use Rattle.constant_slots.specs.declared.slots.Looked.{Looked}
-use Rattle.constant_slots.specs.Home.{home, stride}
+use Rattle.constant_slots.specs.Home.{folded, roundZeros, grain, floatValue, floatSlots, spreadValue, stride, home}
 use Rattle.constant_slots.proofs.Filling.{set-past}
 use Rattle.constant_slots.specs.Slots.{after, firstEmpty, putSlot, putNumber, Search, searched, look, lookedOf}
 
@@ -24,14 +24,38 @@ product-fits v a b h k l m =
     let second : v % b ≤ 4294967295 = omega (arith, mod-lt v l) in
     omega (arith, mul-le-mul first second)
 
-pub stride-small : (n : ℕ) → stride n ≤ 13
-stride-small n = go (eqb (n % 13) 0) (eqb (n % 11) 0) (eqb (n % 7) 0)
+module _ (n bits z : ℕ) (zeros : z ≡ roundZeros n) where
+  pub zeros-small : z < 64
+  zeros-small = omega arith
+
+  module _ (fits : bits < 2 ^ 64) where
+    -- shifted to the right and back
+    back : bits / 2 ^ z * 2 ^ z % 2 ^ 64 ≡ bits / grain n * grain n
+    back = mod-eq-of-lt (lt-of-le-of-lt (div-mul-le-self bits (2 ^ z)) fits) ∙ rw zeros
+
+    pub value-of-round : bits / 2 ^ z * 2 ^ z % 2 ^ 64 ≡ bits → bits / 2 ^ z ≡ floatValue n bits
+    value-of-round e = rw (zeros, eq-eqb (bits / grain n * grain n) bits (sym back ∙ e))
+
+    pub value-of-other : bits / 2 ^ z * 2 ^ z % 2 ^ 64 ≢ bits → folded bits ≡ floatValue n bits
+    value-of-other e = rw (ne-eqb (bits / grain n * grain n) bits (λ q. e (back ∙ q)))
+
+pub spread-below : (n : ℕ) (c : Constant) → 0 < n → spreadValue n c < n
+spread-below n c h = go (eqb (c .kind) floatKind)
   where
-    go : (a b c : Bool) → cond a (cond b (cond c 1 7) 11) 13 ≤ 13
-    go true true true = omega arith
-    go true true false = omega arith
-    go true false c = omega arith
-    go false b c = omega arith
+    go : (b : Bool) → cond b (floatValue n (c .value) % floatSlots n) (c .value % n) < n
+    go true = omega (arith, mod-lt (floatValue n (c .value)) (let z : 0 < floatSlots n = omega arith in z))
+    go false = mod-lt (c .value) h
+
+pub stride-small : (n : ℕ) → stride n ≤ 13
+stride-small n = go (eqb (n % 13) 0) (eqb (n % 11) 0) (eqb (n % 7) 0) (eqb (n % 5) 0) (eqb (n % 3) 0)
+  where
+    go : (a b c d e : Bool) → cond a (cond b (cond c (cond d (cond e 1 3) 5) 7) 11) 13 ≤ 13
+    go true true true true true = omega arith
+    go true true true true false = omega arith
+    go true true true false e = omega arith
+    go true true false d e = omega arith
+    go true false c d e = omega arith
+    go false b c d e = omega arith
 
 pub spread-fits : (x s : ℕ) {n : ℕ} → x < n → n ≤ 1152921504606846976 → s ≤ 13 → x * s ≤ 14987979559889010688
 spread-fits x s h l k = omega (arith, mul-le-mul (let z : x ≤ 1152921504606846976 = omega arith in z) k)

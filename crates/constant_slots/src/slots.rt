@@ -12,7 +12,7 @@ use words::areas;
 use words::object;
 
 // The primes of a float's home.
-const FIRST_PRIME: u64 = 3141592661;
+const FIRST_PRIME: u64 = 3162277669;
 
 const SECOND_PRIME: u64 = 2718281831;
 
@@ -27,14 +27,34 @@ pub struct Looked {
     pub looked: usize,
 }
 
-// What of a constant is spread over the slots.
-fn spread_value(kind: u64, value: u64) -> u64
-    ensures { λ r. ⌜ r ≡ homes.spreadValue (constantOf kind value) ⌝ }
+// Zeros that the bits of a float end with, at least, where it is round among n slots.
+fn round_zeros(n: usize) -> u32
+    ensures { λ r. ⌜ r ≡ homes.roundZeros n ⌝ }
+{
+    (u64::leading_zeros(n as u64) + 54) % 64
+}
+
+// The number of a float in the row of those that are round among n slots; of any other its bits, folded.
+fn float_value(n: usize, bits: u64) -> u64
+    ensures { λ r. ⌜ r ≡ homes.floatValue n bits ⌝ }
+{
+    let zeros = round_zeros(n);
+    let number = bits >> zeros;
+    if number << zeros == bits {
+        return number;
+    }
+    bits % FIRST_PRIME * (bits % SECOND_PRIME) % LAST_PRIME
+}
+
+// What of a constant is spread over n slots.
+fn spread_value(n: usize, kind: u64, value: u64) -> usize
+    requires { ⌜ 0 < n ⌝ }
+    ensures { λ r. ⌜ r ≡ homes.spreadValue n (constantOf kind value) ⌝ }
 {
     if kind == object::FLOAT {
-        return value % FIRST_PRIME * (value % SECOND_PRIME) % LAST_PRIME;
+        return float_value(n, value) as usize % ((n - 1) / 2 * 2 + 1);
     }
-    value
+    value as usize % n
 }
 
 // How far apart the homes of neighbours are.
@@ -50,6 +70,12 @@ fn stride(n: usize) -> usize
     if n % 7 != 0 {
         return 7;
     }
+    if n % 5 != 0 {
+        return 5;
+    }
+    if n % 3 != 0 {
+        return 3;
+    }
     1
 }
 
@@ -59,7 +85,7 @@ fn home(n: usize, kind: u64, value: u64) -> usize
     requires { ⌜ n ≤ 1152921504606846976 ⌝ }
     ensures { λ r. ⌜ r ≡ homes.home n (constantOf kind value) ⌝ }
 {
-    let spread = spread_value(kind, value) as usize % n;
+    let spread = spread_value(n, kind, value);
     let apart = stride(n);
     (spread * apart + kind as usize % 8 * (n / 8)) % n
 }
