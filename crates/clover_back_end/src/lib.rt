@@ -91,6 +91,26 @@ fn refusal_of(shape: Shape) -> Refusal
     }
 }
 
+// The lengths by the areas' numbers.
+fn by_number(lengths: Lengths) -> [usize; 12]
+    ensures { λ r. ⌜ r ≡ lengthsOf lengths ⌝ }
+{
+    [
+        lengths.code,
+        lengths.constants,
+        lengths.functions,
+        lengths.models,
+        lengths.properties,
+        lengths.methods,
+        lengths.context_locals,
+        lengths.public_names,
+        lengths.scope_names,
+        lengths.breaks,
+        lengths.errors,
+        lengths.books,
+    ]
+}
+
 // Rows 2 to 4 on any words.
 #[no_mangle]
 pub extern "C" fn clover_check(tree: &[u64]) -> Refusal
@@ -104,21 +124,7 @@ pub extern "C" fn clover_check(tree: &[u64]) -> Refusal
 pub extern "C" fn clover_check_program(memory: &[u64], lengths: Lengths, totals: Totals) -> Refusal
     ensures { λ r. ⌜ r ≡ refusalOf (answerOf (countedFault (lentCounted (areasIn (lengthsOf lengths) (now (memory .entry))) totals))) ⌝ }
 {
-    let words = [
-        lengths.code,
-        lengths.constants,
-        lengths.functions,
-        lengths.models,
-        lengths.properties,
-        lengths.methods,
-        lengths.context_locals,
-        lengths.public_names,
-        lengths.scope_names,
-        lengths.breaks,
-        lengths.errors,
-        lengths.books,
-    ];
-    refusal_of(check_program(memory, words, totals))
+    refusal_of(check_program(memory, by_number(lengths), totals))
 }
 
 // A column file to records.
@@ -177,21 +183,7 @@ pub extern "C" fn clover_compile(
 ) -> Reply
     ensures { λ r. ⌜ CompilesInto (isStrict mode) (now (tree .entry)) (lengthsOf lengths) (now (memory .entry)) (now (memory .exit)) r ⌝ }
 {
-    let words = [
-        lengths.code,
-        lengths.constants,
-        lengths.functions,
-        lengths.models,
-        lengths.properties,
-        lengths.methods,
-        lengths.context_locals,
-        lengths.public_names,
-        lengths.scope_names,
-        lengths.breaks,
-        lengths.errors,
-        lengths.books,
-    ];
-    compile(tree, mode != 0, words, memory)
+    compile(tree, mode != 0, by_number(lengths), memory)
 }
 
 // Laying a bundle onto a program that stands in a memory (2026-01), on any words, memory, lengths and totals: the program check first of all; a refused bundle
@@ -206,21 +198,7 @@ pub extern "C" fn clover_lay_on(
 ) -> Reply
     ensures { λ r. ⌜ LaysOnInto (isStrict mode) (now (tree .entry)) standing (lengthsOf lengths) (now (memory .entry)) (now (memory .exit)) r ⌝ }
 {
-    let words = [
-        lengths.code,
-        lengths.constants,
-        lengths.functions,
-        lengths.models,
-        lengths.properties,
-        lengths.methods,
-        lengths.context_locals,
-        lengths.public_names,
-        lengths.scope_names,
-        lengths.breaks,
-        lengths.errors,
-        lengths.books,
-    ];
-    lay_on(tree, mode != 0, standing, words, memory)
+    lay_on(tree, mode != 0, standing, by_number(lengths), memory)
 }
 
 // What laying a bundle on would answer (2026-08): the program stays as it stands.
@@ -234,21 +212,7 @@ pub extern "C" fn clover_trial(
 ) -> Reply
     ensures { λ r. ⌜ TriesInto (isStrict mode) (now (tree .entry)) standing (lengthsOf lengths) (now (memory .entry)) (now (memory .exit)) r ⌝ }
 {
-    let words = [
-        lengths.code,
-        lengths.constants,
-        lengths.functions,
-        lengths.models,
-        lengths.properties,
-        lengths.methods,
-        lengths.context_locals,
-        lengths.public_names,
-        lengths.scope_names,
-        lengths.breaks,
-        lengths.errors,
-        lengths.books,
-    ];
-    trial(tree, mode != 0, standing, words, memory)
+    trial(tree, mode != 0, standing, by_number(lengths), memory)
 }
 
 // Laying on what a trial was answered these totals for (2026-08): refused where the program has another number of bundles since, or where the totals of the
@@ -264,19 +228,5 @@ pub extern "C" fn clover_commit(
 ) -> Reply
     ensures { λ r. ⌜ CommitsInto tried (isStrict mode) (now (tree .entry)) standing (lengthsOf lengths) (now (memory .entry)) (now (memory .exit)) r ⌝ }
 {
-    let words = [
-        lengths.code,
-        lengths.constants,
-        lengths.functions,
-        lengths.models,
-        lengths.properties,
-        lengths.methods,
-        lengths.context_locals,
-        lengths.public_names,
-        lengths.scope_names,
-        lengths.breaks,
-        lengths.errors,
-        lengths.books,
-    ];
-    commit(tree, mode != 0, standing, tried, words, memory)
+    commit(tree, mode != 0, standing, tried, by_number(lengths), memory)
 }
