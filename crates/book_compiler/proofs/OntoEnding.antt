@@ -1,6 +1,6 @@
--- The ways to the end of laying on, a trial and a commit over one memory: refused before the work, an area too short, a book with errors or a ring, other totals
--- than a trial's, a trial, and a delivery that is kept. What stood is given back at each refusal and at a trial, word for word; where a delivery is kept what is
--- noted goes, and the areas are what they said. By the lemmas over areas. Assumes nothing.
+-- The ways to the end of laying on, a trial and a commit over one memory: refused before the work, an area too short, a book with errors or a ring, other
+-- totals than a trial's, a trial, and a delivery that is kept. What stood is given back at each refusal and at a trial, word for word; where a delivery is
+-- kept what is noted goes, and the areas are what they said. By the lemmas over areas. Assumes nothing.
 use Prim.Native.Nat.{ℕ, zero, suc, _+_, _*_, _<_}
 use native.Mathlib.Nat.{zero-mul}
 use native.Mathlib.Omega.{arith}
@@ -263,7 +263,8 @@ module _ {strict : Bool} {tree : List ℕ} {t : Totals} {a w w₁ standing chose
     (held : Fits a (length w) → programFault (lent (partsOf a w) t) ≡ none → SetIs standing (take (t .books) (part a booksArea w)))
     (C : ChecksRows tree standing number at chosen) where
   -- rows 2 to 6
-  pub onto-row : {o : Order} {w₃ : List ℕ} {r : Reply} → (number ≡ 0 → ⊥) → GivesBack t a w₁ w₃ → r ≡ refusalWith t number at → RunsOnto o strict tree t a w w₃ r
+  pub onto-row : {o : Order} {w₃ : List ℕ} {r : Reply} → (number ≡ 0 → ⊥) → GivesBack t a w₁ w₃ → r ≡ refusalWith t number at
+      → RunsOnto o strict tree t a w w₃ r
   onto-row {o} {w₃} ne G says = record {
     answers = λ f counted current.
         let passed = areas-pass t (partsOf a w) counted in
@@ -345,7 +346,8 @@ module _ {strict : Bool} {tree : List ℕ} {t : Totals} {a w w₁ standing chose
         rw (lent-other (omega arith) (rw (B .long) (fits₂ f)) (U .bare) slotsPart (omega arith) (λ q. omega arith)) (B .slots)
 
     -- an area is too short, or a name is not public
-    onto-full : {o : Order} {w₄ : List ℕ} {r : Reply} → (s .full ≡ 0 → ⊥) → Undoes t a w₂ w₄ → r ≡ markRefusalWith t (s .full) → RunsOnto o strict tree t a w w₄ r
+    onto-full : {o : Order} {w₄ : List ℕ} {r : Reply} → (s .full ≡ 0 → ⊥) → Undoes t a w₂ w₄ → r ≡ markRefusalWith t (s .full)
+        → RunsOnto o strict tree t a w w₄ r
     onto-full {o} ne U says = record {
       answers = λ f counted current.
           let passed = areas-pass t (partsOf a w) counted in

@@ -1,5 +1,5 @@
--- Calls on a program over one memory: the set of the books that stand has room for their file numbers, and what is promised of the parts is promised of the areas
--- in the memory; a program that fails the check is left as it is, and a stale commit leaves no errors. By the laws of the layout. Assumes nothing.
+-- Calls on a program over one memory: the set of the books that stand has room for their file numbers, and what is promised of the parts is promised of the
+-- areas in the memory; a program that fails the check is left as it is, and a stale commit leaves no errors. By the laws of the layout. Assumes nothing.
 use Prim.Native.Nat.{ℕ, zero, suc, _+_, _*_, _≤_, _<_}
 use native.Mathlib.Omega.{arith}
 use mathlib.Core.Path.{_≡_, refl, sym, ap, subst, _∙_}
@@ -129,7 +129,8 @@ module _ {o : Order} {strict : Bool} {tree : List ℕ} {t : Totals} (lengths w :
       let S′ : RefusesStale t starts w w′ r = subst (λ (y : List ℕ). RefusesStale t y w w′ r) a-is S in
       let f₁ : Fits starts (length (S′ .between)) = lent-fits (omega arith) f (S′ .errors) in
       let L = slots-lent f₁ (S′ .slots) in
-      let stays : (i : ℕ) → i < 13 → part starts i w′ ≡ part starts i (S′ .between) = λ i h. lent-other (omega arith) f₁ L i (omega arith) (λ e. omega (arith, e, h)) in
+      let stays : (i : ℕ) → i < 13 → part starts i w′ ≡ part starts i (S′ .between) =
+      λ i h. lent-other (omega arith) f₁ L i (omega arith) (λ e. omega (arith, e, h)) in
       let same : partsOf starts w′ ≡ partsOf starts (S′ .between) =
       rw (
         stays 1 (omega arith),
