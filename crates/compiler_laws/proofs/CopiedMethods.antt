@@ -36,7 +36,8 @@ use Rattle.compiler_laws.proofs.MethodsTogether.{inserts-grow, methods-
 pub record CopiesFrom (source target i count : ℕ) (s : struct.Book) (t : List ℕ) (s′ : struct.Book) (t′ : List ℕ) : Type 0 where
   pub meets : (c k f m p l u n b e : List ℕ) (κ : Limits) (ps : List ℕ) (w : Book) → (s .full ≡ 0 → count ≤ length (w .context .program .methods))
       → RepresentsAreas κ ps (bookAreas s c k f m p t l u n b e) w
-      → RepresentsAreas κ ps (bookAreas s′ c k f m p t′ l u n b e) (addMethods (some target) (methodsFrom source i (count - i) (w .context .program .methods)) w)
+      → RepresentsAreas κ ps (bookAreas s′ c k f m p t′ l u n b e)
+      (addMethods (some target) (methodsFrom source i (count - i) (w .context .program .methods)) w)
 
 -- a method's words, also behind the methods
 method-word : {t : List ℕ} {n : ℕ} (xs : List Method) → Filled 3 t (entriesFrom methodEntry 0 xs) n → (i k : ℕ) → k < 3
@@ -121,7 +122,8 @@ module _ (source target count : ℕ) where
           → RepresentsAreas κ ps (bookAreas s′ c k f m p t′ l u n b e) (addMethods (some target) (methodsFrom source i 1 (w .context .program .methods)
           ++ methodsFrom source (i + 1) (count - (i + 1))
           (insertMethods target (methodsFrom source i 1 (w .context .program .methods)) (w .context .program .methods))) w)
-          → RepresentsAreas κ ps (bookAreas s′ c k f m p t′ l u n b e) (addMethods (some target) (methodsFrom source i (count - i) (w .context .program .methods)) w)
+          → RepresentsAreas κ ps (bookAreas s′ c k f m p t′ l u n b e)
+          (addMethods (some target) (methodsFrom source i (count - i) (w .context .program .methods)) w)
       whole c k f m p l u n b e κ ps w few H true q H′ =
           let enough = few (eqb-true (s .full) 0 q) in
           let left : count - i ≡ suc (count - (i + 1)) = omega arith in
@@ -149,7 +151,8 @@ module _ (source target count : ℕ) where
 
       whole : (c k f m p l u n b e : List ℕ) (κ : Limits) (ps : List ℕ) (w : Book) → RepresentsAreas κ ps (bookAreas s c k f m p t l u n b e) w
           → (x : Bool) → eqb (s .full) 0 ≡ x
-          → RepresentsAreas κ ps (bookAreas s′ c k f m p t′ l u n b e) (addMethods (some target) (methodsFrom source 0 (count - 0) (w .context .program .methods)) w)
+          → RepresentsAreas κ ps (bookAreas s′ c k f m p t′ l u n b e)
+          (addMethods (some target) (methodsFrom source 0 (count - 0) (w .context .program .methods)) w)
           → RepresentsAreas κ ps (bookAreas s′ c k f m p t′ l u n b e) (addMethods (some target) (methodsIn source (w .context .program .methods)) w)
       whole c k f m p l u n b e κ ps w H true q H′ =
           let left : count - 0 ≡ length (w .context .program .methods) = omega (arith, many c k f m p l u n b e κ ps w H (eqb-true (s .full) 0 q)) in
