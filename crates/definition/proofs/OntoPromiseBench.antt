@@ -1,6 +1,7 @@
--- What each part of the promises of laying on, of a trial and of a commit rules out, on the program of specs/OntoBench.antt with old errors in area 11: a program that fails the check, a book
--- that is refused (`implement` on an unknown name, row 7 with error 10, after a mark was due), and a book that is delivered. The reply's number, place,
--- numbers and count of bundles, and every word of every area, are said; and of a delivery that a log stands for each function added. Assumes nothing.
+-- What each part of the promises of laying on, of a trial and of a commit rules out, on the program of specs/OntoBench.antt with old errors in area 11: a
+-- program that fails the check, a book that is refused (`implement` on an unknown name, row 7 with error 10, after a mark was due), and a book that is
+-- delivered. The reply's number, place, numbers and count of bundles, and every word of every area, are said; and of a delivery that a log stands for each
+-- function added. Assumes nothing.
 use Prim.Native.Nat.{ℕ, _+_}
 use mathlib.Core.Path.{_≡_, ap}
 use mathlib.Core.Bool.{false}

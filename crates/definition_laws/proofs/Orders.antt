@@ -1,6 +1,6 @@
--- What an order (laying on, a trial, a commit: 2026-08) answers, by what the work answers: where the program passes the check and the order is not stale it is the
--- work's answer, judged (`ordered-answer`); a delivery is laying on's (`delivery-worked`); every refusal has a row (`order-row`). By the cases of an answer.
--- Assumes nothing.
+-- What an order (laying on, a trial, a commit: 2026-08) answers, by what the work answers: where the program passes the check and the order is not stale it
+-- is the work's answer, judged (`ordered-answer`); a delivery is laying on's (`delivery-worked`); every refusal has a row (`order-row`). By the cases of an
+-- answer. Assumes nothing.
 use Prim.Native.Nat.{ℕ}
 use native.Mathlib.Omega.{arith}
 use mathlib.Core.Path.{_≡_, refl, sym, ap, _∙_}
@@ -15,7 +15,8 @@ use Rattle.definition.specs.Answer.{Answer, Delivery, Refusal, answerFrom, repl
 use Rattle.definition.specs.Within.{lengthsOf}
 use Rattle.definition.specs.ProgramCheck.{programFault}
 use Rattle.definition.specs.Onto.{contextOf, Unfit, Checked, layOnBy, layOn}
-use Rattle.definition.specs.Trial.{CountedProgram, countFault, countedFault, Order, Lay, Trial, Commit, isStale, lineOne, sameNumbers, judged, orderedBy, ordered}
+use Rattle.definition.specs.Trial.{CountedProgram, countFault, countedFault, Order, Lay, Trial, Commit, isStale, lineOne, sameNumbers, judged}
+use Rattle.definition.specs.Trial.{orderedBy, ordered}
 use Rattle.definition_laws.proofs.Answer.{refusals}
 use Rattle.definition_laws.proofs.Promise.{no-row}
 

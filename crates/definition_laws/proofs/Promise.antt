@@ -1,5 +1,5 @@
--- What the call promises follows from its reply, its count of bundles and its words alone: a reply of number 0 is a delivery's, and a delivery keeps within itself
--- (`answer-keeps`). Assumes nothing.
+-- What the call promises follows from its reply, its count of bundles and its words alone: a reply of number 0 is a delivery's, and a delivery keeps within
+-- itself (`answer-keeps`). Assumes nothing.
 use Prim.Native.Nat.{ℕ}
 use native.Mathlib.Omega.{arith}
 use mathlib.Core.Path.{_≡_, refl, sym, ap, subst, _∙_}

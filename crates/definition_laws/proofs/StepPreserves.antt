@@ -275,8 +275,8 @@ preserves-for {a} {b} A B t i w =
     let r₃ : StepPreserves v₁ v₃ = preserves-trans {b = v₂} (preserves-function v₁ _ refl) (preserves-function v₂ _ refl) in
     let r₅ : StepPreserves v₃ v₅ = preserves-trans {b = v₄} (preserves-function v₃ _ refl) (preserves-function v₄ _ refl) in
     let r₆ : StepPreserves v₅ (doing Emission.exitScope v₅) = preserves-function v₅ _ refl in
-    preserves-trans s₁ (preserves-trans (A w₁) (preserves-trans s₃ (preserves-trans s₄ (preserves-trans s₅ (preserves-trans s₆ (preserves-trans s₈ (preserves-trans s₉
-    (preserves-trans (B w₉) (preserves-trans r₃ (preserves-trans r₅ r₆))))))))))
+    preserves-trans s₁ (preserves-trans (A w₁) (preserves-trans s₃ (preserves-trans s₄ (preserves-trans s₅ (preserves-trans s₆ (preserves-trans s₈
+    (preserves-trans s₉ (preserves-trans (B w₉) (preserves-trans r₃ (preserves-trans r₅ r₆))))))))))
 
 pub preserves-expression-statement : {a : Step} → Steadily a → Steadily (compileExpressionStatement a)
 unfolding compileExpressionStatement
@@ -346,7 +346,8 @@ mutual
   preserves-expression (Array t values) = preserves-array (preserves-expressions values) _ _
   preserves-expression (Prefix t right) = preserves-prefix (preserves-expression right) t
   preserves-expression (Infix left t right) = preserves-infix (preserves-expression left) (preserves-expression right) (preserves-target left t) t
-  preserves-expression (If condition truePart) = preserves-if (preserves-expression condition) (preserves-part (preserves-statements truePart)) preserves-no-part
+  preserves-expression (If condition truePart) =
+      preserves-if (preserves-expression condition) (preserves-part (preserves-statements truePart)) preserves-no-part
   preserves-expression (IfElse condition truePart falsePart) =
       preserves-if (preserves-expression condition) (preserves-part (preserves-statements truePart)) (preserves-part (preserves-statements falsePart))
   preserves-expression (Call t function parameters) = preserves-call (preserves-expression function) (preserves-expressions parameters) _ _
