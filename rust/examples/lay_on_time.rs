@@ -31,6 +31,10 @@ fn main() {
         let tree = book(file, 1, 3);
         let began = Instant::now();
         program.lay_on(&tree, Mode::Present).expect("a small book");
-        println!("the check {:.2} ms, laying on {:.2} ms", check.as_secs_f64() * 1e3, began.elapsed().as_secs_f64() * 1e3);
+        println!(
+            "the check {:.2} ms, laying on {:.2} ms",
+            check.as_secs_f64() * 1e3,
+            began.elapsed().as_secs_f64() * 1e3
+        );
     }
 }

@@ -180,6 +180,23 @@ pub fn compile_in<'a>(mode: Mode, tree: &[u64], lengths: [usize; AREAS], memory:
     Answer { reply, areas: areas_in(lengths, memory) }
 }
 
+/// The calls on a program that are lent nothing but the bundle and the program.
+type OnProgram = unsafe extern "C" fn(*const u64, usize, u64, Totals, Lengths, *mut u64, usize) -> Reply;
+
+fn on_program(
+    call: OnProgram,
+    mode: Mode,
+    tree: &[u64],
+    standing: Totals,
+    lengths: [usize; AREAS],
+    memory: &mut [u64],
+) -> Reply {
+    hold_to_layout();
+    let (words, size) = (Lengths(lengths), memory.len());
+    // Both slices outlive the call, and the memory is another than the tree.
+    unsafe { call(tree.as_ptr(), tree.len(), mode.word(), standing, words, memory.as_mut_ptr(), size) }
+}
+
 /// Lays a bundle onto the program that stands in the areas of one memory and has these totals. First of all the program is
 /// checked as [`check_program`] does: where it fails, every word stays as it is. A delivery is what stood and what the bundle
 /// adds, then zeros. Any other refusal leaves the program, and in area 11 the errors of rows 7 and 8 and zeros. After a refusal
@@ -193,19 +210,7 @@ pub fn lay_on<'a>(
     lengths: [usize; AREAS],
     memory: &'a mut [u64],
 ) -> Answer<'a> {
-    hold_to_layout();
-    let (words, size) = (Lengths(lengths), memory.len());
-    // Both slices outlive the call, and the memory is another than the tree.
-    #[rustfmt::skip]
-    let reply = unsafe {
-        clover_lay_on(
-            tree.as_ptr(), tree.len(),
-            mode.word(),
-            standing,
-            words,
-            memory.as_mut_ptr(), size,
-        )
-    };
+    let reply = on_program(clover_lay_on, mode, tree, standing, lengths, memory);
     Answer { reply, areas: areas_in(lengths, memory) }
 }
 
@@ -218,19 +223,7 @@ pub fn trial<'a>(
     lengths: [usize; AREAS],
     memory: &'a mut [u64],
 ) -> Tried<'a> {
-    hold_to_layout();
-    let (words, size) = (Lengths(lengths), memory.len());
-    // Both slices outlive the call, and the memory is another than the tree.
-    #[rustfmt::skip]
-    let reply = unsafe {
-        clover_trial(
-            tree.as_ptr(), tree.len(),
-            mode.word(),
-            standing,
-            words,
-            memory.as_mut_ptr(), size,
-        )
-    };
+    let reply = on_program(clover_trial, mode, tree, standing, lengths, memory);
     Tried { reply, areas: areas_in(lengths, memory) }
 }
 

@@ -55,7 +55,9 @@ mod tests {
     #[test]
     fn positions_come_back() {
         let most = Position::new(Position::MOST, Position::MOST);
-        for position in [Position::NONE, Position::new(2, 6), most, Position::new(0, u32::MAX), Position::new(u32::MAX, 0)] {
+        for position in
+            [Position::NONE, Position::new(2, 6), most, Position::new(0, u32::MAX), Position::new(u32::MAX, 0)]
+        {
             assert_eq!(Position::from_word(position.word()), position);
         }
         assert_eq!(Position::new(2, 6).word(), (2 << COLUMN_BITS) + 6);
