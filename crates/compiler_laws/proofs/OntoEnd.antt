@@ -4,11 +4,12 @@
 use Prim.Native.Nat.{ℕ, _+_, _-_}
 use native.Mathlib.Omega.{arith}
 use mathlib.Core.Path.{_≡_, refl, sym, ap, _∙_}
-use mathlib.Core.Bool.{Bool, true, false, cond, not}
+use mathlib.Core.Bool.{Bool, true, false, cond}
 use mathlib.Core.Option.{none}
 use mathlib.Core.List.{List, [], _∷_}
 use lib.ListN.{length, getD, set}
 use lib.Dec.{ltb}
+use borrow.Author.Tests.{not-true, not-false}
 use Rattle.words.specs.Ast.{Document}
 use Rattle.words.specs.Areas.{errorsArea}
 use Rattle.words.specs.declared.reply.Totals.{Totals}
@@ -44,14 +45,6 @@ answers-from : (c : Context) (lengths : List ℕ) {tree chosen : List ℕ} {root
 answers-from c lengths A = A .answers c refl lengths
 
 -- what an order makes of a delivery
-
-not-true : (b : Bool) → not b ≡ true → b ≡ false
-not-true true q = sym q
-not-true false q = refl
-
-not-false : (b : Bool) → not b ≡ false → b ≡ true
-not-false true q = refl
-not-false false q = sym q
 
 no-truth : {X : Type 0} → false ≡ true → X
 no-truth q = absurd (let z : _≡_ {A = ℕ} 0 1 = cc in omega arith)
