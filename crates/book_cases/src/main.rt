@@ -4,6 +4,8 @@
 // and every word of the memory must be as stored: the areas one after the other, zeros after a list's end and behind the last area, or there the stale words
 // where the program that stands is refused. A line with the reply is written for each case, below it one for each part that differs, and the counts at the
 // end.
+#![tactic(auto)]
+
 ghost use Rattle.std.specs.Prelude.{◌≤◌, length};
 
 use book_compiler::{commit, compile, lay_on, trial};

@@ -1,5 +1,7 @@
 // 01's program `listing`: a column file on standard input, the listing of what it compiles to on standard output. The sizes of its buffers stand in
 // docs/FORMAT.md; a longer input answers 9, place 0, and so does a listing that is too long or has a number too wide. It compiles in the present mode.
+#![tactic(auto)]
+
 ghost use Rattle.std.specs.Prelude.{◌≤◌, length};
 
 use book_compiler::compile;

@@ -1,6 +1,8 @@
 // Column files and words, a line each, on stored cases. In standard input a case is a line, `label: size room`, then so many bytes as they are, and a
 // newline; a line without a colon names the part that the cases behind it are of, and each part has a module. `room` is in words, for the part `files`
 // alone. For each case the label and what was answered go out, for each part its line; `stdout` has what they must be.
+#![tactic(auto)]
+
 ghost use Rattle.std.specs.Prelude.{◌≤◌, length};
 
 mod columns;

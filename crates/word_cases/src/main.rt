@@ -1,6 +1,8 @@
 // Routines that take and answer words, on stored cases. A line of standard input is a case, `label: number number ..`, and a line without a colon names the
 // part that the cases behind it are of; each part has a module, which says what the numbers are. For each case the label and what was answered go out, for each
 // part its line; `stdout` has what they must be.
+#![tactic(auto)]
+
 mod elements;
 mod errors;
 mod programs;
