@@ -17,7 +17,7 @@ returns-then-text-i c = p.place_here c.args.byte c.args.text.now
     c.loop-i.i (omega arith) c.if-text-i.true ∙ sym c.loop-i.invariant
 
 pub loop-i-preserved : goal.loop-i-preserved
-loop-i-preserved c = c.loop-i.invariant ∙ p.place-next c.args.byte
+loop-i-preserved c = c.loop-i.invariant ∙ p.place_next c.args.byte
     c.args.text.now c.loop-i.i (omega arith) c.if-text-i.false
 
 pub returns : goal.returns

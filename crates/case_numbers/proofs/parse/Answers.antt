@@ -10,39 +10,39 @@ use native.Mathlib.Omega.{arith}
 use Rattle.case_numbers.proofs.parse.Goals as goal
 
 pub loop-i-init : goal.loop-i-init
-loop-i-init c = p.at-start c.args.text.now c.args.words.now
+loop-i-init c = p.at_start c.args.text.now c.args.words.now
 
 pub overflow_sub-byte : goal.overflow_sub-byte
 overflow_sub-byte c =
     omega (
       arith,
-      p.digit-least (get_or c.args.text.now c.loop-i.i 0) (sym
+      p.digit_least (get_or c.args.text.now c.loop-i.i 0) (sym
           c.is_digit.ensures ∙ c.if-is_digit.true),
     )
 
 pub overflow_cast-byte : goal.overflow_cast-byte
 overflow_cast-byte c =
-    omega (arith, p.digit-most (get_or c.args.text.now c.loop-i.i 0) (sym c.is_digit.ensures ∙ c.if-is_digit.true))
+    omega (arith, p.digit_most (get_or c.args.text.now c.loop-i.i 0) (sym c.is_digit.ensures ∙ c.if-is_digit.true))
 
 pub longer-number-requires : goal.longer-number-requires
 longer-number-requires c =
-    omega (arith, p.digit-most (get_or c.args.text.now c.loop-i.i 0) (sym c.is_digit.ensures ∙ c.if-is_digit.true))
+    omega (arith, p.digit_most (get_or c.args.text.now c.loop-i.i 0) (sym c.is_digit.ensures ∙ c.if-is_digit.true))
 
 pub loop-i-preserved-then-is_digit : goal.loop-i-preserved-then-is_digit
 loop-i-preserved-then-is_digit c =
-    p.digit-turn _ _ c.loop-i.begun c.loop-i.number c.loop-i.i _ _ c.loop-i.invariant (omega arith) _ _ c.is_digit.ensures
+    p.digit_turn _ _ c.loop-i.begun c.loop-i.number c.loop-i.i _ _ c.loop-i.invariant (omega arith) _ _ c.is_digit.ensures
     c.if-is_digit.true c.longer-number.ensures
 
 pub loop-i-preserved : goal.loop-i-preserved
 loop-i-preserved c =
-    p.other-turn _ _ c.loop-i.begun c.loop-i.number c.loop-i.i _ _ c.loop-i.invariant (omega arith) _ _ _ c.is_digit.ensures
+    p.other_turn _ _ c.loop-i.begun c.loop-i.number c.loop-i.i _ _ c.loop-i.invariant (omega arith) _ _ _ c.is_digit.ensures
     c.if-is_digit.false c.put-count.ensures
 
 pub shape_of-words : goal.shape_of-words
 shape_of-words c =
-    c.put.auto.0 ∙ c.loop-i.invariant.room
+    c.put.auto.words ∙ c.loop-i.invariant.room
 
 pub returns : goal.returns
 returns c =
-    p.at_last _ _ _ _ (p.last-put _ _ c.loop-i.begun c.loop-i.number c.loop-i.i _ _ c.loop-i.invariant _ _ (omega arith)
+    p.at_last _ _ _ _ (p.last_put _ _ c.loop-i.begun c.loop-i.number c.loop-i.i _ _ c.loop-i.invariant _ _ (omega arith)
     c.put.ensures)

@@ -17,12 +17,12 @@ returns-then-i-other c = sym (c.loop-i.invariant.1 ∙ p.too_short c.args.text.n
 
 pub returns-then-text-i : goal.returns-then-text-i
 returns-then-text-i c =
-    sym (c.loop-i.invariant.1 ∙ p.bytes-differ c.args.text.now c.args.other.now c.loop-i.i (omega arith) (omega arith) c.if-text-i.true)
+    sym (c.loop-i.invariant.1 ∙ p.bytes_differ c.args.text.now c.args.other.now c.loop-i.i (omega arith) (omega arith) c.if-text-i.true)
 
 pub loop-i-preserved : goal.loop-i-preserved
 loop-i-preserved c =
-    (omega arith, c.loop-i.invariant.1 ∙ p.bytes-agree c.args.text.now c.args.other.now c.loop-i.i (omega arith) (omega arith) c.if-text-i.false)
+    (omega arith, c.loop-i.invariant.1 ∙ p.bytes_agree c.args.text.now c.args.other.now c.loop-i.i (omega arith) (omega arith) c.if-text-i.false)
 
 pub returns : goal.returns
-returns c = sym (c.loop-i.invariant.1 ∙ p.at-end c.args.text.now c.args.other.now c.loop-i.i
+returns c = sym (c.loop-i.invariant.1 ∙ p.at_end c.args.text.now c.args.other.now c.loop-i.i
     (omega arith) (omega arith) _ refl)
