@@ -44,7 +44,10 @@ returns-then-b-gt-NINE c =
     c.loop-i.m c.if-b-lt-ZERO.false c.if-b-gt-NINE.true ∙ sym c.loop-i.invariant.0
 
 pub has_room_to-requires : goal.has_room_to-requires
-has_room_to-requires c = (omega arith, c.loop-i.invariant.3)
+has_room_to-requires c = record {
+  digit_bound = omega arith;
+  last_bound = c.loop-i.invariant.3;
+}
 
 pub returns-then-not-has_room_to : goal.returns-then-not-has_room_to
 returns-then-not-has_room_to c =

@@ -42,7 +42,10 @@ returns-then-b-gt-NINE c =
     c.loop-i.n-bits) c.if-b-lt-ZERO.false c.if-b-gt-NINE.true ∙ sym c.loop-i.invariant.0
 
 pub has_room-requires : goal.has_room-requires
-has_room-requires c = (held_is c.loop-i.n-bits c.loop-i.invariant.1, omega arith)
+has_room-requires c = record {
+  n_value = held_is c.loop-i.n-bits c.loop-i.invariant.1;
+  digit_bound = omega arith;
+}
 
 pub returns-then-not-has_room : goal.returns-then-not-has_room
 returns-then-not-has_room c =
@@ -51,8 +54,11 @@ returns-then-not-has_room c =
     c.has_room.ensures (ap not c.if-not-has_room.true)
 
 pub with_digit-n-requires : goal.with_digit-n-requires
-with_digit-n-requires c =
-    (held_is c.loop-i.n-bits c.loop-i.invariant.1, (omega arith, roomy _ _ c.has_room.ensures (ap not c.if-not-has_room.false)))
+with_digit-n-requires c = record {
+  n_value = held_is c.loop-i.n-bits c.loop-i.invariant.1;
+  digit_bound = omega arith;
+  digit_bound_2 = roomy _ _ c.has_room.ensures (ap not c.if-not-has_room.false);
+}
 
 pub loop-i-preserved : goal.loop-i-preserved
 loop-i-preserved c =
