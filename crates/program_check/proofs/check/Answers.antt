@@ -30,7 +30,7 @@ returns-then-not-functions_fine c =
     c.functions_area-functions_fine.ensures (ap not c.if-not-functions_fine.true)
 
 pub entries_fine-models_fine-requires : goal.entries_fine-models_fine-requires
-entries_fine-models_fine-requires c = record { from-code = omega arith; or-books = λ h. omega arith }
+entries_fine-models_fine-requires c = record { from_code = omega arith; or_books = λ h. omega arith }
 
 pub returns-then-not-models_fine : goal.returns-then-not-models_fine
 returns-then-not-models_fine c =
@@ -42,7 +42,7 @@ returns-then-not-models_fine c =
     c.entries_fine-models_fine.ensures (ap not c.if-not-models_fine.true)
 
 pub entries_fine-properties_fine-requires : goal.entries_fine-properties_fine-requires
-entries_fine-properties_fine-requires c = record { from-code = omega arith; or-books = λ h. omega arith }
+entries_fine-properties_fine-requires c = record { from_code = omega arith; or_books = λ h. omega arith }
 
 pub returns-then-not-properties_fine : goal.returns-then-not-properties_fine
 returns-then-not-properties_fine c =
@@ -63,7 +63,7 @@ returns-then-not-methods_fine c =
     (ap not c.if-not-properties_fine.false) c.methods_area-methods_fine.ensures (ap not c.if-not-methods_fine.true)
 
 pub entries_fine-locals_fine-requires : goal.entries_fine-locals_fine-requires
-entries_fine-locals_fine-requires c = record { from-code = omega arith; or-books = λ h. omega arith }
+entries_fine-locals_fine-requires c = record { from_code = omega arith; or_books = λ h. omega arith }
 
 pub returns-then-not-locals_fine : goal.returns-then-not-locals_fine
 returns-then-not-locals_fine c =

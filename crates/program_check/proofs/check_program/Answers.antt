@@ -7,7 +7,7 @@ use Rattle.program_check.proofs.check_program.Goals as goal
 pub returns : goal.returns
 unfolding part
 returns c =
-    by_parts c.args.lengths c.args.memory.now (search (rules, c.well-formed.1.0)) c.starts_of-starts.ensures c.args.totals
+    by_parts c.args.lengths c.args.memory.now (search (rules, c.well_formed.1.0)) c.starts_of-starts.ensures c.args.totals
     c.count_too.ensures
     c.check-areas_fine.ensures
     c.part_of-code.ensures c.part_of-constants.ensures c.part_of-functions.ensures c.part_of-models.ensures c.part_of-properties.ensures c.part_of-methods.ensures

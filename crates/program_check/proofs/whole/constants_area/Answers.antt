@@ -9,7 +9,7 @@ use mathlib.Core.Bool.{not}
 use Rattle.program_check.proofs.whole.constants_area.Goals as goal
 
 pub entries_fine-requires : goal.entries_fine-requires
-entries_fine-requires c = record { from-code = omega arith; or-books = λ h. omega arith }
+entries_fine-requires c = record { from_code = omega arith; or_books = λ h. omega arith }
 
 pub returns-then-not-entries_fine : goal.returns-then-not-entries_fine
 returns-then-not-entries_fine c = area_no (alone 2 c.args.constants.now c.args.totals) 2 refl
