@@ -7,8 +7,8 @@ use Rattle.book_compiler.proofs.OntoParts.{back_more, gave_back}
 use Rattle.book_compiler.proofs.onto.give_back.Given as goal
 
 abbrev pub invariant-loop-i : goal.invariant-loop-i
-invariant-loop-i l = (length l.memory ≡ length l.initial.memory) × ChangedUpTo (λ j l. given_back j
-    (total_of l.standing j) l) 1 l.i l.starts l.initial.memory l.memory
+invariant-loop-i l = (length l.memory ≡ length l.initial.memory) × ChangedUpTo (λ j p. given_back j
+    (total_of l.standing j) p) 1 l.i l.starts l.initial.memory l.memory
 
 abbrev pub decreases-loop-i : goal.decreases-loop-i
 decreases-loop-i l = 13 - l.i

@@ -12,28 +12,36 @@ use Rattle.book_compiler.proofs.StatementKinds as s
 use Rattle.book_compiler.proofs.Variables as v
 use Rattle.book_compiler.proofs.BothParts.{break_acts}
 use Rattle.book_compiler.proofs.Loops.{for_meets, for_past}
-use Rattle.book_compiler.proofs.+compile_assign_expression_left_part_compile_expression_compile_if_expression_compile_infix_expression_compile_block_compile_for_statement_compile_statement.Given as goal
+use Rattle.book_compiler.proofs.+statements_and_expressions.Given as goal
 
-abbrev pub decreases-statements-compile_for_statement : goal.decreases-statements-compile_for_statement
-decreases-statements-compile_for_statement l = l.end - l.at
+abbrev pub decreases-statements::compile_for_statement : goal.decreases-statements::compile_for_statement
+decreases-statements::compile_for_statement l = l.end - l.at
 
-abbrev pub decreases-statements-compile_block : goal.decreases-statements-compile_block
-decreases-statements-compile_block l = l.end - l.at
+abbrev pub decreases-statements::compile_block : goal.decreases-statements::compile_block
+decreases-statements::compile_block l = l.end - l.at
 
-abbrev pub decreases-statements-compile_statement : goal.decreases-statements-compile_statement
-decreases-statements-compile_statement l = l.end - l.at
+abbrev pub decreases-statements::compile_statement : goal.decreases-statements::compile_statement
+decreases-statements::compile_statement l = l.end - l.at
 
-abbrev pub decreases-expressions-compile_if_expression : goal.decreases-expressions-compile_if_expression
-decreases-expressions-compile_if_expression l = l.end - l.at
+abbrev pub decreases-expressions::compile_if_expression : goal.decreases-expressions::compile_if_expression
+decreases-expressions::compile_if_expression l = l.end - l.at
 
-abbrev pub decreases-expressions-compile_assign_expression_left_part : goal.decreases-expressions-compile_assign_expression_left_part
-decreases-expressions-compile_assign_expression_left_part l = l.end - l.at
+abbrev pub decreases-expressions::compile_assign_expression_left_part : goal.decreases-expressions::compile_assign_expression_left_part
+decreases-expressions::compile_assign_expression_left_part l = l.end - l.at
 
-abbrev pub decreases-expressions-compile_infix_expression : goal.decreases-expressions-compile_infix_expression
-decreases-expressions-compile_infix_expression l = l.end - l.at
+abbrev pub decreases-expressions::compile_infix_expression : goal.decreases-expressions::compile_infix_expression
+decreases-expressions::compile_infix_expression l = l.end - l.at
 
-abbrev pub decreases-expressions-compile_expression : goal.decreases-expressions-compile_expression
-decreases-expressions-compile_expression l = l.end - l.at
+abbrev pub decreases-expressions::compile_expression : goal.decreases-expressions::compile_expression
+decreases-expressions::compile_expression l = l.end - l.at
+
+abbrev pub invariant-expressions::compile_assign_expression_left_part-loop-i : goal.invariant-expressions::compile_assign_expression_left_part-loop-i
+invariant-expressions::compile_assign_expression_left_part-loop-i l =
+    (l.at < l.i) × (length l.memory ≡ length l.initial.memory) × ((m : Memory) → CompilesExpressions l.tree l.i l.end l.start l.count
+    (laid (state_of l.cells) l.starts l.memory) m → CompilesExpressions l.tree (l.at + 1) l.end l.start l.count (laid (state_of l.initial.cells) l.starts l.initial.memory) m)
+
+abbrev pub decreases-expressions::compile_assign_expression_left_part-loop-i : goal.decreases-expressions::compile_assign_expression_left_part-loop-i
+decreases-expressions::compile_assign_expression_left_part-loop-i l = l.end - l.i
 
 abbrev pub invariant-expressions::compile_expression-loop-i : goal.invariant-expressions::compile_expression-loop-i
 invariant-expressions::compile_expression-loop-i l = (l.at + l.n < l.i) ×

@@ -12,7 +12,7 @@ use Rattle.book_compiler.proofs.StatementKinds as s
 use Rattle.book_compiler.proofs.Variables as v
 use Rattle.book_compiler.proofs.BothParts.{break_acts}
 use Rattle.book_compiler.proofs.Loops.{for_meets, for_past}
-use Rattle.book_compiler.proofs.+compile_assign_expression_left_part_compile_expression_compile_if_expression_compile_infix_expression_compile_block_compile_for_statement_compile_statement.Goals as goal
+use Rattle.book_compiler.proofs.+statements_and_expressions.Goals as goal
 
 pub expressions::compile_assign_expression_left_part-returns-then-full-ne0 : goal.expressions::compile_assign_expression_left_part-returns-then-full-ne0
 expressions::compile_assign_expression_left_part-returns-then-full-ne0 t c = i.target_full (rw c.full-full.ensures at c.if-full-ne0.true)
