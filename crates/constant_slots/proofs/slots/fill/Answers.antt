@@ -16,7 +16,7 @@ loop-i-init c =
       omega arith,
       omega arith,
       refl,
-      filled_start (length c.args.slots.now) c.clear.new.0 c.args.constants.now
+      filled_start (length c.args.slots.now) c.clear.new.slots c.args.constants.now
           c.clear.ensures,
     )
 
@@ -26,7 +26,7 @@ shape_of-slots-then-slots-i c =
 
 pub returns-then-slots-i : goal.returns-then-slots-i
 returns-then-slots-i c =
-    filled_early (length c.clear.new.0) (length c.args.slots.now) c.loop-i.i c.args.count c.args.constants.now
+    filled_early (length c.clear.new.slots) (length c.args.slots.now) c.loop-i.i c.args.count c.args.constants.now
     c.loop-i.invariant.3
     (omega (arith, c.clear.auto.slots)) (omega (arith, c.loop-i.invariant.1, c.loop-i.invariant.2, c.if-slots-i.true)) (omega (
       arith,
@@ -43,7 +43,7 @@ loop-i-preserved c =
         c.put.auto.slots,
         c.loop-i.invariant.2,
       ),
-      filled_again (length c.clear.new.0) c.loop-i.i c.args.constants.now c.loop-i.slots c.loop-i.invariant.3 (omega (
+      filled_again (length c.clear.new.slots) c.loop-i.i c.args.constants.now c.loop-i.slots c.loop-i.invariant.3 (omega (
         arith,
         c.loop-i-test.true,
         c.ranges.count,
@@ -56,6 +56,6 @@ shape_of-slots c = omega (arith, c.clear.auto.slots, c.loop-i.invariant.2)
 
 pub returns : goal.returns
 returns c =
-    filled_last (length c.clear.new.0) (length c.args.slots.now) c.loop-i.i c.args.count
+    filled_last (length c.clear.new.slots) (length c.args.slots.now) c.loop-i.i c.args.count
     c.args.constants.now c.loop-i.invariant.3
     (omega (arith, c.clear.auto.slots)) (omega (arith, c.loop-i.invariant.0, c.loop-i-test.false))

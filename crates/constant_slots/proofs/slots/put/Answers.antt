@@ -21,10 +21,10 @@ pub first_empty-p-requires : goal.first_empty-p-requires
 first_empty-p-requires c =
     omega (
       arith,
-      c.home.ensures,
+      c.home-from.ensures,
       home_below (length c.args.slots.now) (constant_of c.args.kind c.args.value) (omega (
         arith,
-        c.if2.false,
+        c.if-slots-eq0.false,
       )),
     )
 
@@ -33,17 +33,17 @@ returns-then-p-slots c =
     put_in c.args.slots.now c.args.number c.args.kind c.args.value c.first_empty-p.result (omega (
       arith,
       c.ranges.number,
-      c.if1.false,
+      c.if-number-eq-MOST_WORD.false,
     ))
     (c.first_empty-p.ensures ∙ ap (λ h. first_empty (length c.args.slots.now) (length c.args.slots.now) c.args.slots.now h)
-    c.home.ensures)
+    c.home-from.ensures)
 
 pub returns-else-p-slots : goal.returns-else-p-slots
 returns-else-p-slots c =
     put_past c.args.slots.now c.args.number c.args.kind c.args.value c.first_empty-p.result (omega (
       arith,
       c.ranges.number,
-      c.if1.false,
+      c.if-number-eq-MOST_WORD.false,
     ))
     (c.first_empty-p.ensures ∙ ap (λ h. first_empty (length c.args.slots.now) (length c.args.slots.now) c.args.slots.now h)
-    c.home.ensures) c.if-p-slots.false
+    c.home-from.ensures) c.if-p-slots.false
