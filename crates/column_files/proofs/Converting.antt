@@ -1,26 +1,26 @@
 -- The two converters, one law for each way through the code. Assumes nothing.
-use Prim.Native.Nat.{ℕ, zero, suc, ◌+◌, ◌-◌, ◌*◌, ◌/◌, ◌%◌, ◌≤◌, ◌<◌}
+use Prim.Native.Nat.{ℕ, ◌+◌, ◌-◌, ◌*◌, ◌/◌, ◌%◌, ◌≤◌, ◌<◌}
 use native.Mathlib.Omega.{arith}
-use mathlib.Core.Path.{◌≡◌, refl, sym, ap, subst, ◌∙◌}
-use mathlib.Core.Bool.{Bool, true, false, cond}
-use mathlib.Core.List.{List, [], ◌∷◌, ◌++◌, append_assoc, append-nil}
-use lib.ListN.{length, take, drop, get_or, replicate, length-append, length-drop, length-set}
-use lib.Seq.{drop-drop, get_or-drop, take_at, take_all}
-use lib.Dec.{eqb, leb, ltb}
+use mathlib.Core.Path.{◌≡◌, refl, sym, ap, ◌∙◌}
+use mathlib.Core.Bool.{Bool, true, false}
+use mathlib.Core.List.{List, ◌++◌, append-nil}
+use lib.ListN.{length, take, drop, get_or, replicate}
+use lib.Seq.{get_or-drop, take_at}
+use lib.Dec.{eqb, leb}
 use borrow.Author.Tests.{eq-eqb, ne_eqb, le-leb, lt-leb}
 use borrow.Rule.Slice.PartMut.{mid_of, put_mid, Post-is, mid_len}
-use Rattle.words.specs.Areas.{Written, write_entry, set_entry, cleared_from}
+use Rattle.words.specs.Areas.{Written, cleared_from}
 use Rattle.tree.specs.Check.{shape_of}
 use Rattle.tree.specs.declared.Shape.{Shape}
 use Rattle.tree.specs.declared.Shape.TheVariants.{Fine, Refused}
 use Rattle.column_lines.specs.Form.{line_length}
 use Rattle.column_lines.specs.Line.{read_line, record_line, LineWrote}
 use Rattle.column_lines.specs.declared.line.Line.{Line}
-use Rattle.column_lines.specs.declared.line.Line.TheVariants.{Record, Bad}
+use Rattle.column_lines.specs.declared.line.Line.TheVariants.{Bad}
 use Rattle.column_lines.proofs.Lines.{Begun, begun_more, line_size_lem}
 use Rattle.column_files.specs.declared.Converted.{Converted}
 use Rattle.column_files.specs.Files.{lines_in, words_in, words_by, words_of, bad_by, first_bad, lines_by, columns_of, Lent, LinesRead}
-use Rattle.column_files.specs.Convert.{Conversion, refusal, success, refuse, short_reply, answer_by, columns_to_records, records_to_columns, Converts}
+use Rattle.column_files.specs.Convert.{refusal, success, short_reply, answer_by, columns_to_records, records_to_columns, Converts}
 use Rattle.column_files.proofs.Files.{line_of, words_in_lem, words_length, words_more, lines_more, lines_length, bad_here, bad_none, bad_rest}
 
 pub short_refused : (s : Shape) {r p : ℕ} → s ≡ Refused r p → refusal r p ≡ short_reply s

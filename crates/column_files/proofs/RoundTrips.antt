@@ -1,15 +1,15 @@
 -- The round trips. Words that pass rows 2 to 4 come back from their column file as they were (`records_come_back`), and a file that passes row 1 comes
 -- back from its words byte for byte (`file_comes_back`); `records_round_trip` and `file_round_trip` say it of the converters. Assumes nothing.
-use Prim.Native.Nat.{ℕ, zero, suc, ◌+◌, ◌-◌, ◌*◌, ◌/◌, ◌%◌, ◌≤◌, ◌<◌}
+use Prim.Native.Nat.{ℕ, zero, suc, ◌+◌, ◌-◌, ◌*◌, ◌/◌, ◌≤◌, ◌<◌}
 use native.Mathlib.Omega.{arith}
 use native.Mathlib.Decide.{dec_lt, ℕ_discrete}
 use mathlib.Core.Path.{◌≡◌, refl, sym, ap, subst, ◌∙◌}
-use mathlib.Core.Bool.{Bool, true, false, cond, ◌&&◌}
-use mathlib.Core.List.{List, [], ◌∷◌, ◌++◌, append_assoc, append-nil}
+use mathlib.Core.Bool.{Bool, true, false, cond}
+use mathlib.Core.List.{List, [], ◌∷◌, ◌++◌}
 use lib.ListN.{length, take, drop, get_or, replicate, length-drop, take-append-drop}
-use lib.Seq.{take_at, drop_at, drop-drop, get_or-drop, drop-cons}
-use lib.Dec.{eqb, leb, ltb}
-use borrow.Author.Tests.{eq-eqb, ne_eqb, eqb-true, eqb-false, le-leb, leb-true, lt-ltb}
+use lib.Seq.{take_at, drop_at, get_or-drop, drop-cons}
+use lib.Dec.{eqb, leb}
+use borrow.Author.Tests.{eq-eqb, eqb-true, le-leb, leb-true}
 use Rattle.words.specs.Record.{field_of, kind_at, span_at, position_at, value_at, most_records, in_place}
 use Rattle.words.proofs.Positions.{in_place_lem}
 use Rattle.tree.specs.Rules.{Rule, rules, rule_of, unused, anything, may_be_at, may_stand, slot_after, first_slot, in_range}
@@ -27,8 +27,8 @@ use Rattle.column_lines.specs.declared.line.Line.{Line}
 use Rattle.column_lines.specs.declared.line.Line.TheVariants.{Record, Bad}
 use Rattle.column_lines.proofs.Lines.{line_size_lem}
 use Rattle.column_lines.proofs.Again.{line_again, line_read}
-use Rattle.column_files.specs.Files.{lines_in, words_in, words_by, words_of, good_then, bad_by, first_bad, lines_by, columns_of}
-use Rattle.column_files.specs.Convert.{Conversion, success, answer_by, columns_to_records, records_to_columns}
+use Rattle.column_files.specs.Files.{lines_in, words_by, words_of, good_then, bad_by, first_bad, lines_by, columns_of}
+use Rattle.column_files.specs.Convert.{success, answer_by, columns_to_records, records_to_columns}
 use Rattle.column_files.proofs.Files.{words_length, lines_length}
 
 -- a record whose words fit their columns

@@ -1,20 +1,20 @@
 -- A line comes back: a line that spells a record is that record's line (`line_again`), and a record's line spells it, if its numbers fit their fields
 -- (`line_read`). Assumes nothing.
-use Prim.Native.Nat.{ℕ, zero, suc, ◌+◌, ◌-◌, ◌*◌, ◌/◌, ◌%◌, ◌^◌, ◌≤◌, ◌<◌}
+use Prim.Native.Nat.{ℕ, zero, suc, ◌+◌, ◌-◌, ◌/◌, ◌%◌, ◌^◌, ◌≤◌, ◌<◌}
 use native.Mathlib.Nat.{pow-suc}
 use native.Mathlib.Omega.{arith}
 use mathlib.Core.Path.{◌≡◌, refl, sym, ap, subst, ◌∙◌}
-use mathlib.Core.Bool.{Bool, true, false, not, cond, ◌&&◌}
-use mathlib.Core.List.{List, [], ◌∷◌, ◌++◌, append_assoc}
-use lib.ListN.{length, take, drop, get_or, length-append, length-drop, take-append-drop, drop_of_length-le}
+use mathlib.Core.Bool.{Bool, true, false, cond, ◌&&◌}
+use mathlib.Core.List.{List, [], ◌∷◌, ◌++◌}
+use lib.ListN.{length, take, drop, get_or, length-drop, take-append-drop, drop_of_length-le}
 use lib.Seq.{take_at, drop-drop, drop-append-add, drop-cons, length-take-le, get_or-append-add}
-use lib.Dec.{eqb, leb, ltb}
-use borrow.Author.Tests.{eq-eqb, ne_eqb, eqb-true, eqb-false, lt-ltb, ltb-true, le-leb, lt-leb, leb-true, leb-false}
+use lib.Dec.{eqb}
+use borrow.Author.Tests.{eq-eqb, eqb-true, leb-true}
 use Rattle.words.specs.Record.{position_base, pack_position, line_of, column_of}
 use Rattle.column_lines.specs.Form.{kind_width, span_width, line_width, column_width, value_width, span_place, line_place, column_place, value_place}
 use Rattle.column_lines.specs.Form.{newline_place, line_length, newline, signed_kind}
 use Rattle.column_lines.specs.Numeral.{word_end, least_size, negative_of, numeral, numeral_fits, read_numeral}
-use Rattle.column_lines.specs.Spelling.{magnitude_of, rest_fits, spell_fits}
+use Rattle.column_lines.specs.Spelling.{rest_fits, spell_fits}
 use Rattle.column_lines.specs.Line.{field_in, signed_is, position_in, record_in, kind_in, span_in, place_in, value_in, whole_line, read_line, record_line}
 use Rattle.column_lines.specs.declared.number.Number.{Number}
 use Rattle.column_lines.specs.declared.number.Number.TheVariants.{Word, Off}

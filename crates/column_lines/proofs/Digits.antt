@@ -1,12 +1,12 @@
 -- A number in base ten, right-justified, and its spelling from the last digit on are the same bytes (`numeral_spelled`), and fit in the same fields
 -- (`fits_spelled`). Assumes nothing.
-use Prim.Native.Nat.{ℕ, zero, suc, ◌+◌, ◌-◌, ◌/◌, ◌%◌, ◌≤◌, ◌<◌}
+use Prim.Native.Nat.{ℕ, zero, suc, ◌+◌, ◌-◌, ◌/◌, ◌≤◌, ◌<◌}
 use native.Mathlib.Omega.{arith}
 use mathlib.Core.Path.{◌≡◌, refl, sym, ap, ◌∙◌}
-use mathlib.Core.Bool.{Bool, true, false, not, cond, ◌&&◌}
+use mathlib.Core.Bool.{Bool, true, false, cond}
 use mathlib.Core.List.{List, [], ◌∷◌, ◌++◌, append_assoc, append-nil}
 use lib.ListN.{length, drop, replicate, length-append, drop_of_length-le}
-use lib.Dec.{leb, ltb, eqb}
+use lib.Dec.{leb, ltb}
 use borrow.Author.Tests.{eq-eqb, ne_eqb, lt-ltb, ltb-true, ltb-false, le-leb, lt-leb, leb-true, leb-false}
 use Rattle.column_lines.specs.Numeral.{blank, minus_sign, digit_of, word_end, negative_of, digits_by, digits, written, right_justified, numeral, numeral_fits}
 use Rattle.column_lines.specs.Spelling.{magnitude_of, lead_of, rest_of, spelled, lead_fits, rest_fits, spell_fits}

@@ -10,6 +10,7 @@ use lib.Dec.{T, ltb, leb}
 use borrow.Author.Tests.{le-ltb, le-leb, lt-leb, leb-true, leb-false, ltb-true, ltb-false}
 use mir.Syntax.{w64}
 use mir.Val.{Fits, SFits, of_z, to_z}
+use mir.Facts.{of_z-to_z}
 use mir.ValLaws.{to_z-of_z, to_z_pos, to_z-neg}
 use Rattle.words.specs.Constants.{word_of_integer, integer_of_word}
 use Rattle.column_lines.specs.Numeral.{least_size}
@@ -166,31 +167,35 @@ module _ (n : ℤ) (f : SFits w64 n) (p : n ≡ neg (nat_abs n)) (d : ℕ) (h : 
       let b = below_tenth (nat_abs n) (seen e) in
       sym (lt-leb (nat_abs n * 10 + d) least_size (omega arith))
 
--- a local of the machine that holds a number negated
+-- a number that is held negated
 
-abbrev pub size_held : ℕ → ℕ
-size_held n = nat_abs (to_z w64 n)
+-- a result, as the machine holds it
+abbrev pub kept : ℤ → ℤ
+kept z = to_z w64 (of_z w64 z)
 
-pub record Held (n : ℕ) : Type 0 where
-  pub bits : n ≡ of_z w64 (neg (size_held n))
+pub kept_is : (z : ℤ) (m : ℕ) → z ≡ neg m → m ≤ least_size → kept z ≡ neg m
+kept_is z m e l = held z e (neg_fits m l)
+
+abbrev pub size_held : ℤ → ℕ
+size_held n = nat_abs n
+
+pub record Held (n : ℤ) : Type 0 where
+  pub bits : n ≡ neg (size_held n)
   pub small : size_held n ≤ least_size
 
-pub held_is : (n : ℕ) → Held n → to_z w64 n ≡ neg (size_held n)
-held_is n h = ap (to_z w64) h.bits ∙ back (neg_fits (size_held n) h.small)
+pub size_of : (z : ℤ) (m : ℕ) → z ≡ neg m → m ≤ least_size → size_held (kept z) ≡ m
+size_of z m e l = ap nat_abs (kept_is z m e l) ∙ neg_abs m
 
-pub size_of : (z : ℤ) (m : ℕ) → z ≡ neg m → m ≤ least_size → size_held (of_z w64 z) ≡ m
-size_of z m e l = ap nat_abs (held z e (neg_fits m l)) ∙ neg_abs m
-
-pub held_of : (z : ℤ) (m : ℕ) → z ≡ neg m → m ≤ least_size → Held (of_z w64 z)
+pub held_of : (z : ℤ) (m : ℕ) → z ≡ neg m → m ≤ least_size → Held (kept z)
 held_of z m e l =
-    let x : size_held (of_z w64 z) ≡ m = size_of z m e l in
-    record { bits = ap (of_z w64) (e ∙ ap neg (sym x)); small = omega arith }
+    let x : size_held (kept z) ≡ m = size_of z m e l in
+    record { bits = kept_is z m e l ∙ ap neg (sym x); small = omega arith }
 
-pub held_zero : (n : ℕ) → Held n → size_held n ≡ 0 → n ≡ 0
-held_zero n h e = h.bits ∙ ap (λ (m : ℕ). of_z w64 (neg m)) e
+pub held_zero : (b : ℕ) → Fits w64 b → Held (to_z w64 b) → size_held (to_z w64 b) ≡ 0 → b ≡ 0
+held_zero b f h e = sym (of_z-to_z f) ∙ ap (of_z w64) (h.bits ∙ ap neg e)
 
-pub held_word : (n : ℕ) → Held n → 0 < size_held n → of_z w64 (to_z w64 n) ≡ 18446744073709551616 - size_held n
-held_word n h l = ap (of_z w64) (held_is n h) ∙ neg_bits (size_held n) l
+pub held_word : (n : ℤ) → Held n → 0 < size_held n → of_z w64 n ≡ 18446744073709551616 - size_held n
+held_word n h l = ap (of_z w64) h.bits ∙ neg_bits (size_held n) l
 
 -- the integer of a negative word
 

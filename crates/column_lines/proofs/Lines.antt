@@ -1,23 +1,22 @@
 -- A line of a column file: what reading it gives, one law for each way through the code, and what writing its fields one after the other leaves.
 -- Assumes nothing.
-use Prim.Native.Nat.{ℕ, zero, suc, ◌+◌, ◌-◌, ◌*◌, ◌/◌, ◌≤◌, ◌<◌}
+use Prim.Native.Nat.{ℕ, suc, ◌+◌, ◌-◌, ◌≤◌, ◌<◌}
 use native.Mathlib.Omega.{arith}
-use mathlib.Core.Path.{◌≡◌, refl, sym, ap, subst, ◌∙◌}
-use mathlib.Core.Bool.{Bool, true, false, cond, ◌&&◌}
+use mathlib.Core.Path.{◌≡◌, refl, sym, ap, ◌∙◌}
+use mathlib.Core.Bool.{Bool, true, false}
 use mathlib.Core.List.{List, [], ◌∷◌, ◌++◌, append_assoc}
 use lib.ListN.{length, take, drop, get_or, set, replicate, length-append, length-replicate, length-drop, length-set, drop_of_length-le}
-use lib.Seq.{take_at, drop_at, drop-drop, drop-append-add, set_at, drop-cons}
+use lib.Seq.{take_at, drop-drop, drop-append-add, set_at, drop-cons}
 use lib.Dec.{eqb}
 use borrow.Author.Tests.{eq-eqb, ne_eqb}
 use Rattle.words.specs.Record.{pack_position, line_of, column_of}
 use Rattle.column_lines.specs.Form.{kind_width, span_width, line_width, column_width, value_width, span_place, line_place, column_place, value_place}
 use Rattle.column_lines.specs.Form.{newline_place, line_length, newline, signed_kind}
 use Rattle.column_lines.specs.Numeral.{blank, written, right_justified, numeral, Wrote}
-use Rattle.column_lines.specs.Line.{signed_is, position_in, record_in, kind_in, span_in, place_in, value_in, whole_line, read_line, record_line, LineWrote}
+use Rattle.column_lines.specs.Line.{signed_is, position_in, record_in, kind_in, span_in, place_in, value_in, read_line, record_line, LineWrote}
 use borrow.Rule.Slice.PartMut.{mid_of, put_mid, Post-is, mid_len}
 use Rattle.column_lines.specs.declared.number.Number.{Number}
 use Rattle.column_lines.specs.declared.number.Number.TheVariants.{Word, Off}
-use Rattle.column_lines.specs.declared.line.Line.{Line}
 use Rattle.column_lines.specs.declared.line.Line.TheVariants.{Record, Bad}
 
 -- positions

@@ -1,14 +1,13 @@
 -- Writing a number into a field from its last digit on: one law for each way through the code, over sign and width. Assumes nothing.
 use Prim.Native.Nat.{ℕ, zero, suc, ◌+◌, ◌-◌, ◌/◌, ◌%◌, ◌≤◌, ◌<◌}
-use native.Mathlib.Numerals.{add-one}
 use native.Mathlib.Omega.{arith}
-use mathlib.Core.Path.{◌≡◌, refl, sym, ap, subst, ◌∙◌}
-use mathlib.Core.Bool.{Bool, true, false, not, cond, ◌&&◌}
-use mathlib.Core.List.{List, [], ◌∷◌, ◌++◌, append_assoc}
+use mathlib.Core.Path.{◌≡◌, refl, sym, ap, ◌∙◌}
+use mathlib.Core.Bool.{Bool, true, false, not}
+use mathlib.Core.List.{List, [], ◌∷◌, ◌++◌}
 use lib.ListN.{length, take, drop, set, replicate, length-set, drop_of_length-le}
 use lib.Seq.{set_split, drop_at, length-take-le, append_snoc}
 use lib.Dec.{leb, eqb}
-use borrow.Author.Tests.{eq-eqb, ne_eqb, le-leb, leb-true}
+use borrow.Author.Tests.{ne_eqb, leb-true}
 use Rattle.column_lines.specs.Numeral.{digit_of, least_size, word_end, negative_of, Wrote}
 use Rattle.column_lines.specs.Spelling.{magnitude_of, lead_of, rest_of, spelled, lead_fits, rest_fits, spell_fits, Spelt, Led}
 use Rattle.column_lines.proofs.Digits.{rest_lead, rest_lead_fits, numeral_spelled, fits_spelled}

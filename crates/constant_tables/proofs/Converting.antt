@@ -1,22 +1,22 @@
 -- The two ways, one law for each way through the code. Assumes nothing.
-use Prim.Native.Nat.{ℕ, zero, suc, ◌+◌, ◌-◌, ◌*◌, ◌/◌, ◌%◌, ◌≤◌, ◌<◌}
+use Prim.Native.Nat.{ℕ, suc, ◌+◌, ◌-◌, ◌*◌, ◌/◌, ◌%◌, ◌≤◌, ◌<◌}
 use native.Mathlib.Omega.{arith}
 use mathlib.Core.Path.{◌≡◌, refl, sym, ap, subst, ◌∙◌}
-use mathlib.Core.Bool.{Bool, true, false, not, cond, ◌&&◌, ◌||◌}
+use mathlib.Core.Bool.{Bool, true, false, not, cond, ◌&&◌}
 use mathlib.Core.List.{List, [], ◌∷◌, ◌++◌, append_assoc, append-nil}
-use lib.ListN.{length, take, drop, get_or, replicate, length-append, length-drop, length-take, take-append-drop}
+use lib.ListN.{length, take, drop, replicate, length-drop, length-take, take-append-drop}
 use lib.Seq.{take_at, length-take-le}
 use lib.Dec.{eqb, leb, ltb}
 use borrow.Author.Tests.{eq-eqb, ne_eqb, le-leb, lt-leb, lt-ltb, le-ltb, not-true, not-false}
 use borrow.Rule.Slice.PartMut.{mid_of, put_mid, Post-is, mid_len}
 use Rattle.words.specs.Areas.{Written, cleared_from}
-use Rattle.words.specs.Record.{field_of, kind_at, span_at, position_at, value_at, most_records}
+use Rattle.words.specs.Record.{kind_at, span_at, position_at, value_at, most_records}
 use Rattle.tree.specs.Check.{shape_of, records_of}
 use Rattle.tree.specs.declared.Shape.{Shape}
 use Rattle.tree.specs.declared.Shape.TheVariants.{Fine, Refused}
 use Rattle.column_lines.proofs.Lines.{Begun, begun_more}
 use Rattle.column_files.specs.declared.Converted.{Converted}
-use Rattle.column_files.specs.Convert.{Conversion, Converts, refusal, success, answer_by}
+use Rattle.column_files.specs.Convert.{Converts, refusal, success, answer_by}
 use Rattle.column_files.proofs.Converting.{short_fine, answer_short, answer_done, cleared_all, cleared_rest}
 use Rattle.constant_tables.specs.Form.{table_line_length, local_definition_kind, integer_kind, float_kind, name_kind, document_kind}
 use Rattle.constant_tables.specs.Entry.{Entry, entry, is_text, read_entry, entry_line, table_bytes, record_kind, table_kind, definition_of, definitions_of}
@@ -24,14 +24,14 @@ use Rattle.constant_tables.specs.Entry.{table_records}
 use Rattle.constant_tables.specs.Table.{first_where, list_from, count_in, line_count, table_line, is_bad, bad_at, first_off, entry_in, line_entry, entries_of}
 use Rattle.constant_tables.specs.Table.{head_is, in_definition, agrees_at, not_table, entry_at, definition_count, entries_in}
 use Rattle.constant_tables.specs.Table.{DefinitionPut, DefinitionsPut, ConstantPut}
-use Rattle.constant_tables.specs.Convert.{table_rows, table_to_records, row_ten, document_rows, TableConversion, no_table, tabled, table_by}
+use Rattle.constant_tables.specs.Convert.{table_rows, table_to_records, row_ten, document_rows, no_table, tabled, table_by}
 use Rattle.constant_tables.specs.Convert.{records_to_table, Tables}
 use Rattle.constant_tables.specs.declared.Tabled.{Tabled}
 use Rattle.constant_tables.specs.declared.line.TableLine.{TableLine}
 use Rattle.constant_tables.specs.declared.line.TableLine.TheVariants.{Constant, Bad}
 use Rattle.constant_tables.proofs.TableLines.{line_length_lem, entry_length}
 use Rattle.constant_tables.proofs.Search.{first_start, first_end, first_here, first_next, list_length, list_more}
-use Rattle.constant_tables.proofs.Lists.{bytes_length, bytes_more, definitions_length, definitions_more, head_of, table_length}
+use Rattle.constant_tables.proofs.Lists.{bytes_length, bytes_more, definitions_more, head_of, table_length}
 
 -- lines
 

@@ -1,30 +1,29 @@
 -- Row 10's place is 'the index of the first record up to which no table agrees' (`first_disagreement`): no table's records are the given ones up to it, and
 -- for every smaller index some table's are. Assumes nothing.
-use Prim.Native.Nat.{ℕ, zero, suc, ◌+◌, ◌-◌, ◌*◌, ◌/◌, ◌%◌, ◌≤◌, ◌<◌}
+use Prim.Native.Nat.{ℕ, zero, suc, ◌+◌, ◌*◌, ◌/◌, ◌%◌, ◌≤◌, ◌<◌}
 use native.Mathlib.Omega.{arith}
-use native.Mathlib.Decide.{dec_lt}
 use mathlib.Core.Path.{◌≡◌, refl, sym, ap, subst, ◌∙◌}
-use mathlib.Core.Bool.{Bool, true, false, not, cond, ◌&&◌, ◌||◌}
-use mathlib.Core.List.{List, [], ◌∷◌, ◌++◌}
+use mathlib.Core.Bool.{Bool, true, false, not, cond}
+use mathlib.Core.List.{List}
 use lib.ListN.{length, take, get_or, length-take}
-use lib.Seq.{get_or-take, length-take-le, take_all}
+use lib.Seq.{get_or-take, length-take-le}
 use lib.Dec.{eqb, ltb}
-use borrow.Author.Tests.{ltb-true, ltb-false, lt-ltb, not-true, not-false}
-use Rattle.words.specs.Record.{field_of, kind_at, span_at, position_at, value_at, most_records}
+use borrow.Author.Tests.{ltb-true, lt-ltb, not-true, not-false}
+use Rattle.words.specs.Record.{field_of, kind_at, span_at, value_at}
 use Rattle.tree.specs.Check.{shape_of, records_of}
-use Rattle.tree.specs.declared.Shape.TheVariants.{Fine, Refused}
+use Rattle.tree.specs.declared.Shape.TheVariants.{Fine}
 use Rattle.column_lines.specs.Numeral.{word_end}
 use Rattle.constant_tables.specs.Form.{local_definition_kind, integer_kind, float_kind, name_kind}
 use Rattle.constant_tables.specs.Entry.{Entry, entry, is_text, table_bytes, record_kind, table_kind, table_records}
-use Rattle.constant_tables.specs.Table.{list_from, line_count, head_is, in_definition, agrees_at, not_table, entries_of}
+use Rattle.constant_tables.specs.Table.{list_from, head_is, in_definition, agrees_at, not_table, entries_of}
 use Rattle.constant_tables.specs.Convert.{table_rows}
 use Rattle.constant_tables.proofs.TableLines.{Text, text_parts, text_yes, Good}
-use Rattle.constant_tables.proofs.Search.{first_least, first_holds, first_bound, list_length, list_get}
+use Rattle.constant_tables.proofs.Search.{first_least, first_holds, list_length, list_get}
 use Rattle.constant_tables.proofs.Lists.{no_entry, table_length}
 use Rattle.constant_tables.proofs.Converting.{differs}
 use Rattle.constant_tables.proofs.Documents.{ValueKind, Document, fine_document, name_text, value_bits, agreed, agreed_inside, agreed_span}
 use Rattle.constant_tables.proofs.Documents.{definition_parts, name_parts, value_parts, tabular_agrees, table_tabular}
-use Rattle.constant_tables.proofs.RoundTrips.{Passes, rows_passed, passed_rows, entries_good, table_lines, table_entries, table_count}
+use Rattle.constant_tables.proofs.RoundTrips.{rows_passed, passed_rows, entries_good, table_lines, table_entries, table_count}
 use Rattle.constant_tables.proofs.RoundTrips.{Same, same_words, same_document, same_definition, same_name, same_value, value_kind_back, table_kind_is}
 
 -- no table agrees up to there

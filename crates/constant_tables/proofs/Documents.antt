@@ -4,27 +4,25 @@ use Prim.Native.Nat.{ℕ, zero, suc, ◌+◌, ◌-◌, ◌*◌, ◌/◌, ◌%◌
 use native.Mathlib.Omega.{arith}
 use native.Mathlib.Decide.{dec_lt, ℕ_discrete}
 use mathlib.Core.Path.{◌≡◌, refl, sym, ap, subst, ◌∙◌}
-use mathlib.Core.Bool.{Bool, true, false, not, cond, ◌&&◌, ◌||◌}
-use mathlib.Core.List.{List, [], ◌∷◌, ◌++◌}
+use mathlib.Core.Bool.{Bool, true, false, ◌||◌}
+use mathlib.Core.List.{List}
 use lib.ListN.{length, get_or}
 use lib.Dec.{eqb, leb, ltb}
-use borrow.Author.Tests.{eq-eqb, ne_eqb, eqb-true, le-leb, leb-true, lt-ltb, ltb-true, not-true, not-false}
+use borrow.Author.Tests.{eq-eqb, ne_eqb, eqb-true, le-leb, leb-true, lt-ltb, ltb-true, not-false}
 use Rattle.words.specs.Record.{field_of, kind_at, span_at, position_at, value_at, most_records, most_levels, most_text, in_place}
 use Rattle.tree.specs.Rules.{anywhere, may_stand, slot_after, is_due, first_slot, may_be_at, in_range, goes_on}
-use Rattle.tree.specs.Check.{within_of, lacks_of, same_this, this_after, sound_at, head_at, walk_of, shape_of, shape_by, records_of}
-use Rattle.tree.specs.declared.Shape.{Shape}
+use Rattle.tree.specs.Check.{within_of, lacks_of, same_this, this_after, sound_at, head_at, walk_of, shape_of, records_of}
 use Rattle.tree.specs.declared.Shape.TheVariants.{Fine, Refused}
-use Rattle.tree.specs.declared.Outcome.{Outcome}
-use Rattle.tree.specs.declared.Outcome.TheVariants.{Went, Fault}
+use Rattle.tree.specs.declared.Outcome.TheVariants.{Went}
 use Rattle.tree.proofs.Spans.{and_left, and_right, within_true}
 use Rattle.tree.proofs.Walks.{lacks_done, lacks_stop, lacks_on, head_went, walk_done, walk_on, walk_next}
 use Rattle.tree.proofs.Ways.{shape_walked, shape_none}
 use Rattle.tree.proofs.Children.{then_went, sound_parts, only_one}
 use Rattle.tree.proofs.Bundle.{fine_passed, fine_spells}
 use Rattle.column_lines.specs.Numeral.{word_end}
-use Rattle.constant_tables.specs.Form.{table_integer, table_float, document_kind, local_definition_kind, integer_kind, float_kind, name_kind}
-use Rattle.constant_tables.specs.Entry.{Entry, record_kind, table_kind, definition_of, table_records}
-use Rattle.constant_tables.specs.Table.{first_where, head_is, in_definition, agrees_at, not_table, definition_count}
+use Rattle.constant_tables.specs.Form.{document_kind, local_definition_kind, integer_kind, float_kind, name_kind}
+use Rattle.constant_tables.specs.Entry.{Entry, record_kind, definition_of, table_records}
+use Rattle.constant_tables.specs.Table.{head_is, in_definition, agrees_at, not_table, definition_count}
 use Rattle.constant_tables.proofs.TableLines.{Text, TableKind, is_integer, is_float, Good}
 use Rattle.constant_tables.proofs.Search.{first_least}
 use Rattle.constant_tables.proofs.Lists.{no_entry, table_word, table_length}

@@ -4,28 +4,28 @@ use Prim.Native.Nat.{ℕ, zero, suc, ◌+◌, ◌-◌, ◌*◌, ◌/◌, ◌%◌
 use native.Mathlib.Omega.{arith}
 use mathlib.Core.Path.{◌≡◌, refl, sym, ap, subst, ◌∙◌}
 use mathlib.Core.Bool.{Bool, true, false, not, cond}
-use mathlib.Core.List.{List, [], ◌∷◌, ◌++◌}
-use lib.ListN.{length, take, drop, get_or, replicate, length-drop, take-append-drop, drop_of_length-le}
+use mathlib.Core.List.{List, ◌++◌}
+use lib.ListN.{length, take, drop, get_or, replicate, take-append-drop, drop_of_length-le}
 use lib.Seq.{drop-drop, ext_get_or, get_or-take, length-take-le, take_all}
-use lib.Dec.{eqb, leb, ltb}
-use borrow.Author.Tests.{eq-eqb, le-leb, le-ltb, lt-ltb, leb-true, eqb-true, ltb-false, not-false}
+use lib.Dec.{eqb, ltb}
+use borrow.Author.Tests.{eq-eqb, le-leb, le-ltb, lt-ltb, eqb-true, ltb-false}
 use Rattle.words.specs.Record.{field_of, kind_at, span_at, position_at, value_at, most_records}
 use Rattle.tree.specs.Check.{shape_of, records_of}
 use Rattle.tree.specs.declared.Shape.{Shape}
 use Rattle.tree.specs.declared.Shape.TheVariants.{Fine, Refused}
-use Rattle.column_files.specs.Convert.{Conversion, answer_by, success}
-use Rattle.constant_tables.specs.Form.{table_line_length, table_integer, table_float, integer_kind, float_kind}
-use Rattle.constant_tables.specs.Entry.{Entry, entry, is_text, read_entry, entry_line, table_bytes, record_kind, table_kind, definition_of, table_records}
-use Rattle.constant_tables.specs.Table.{first_where, list_from, count_in, line_count, table_line, is_bad, bad_at, first_off, entry_in, line_entry, entries_of}
-use Rattle.constant_tables.specs.Table.{agrees_at, not_table, entry_at, definition_count, entries_in}
+use Rattle.column_files.specs.Convert.{answer_by, success}
+use Rattle.constant_tables.specs.Form.{table_line_length, table_integer, table_float, integer_kind}
+use Rattle.constant_tables.specs.Entry.{Entry, is_text, read_entry, entry_line, table_bytes, record_kind, table_kind, table_records}
+use Rattle.constant_tables.specs.Table.{list_from, count_in, line_count, table_line, is_bad, bad_at, first_off, entry_in, line_entry, entries_of}
+use Rattle.constant_tables.specs.Table.{not_table, entry_at, definition_count, entries_in}
 use Rattle.constant_tables.specs.Convert.{table_rows, table_to_records, row_ten, document_rows, tabled, table_by, records_to_table}
 use Rattle.constant_tables.specs.declared.line.TableLine.{TableLine}
 use Rattle.constant_tables.specs.declared.line.TableLine.TheVariants.{Constant, Bad}
 use Rattle.constant_tables.proofs.TableLines.{Text, text_parts, text_yes, TableKind, is_integer, is_float, Good, spells, line_again, entry_read}
-use Rattle.constant_tables.proofs.Search.{first_least, first_none, first_bound, list_length, list_get, list_is}
+use Rattle.constant_tables.proofs.Search.{first_least, first_none, list_length, list_get, list_is}
 use Rattle.constant_tables.proofs.Lists.{no_entry, bytes_length, bytes_line, table_word, table_length}
 use Rattle.constant_tables.proofs.Converting.{differs}
-use Rattle.constant_tables.proofs.Documents.{ValueKind, integer_value, float_value, Definition, Tabular, tabular_fine, tabular_agrees, Document}
+use Rattle.constant_tables.proofs.Documents.{ValueKind, integer_value, float_value, Definition, Tabular, tabular_fine, tabular_agrees}
 use Rattle.constant_tables.proofs.Documents.{fine_document, fine_tabular, table_tabular}
 
 -- what passes rows 1 to 3

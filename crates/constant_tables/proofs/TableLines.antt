@@ -1,6 +1,6 @@
 -- A line of a constant table: what reading it gives, one law for each way through the code; what writing its columns leaves; and that a line comes back
 -- from its entry (`line_again`) and an entry from its line (`entry_read`). Assumes nothing.
-use Prim.Native.Nat.{ℕ, zero, suc, ◌+◌, ◌-◌, ◌*◌, ◌/◌, ◌%◌, ◌^◌, ◌≤◌, ◌<◌}
+use Prim.Native.Nat.{ℕ, ◌+◌, ◌≤◌, ◌<◌}
 use native.Mathlib.Omega.{arith}
 use mathlib.Core.Path.{◌≡◌, refl, sym, ap, subst, ◌∙◌}
 use mathlib.Core.Bool.{Bool, true, false, not, cond, ◌&&◌, ◌||◌}
@@ -8,10 +8,10 @@ use mathlib.Core.List.{List, [], ◌∷◌, ◌++◌, append_assoc}
 use lib.ListN.{length, take, drop, get_or, set, length-append, length-drop, length-set, take-append-drop, drop_of_length-le}
 use lib.Seq.{take_at, drop-drop, drop-append-add, drop-cons, length-take-le, get_or-append-add}
 use lib.Dec.{eqb, leb}
-use borrow.Author.Tests.{eq-eqb, ne_eqb, eqb-true, eqb-false, le-leb, lt-leb, leb-true, not-true, not-false}
+use borrow.Author.Tests.{eq-eqb, ne_eqb, eqb-true, le-leb, lt-leb, leb-true, not-true, not-false}
 use Rattle.words.specs.Record.{most_text}
 use Rattle.column_lines.specs.Form.{newline}
-use Rattle.column_lines.specs.Numeral.{word_end, numeral, numeral_fits, read_numeral}
+use Rattle.column_lines.specs.Numeral.{word_end, numeral, read_numeral}
 use Rattle.column_lines.specs.Line.{field_in}
 use Rattle.column_lines.specs.declared.number.Number.{Number}
 use Rattle.column_lines.specs.declared.number.Number.TheVariants.{Word, Off}

@@ -1,10 +1,9 @@
 -- Facts by computing: a line, a ring, which kinds are known and which hold texts, escapes, texts that are lacking, the rows. Assumes nothing.
 use Prim.Native.Nat.{ℕ, zero, suc}
 use mathlib.Core.Path.{◌≡◌, refl}
-use mathlib.Core.Bool.{Bool, true, false, cond}
-use mathlib.Core.Option.{Option, none, some}
+use mathlib.Core.Bool.{Bool, true, cond}
+use mathlib.Core.Option.{none, some}
 use mathlib.Core.List.{List, [], ◌∷◌, ◌++◌}
-use lib.ListN.{length, replicate}
 use Rattle.words.specs.Record.{pack_position, in_place}
 use Rattle.tree.specs.Rules.{in_range, may_be_at}
 use Rattle.column_lines.specs.Numeral.{digits_by, written, right_justified}

@@ -1,28 +1,27 @@
 -- Theorem `lines_injective` (2026-10: 'Over one text table whose texts all differ, equal lines delivered come from equal error lists'), whatever the callers'
 -- files were: a line gives its error back, field by field. Assumes nothing.
-use Prim.Native.Nat.{ℕ, zero, suc, ◌+◌, ◌-◌, ◌*◌, ◌/◌, ◌%◌, ◌≤◌, ◌<◌}
+use Prim.Native.Nat.{ℕ, zero, suc, ◌+◌, ◌-◌, ◌*◌, ◌/◌, ◌≤◌, ◌<◌}
 use native.Mathlib.Omega.{arith}
 use native.Mathlib.Decide.{dec_lt, ℕ_discrete}
 use mathlib.Core.Path.{◌≡◌, refl, sym, ap, subst, ◌∙◌}
-use mathlib.Core.Bool.{Bool, true, false, cond, not, ◌&&◌}
+use mathlib.Core.Bool.{Bool, true, false, cond, ◌&&◌}
 use mathlib.Core.Option.{Option, none, some}
 use mathlib.Core.List.{List, [], ◌∷◌, ◌++◌, append_assoc}
-use lib.ListN.{length, take, get_or, replicate}
+use lib.ListN.{length, get_or, replicate}
 use lib.Seq.{take-append_seam}
 use lib.Dec.{eqb, leb}
-use borrow.Author.Tests.{eq-eqb, ne_eqb, eqb-true, eqb-false, leb-true, not-true}
-use Rattle.words.specs.Record.{position_base, most_text, line_of, column_of}
+use borrow.Author.Tests.{eq-eqb, ne_eqb, eqb-true, leb-true}
+use Rattle.words.specs.Record.{most_text, line_of, column_of}
 use Rattle.column_lines.specs.Numeral.{word_end}
 use Rattle.column_lines.specs.Form.{signed_kind}
-use Rattle.column_files.specs.Convert.{Conversion}
 use Rattle.definition.specs.Compiler.{Error}
-use Rattle.error_lines.specs.Known.{known, known_ring, known_other, is_text, holds_text, is_ring}
+use Rattle.error_lines.specs.Known.{known, known_ring, known_other, holds_text}
 use Rattle.error_lines.specs.Messages.{messages, message}
 use Rattle.error_lines.specs.Texts.{plain, text_field, TextsDiffer}
 use Rattle.error_lines.specs.Lines.{error_at, is_zeros, errors_from, errors_in, file_of, shown_value, value_field, error_line, lines_of}
-use Rattle.error_lines.specs.Words.{first_unknown, delivered, in_words_by, in_words, written, AllBelow}
+use Rattle.error_lines.specs.Words.{first_unknown, delivered, in_words, written, AllBelow}
 use Rattle.error_lines.proofs.Knowing.{error}
-use Rattle.error_lines.proofs.Reading.{cons_head, cons_tail, Free, end, more, free_split, Apart, free_plain, plain_same, text_split}
+use Rattle.error_lines.proofs.Reading.{cons_tail, Free, end, more, free_split, Apart, free_plain, plain_same, text_split}
 
 apart_44 : Apart 44
 apart_44 = record { blank = λ e. omega (arith, e); minus = λ e. omega (arith, e); low = omega arith }

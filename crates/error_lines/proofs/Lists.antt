@@ -3,11 +3,11 @@ use Prim.Native.Nat.{ℕ, suc, ◌+◌, ◌-◌, ◌/◌, ◌≤◌, ◌<◌}
 use native.Mathlib.Omega.{arith}
 use mathlib.Core.Path.{◌≡◌, refl, sym, ap, ◌∙◌}
 use mathlib.Core.Bool.{Bool, true, false, cond, ◌||◌}
-use mathlib.Core.Option.{Option, none, some}
+use mathlib.Core.Option.{none, some}
 use mathlib.Core.List.{List, [], ◌∷◌, ◌++◌}
-use lib.ListN.{length, drop, get_or, drop_of_length-le}
+use lib.ListN.{length, drop, drop_of_length-le}
 use lib.Seq.{drop-cons}
-use Rattle.tree.specs.Rules.{Slot, slots, nothing, slot_of, has, may_stand}
+use Rattle.tree.specs.Rules.{slots, nothing, slot_of, has, may_stand}
 use Rattle.definition.specs.Compiler.{Error}
 use Rattle.error_lines.specs.Known.{stands_in, is_kind, known}
 use Rattle.error_lines.specs.Lines.{error_at, is_zeros, errors_from, errors_in, error_line, lines_of}

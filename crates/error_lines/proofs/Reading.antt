@@ -1,26 +1,24 @@
 -- One reading of fields: a field without a byte ends at its first, a plain number has its word, escapes are a prefix code. Assumes nothing.
-use Prim.Native.Nat.{ℕ, zero, suc, ◌+◌, ◌/◌, ◌%◌, ◌≤◌, ◌<◌}
+use Prim.Native.Nat.{ℕ, zero, suc, ◌+◌, ◌/◌, ◌≤◌, ◌<◌}
 use native.Mathlib.Omega.{arith}
 use native.Mathlib.Decide.{dec_lt, ℕ_discrete}
 use mathlib.Core.Path.{◌≡◌, refl, sym, ap, subst, ◌∙◌}
 use mathlib.Core.Logic.{◌⊎◌, inl, inr}
-use mathlib.Core.Bool.{Bool, true, false, cond, not, ◌&&◌}
+use mathlib.Core.Bool.{Bool, true, false, cond}
 use mathlib.Core.Option.{Option, none, some}
 use mathlib.Core.List.{List, [], ◌∷◌, ◌++◌, append_assoc}
 use lib.ListN.{length, take, drop, get_or, replicate, length-take, get_or-eq_default}
 use lib.Seq.{get_or-take, get_or-drop}
 use lib.Dec.{eqb, leb}
-use borrow.Author.Tests.{eq-eqb, ne_eqb, eqb-false, not-true}
-use Rattle.column_lines.specs.Numeral.{word_end, digit_of, negative_of, numeral, read_numeral, sign_from}
+use Rattle.column_lines.specs.Numeral.{word_end, digit_of, negative_of, numeral, read_numeral}
 use Rattle.column_lines.specs.Spelling.{magnitude_of, lead_of, rest_of, spelled}
-use Rattle.column_lines.specs.declared.number.Number.{Number}
-use Rattle.column_lines.specs.declared.number.Number.TheVariants.{Word, Off}
+use Rattle.column_lines.specs.declared.number.Number.TheVariants.{Word}
 use Rattle.column_lines.proofs.Digits.{numeral_spelled}
 use Rattle.column_lines.proofs.Numerals.{read_written}
 use Rattle.column_lines.proofs.Again.{value_fits}
 use Rattle.error_lines.specs.Texts.{after_blanks, plain, escape, escaped, quoted, start_of, length_of, in_table, text_at, text_field, text_field_by, TextsDiffer}
 use Rattle.error_lines.specs.Words.{AllBelow}
-use Rattle.error_lines.proofs.TextFields.{coded, escape_quotation, escape_backslash, escape_low, escape_high, escape_plain}
+use Rattle.error_lines.proofs.TextFields.{escape_quotation, escape_backslash, escape_low, escape_high, escape_plain}
 
 pub cons_head : {x y : ℕ} {xs ys : List ℕ} → ◌≡◌ {A = List ℕ} (x ∷ xs) (y ∷ ys) → x ≡ y
 cons_head e = cc e

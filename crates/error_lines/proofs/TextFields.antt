@@ -1,19 +1,17 @@
 -- Escapes, blanks, and where a text stands in the lent bytes. Assumes nothing.
-use Prim.Native.Nat.{ℕ, suc, ◌+◌, ◌-◌, ◌*◌, ◌/◌, ◌%◌, ◌≤◌, ◌<◌}
+use Prim.Native.Nat.{ℕ, ◌+◌, ◌-◌, ◌*◌, ◌/◌, ◌≤◌, ◌<◌}
 use native.Mathlib.Omega.{arith}
 use mathlib.Core.Path.{◌≡◌, refl, sym, ap, ◌∙◌}
-use mathlib.Core.Bool.{Bool, true, false, cond, ◌||◌}
+use mathlib.Core.Bool.{Bool, true, false, cond}
 use mathlib.Core.Option.{Option, none, some}
 use mathlib.Core.List.{List, [], ◌∷◌, ◌++◌}
 use lib.ListN.{length, take, drop, get_or}
-use lib.Seq.{drop-cons}
-use lib.Dec.{eqb, leb}
+use lib.Dec.{leb}
 use borrow.Author.Tests.{leb-true, le-leb, lt-leb, eq-eqb, ne_eqb}
 use Rattle.column_lines.specs.Numeral.{digit_of}
 use Rattle.error_lines.specs.Puts.{Puts}
 use Rattle.error_lines.specs.Parts.{part_at}
 use Rattle.error_lines.specs.Texts.{backslash, after_blanks, plain, escape, escaped, quoted, start_of, length_of, in_table, text_at, text_field, text_field_by}
-use Rattle.error_lines.specs.declared.texts.Part.{Part}
 use Rattle.error_lines.specs.declared.texts.Part.TheVariants.{From, Lacking}
 use Rattle.error_lines.proofs.Putting.{puts_as, bytes_more}
 

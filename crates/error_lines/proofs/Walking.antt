@@ -1,10 +1,9 @@
 -- A line, field after field, and the turns of the two loops over the list of errors. Assumes nothing.
 use Prim.Native.Nat.{ℕ, ◌+◌, ◌-◌, ◌/◌, ◌≤◌, ◌<◌}
-use native.Mathlib.Omega.{arith}
 use mathlib.Core.Path.{◌≡◌, refl, sym, ap, ◌∙◌}
 use mathlib.Core.Bool.{Bool, true, false, cond, not}
-use mathlib.Core.Option.{Option, none, some}
-use mathlib.Core.List.{List, [], ◌∷◌, ◌++◌}
+use mathlib.Core.Option.{Option}
+use mathlib.Core.List.{List, [], ◌∷◌}
 use lib.ListN.{length}
 use lib.Dec.{eqb}
 use borrow.Author.Tests.{not-true, not-false}
@@ -18,9 +17,8 @@ use Rattle.error_lines.specs.Lines.{error_at, is_zeros, errors_from, errors_in, 
 use Rattle.error_lines.specs.Words.{first_unknown}
 use Rattle.error_lines.specs.Listed.{index_by}
 use Rattle.error_lines.specs.Puts.{Puts}
-use Rattle.error_lines.specs.declared.known.Index.{Index}
 use Rattle.error_lines.specs.declared.known.Index.TheVariants.{At, Nothing}
-use Rattle.error_lines.proofs.Putting.{puts_then, puts_as, Rest, rest_begin, rest_more, rest_end}
+use Rattle.error_lines.proofs.Putting.{puts_then, puts_as, Rest, rest_more, rest_end}
 use Rattle.error_lines.proofs.Lists.{errors_zeros, errors_more, errors_end, errors_begin, unknown_none, unknown_more, unknown_here, lines_none}
 use Rattle.error_lines.proofs.Lists.{lines_more}
 

@@ -1,6 +1,6 @@
 -- Numbers and texts as a line has them (2026-10: 'numbers plain'; 'Texts come from a lent table, whose words 2n - 2 and 2n - 1 give start and length of
 -- text n in lent bytes. They stand between quotation marks')
-use Rattle.std.specs.Prelude.{ℕ, ◌+◌, ◌-◌, ◌*◌, ◌/◌, ◌%◌, ◌≡◌, Bool, false, cond, ◌&&◌, ◌||◌, List, [], ◌∷◌, ◌++◌, length, take, drop, get_or, eqb, leb}
+use Rattle.std.specs.Prelude.{ℕ, ◌+◌, ◌-◌, ◌*◌, ◌/◌, ◌≡◌, Bool, false, cond, ◌&&◌, ◌||◌, List, [], ◌∷◌, ◌++◌, length, take, drop, get_or, eqb, leb}
 use Rattle.std.proofs.Math.Option.{Option, none, some}
 use Rattle.column_lines.specs.Numeral.{blank, digit_of, numeral}
 use Rattle.column_lines.specs.Form.{value_width}

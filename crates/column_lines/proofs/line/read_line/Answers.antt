@@ -1,8 +1,6 @@
 -- `read_line` meets its contract: its length, its newline, then its fields. Assumes nothing.
-use mathlib.Core.Path.{◌≡◌, ◌∙◌}
-use Rattle.column_lines.specs.Line.{read_line}
+use mathlib.Core.Path.{◌∙◌}
 use Rattle.column_lines.proofs.Lines.{line_length_lem, line_newline, line_whole}
-use borrow.Author.Rules.{rules}
 use Rattle.column_lines.proofs.line.read_line.Goals as goal
 
 pub returns-then-line-ne-LINE_LENGTH : goal.returns-then-line-ne-LINE_LENGTH

@@ -3,7 +3,6 @@ use mathlib.Core.Path.{sym, ◌∙◌}
 use Rattle.column_lines.specs.Form.{line_width, column_width, line_place, column_place}
 use Rattle.column_lines.proofs.Lines.{position_yes, position_line, position_column}
 use Rattle.column_lines.proofs.Again.{field_below}
-use borrow.Author.Rules.{rules}
 use native.Mathlib.Omega.{arith}
 use Rattle.column_lines.proofs.line.read_position.Goals as goal
 

@@ -1,6 +1,5 @@
 -- `write_field` meets its contract. Assumes nothing.
 use Rattle.column_lines.proofs.Lines.{field_put}
-use borrow.Author.Rules.{rules}
 use Rattle.column_lines.proofs.line.write_field.Goals as goal
 
 pub returns : goal.returns

@@ -1,6 +1,5 @@
 -- `write_line` meets its contract: after each field, the bytes up to its end are written and the others as they were. Assumes nothing.
 use Rattle.column_lines.proofs.Lines.{line_short, line_written, written_length, written_inside}
-use borrow.Author.Rules.{rules}
 use Rattle.column_lines.proofs.line.write_line.Goals as goal
 
 pub returns-then-out-ne-LINE_LENGTH : goal.returns-then-out-ne-LINE_LENGTH

@@ -1,10 +1,9 @@
 -- `fill_blanks` meets its contract. The invariant: blanks up to i, and the field as it was from there on. The measure: the blanks left. Assumes nothing.
-use mathlib.Core.Path.{◌≡◌, refl, sym, ap, ◌∙◌}
+use mathlib.Core.Path.{◌≡◌, refl, ap, ◌∙◌}
 use mathlib.Core.List.{List, ◌++◌}
-use Prim.Native.Nat.{ℕ, ◌-◌, ◌≤◌}
-use lib.ListN.{length, drop, replicate, length-set, set}
+use Prim.Native.Nat.{ℕ}
+use lib.ListN.{drop, replicate, length-set, set}
 use borrow.Author.Fill.{fill_none, fill_more}
-use borrow.Author.Rules.{rules}
 use native.Mathlib.Omega.{arith}
 use Rattle.column_lines.proofs.number.fill_blanks.Goals as goal
 

@@ -1,6 +1,5 @@
 -- `has_sign` meets its contract. Assumes nothing.
 use Rattle.column_lines.proofs.Reading.{sign_may, sign_not, sign_none}
-use borrow.Author.Rules.{rules}
 use Rattle.column_lines.proofs.number.has_sign.Goals as goal
 
 pub returns-then-signed : goal.returns-then-signed

@@ -1,11 +1,6 @@
 -- `read_number` meets its contract. The invariant: the field reads as it does from here on. The measure: the bytes left. Assumes nothing.
-use mathlib.Core.Path.{◌≡◌, refl, sym, ap, ◌∙◌}
-use Prim.Native.Nat.{◌-◌}
-use lib.ListN.{length, drop}
-use Rattle.column_lines.specs.Numeral.{read_numeral}
+use mathlib.Core.Path.{refl, sym, ◌∙◌}
 use Rattle.column_lines.proofs.Reading.{blank_next, blanks_end, blanks_all}
-use borrow.Author.Rules.{rules}
-use native.Mathlib.Omega.{arith}
 use Rattle.column_lines.proofs.number.read_number.Goals as goal
 
 pub loop-i-init : goal.loop-i-init

@@ -1,11 +1,8 @@
 -- `read_number` meets its contract. The invariant: the field reads as it does from here on. The measure: the bytes left. Assumes nothing.
-use mathlib.Core.Path.{◌≡◌, refl, sym, ap, ◌∙◌}
+use mathlib.Core.Path.{◌≡◌}
 use Prim.Native.Nat.{◌-◌}
 use lib.ListN.{length, drop}
 use Rattle.column_lines.specs.Numeral.{read_numeral}
-use Rattle.column_lines.proofs.Reading.{blank_next, blanks_end, blanks_all}
-use borrow.Author.Rules.{rules}
-use native.Mathlib.Omega.{arith}
 use Rattle.column_lines.proofs.number.read_number.Given as goal
 
 abbrev pub invariant-loop-i : goal.invariant-loop-i

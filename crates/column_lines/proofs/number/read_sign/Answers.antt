@@ -5,7 +5,6 @@ use lib.ListN.{drop}
 use Prim.Native.Nat.{◌+◌}
 use Rattle.column_lines.specs.Numeral.{number_from}
 use Rattle.column_lines.proofs.Reading.{sign_inside, sign_signed, sign_yes, sign_no}
-use borrow.Author.Rules.{rules}
 use native.Mathlib.Omega.{arith}
 use Rattle.column_lines.proofs.number.read_sign.Goals as goal
 

@@ -1,6 +1,5 @@
 -- `with_digit` meets its contract: -m times 10 less d is -(m * 10 + d). Assumes nothing.
 use Rattle.column_lines.proofs.Integers.{ten_fits, more_fits, more_back}
-use borrow.Author.Rules.{rules}
 use Rattle.column_lines.proofs.number.with_digit.Goals as goal
 
 pub overflow_mul-result : goal.overflow_mul-result

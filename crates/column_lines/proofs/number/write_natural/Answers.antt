@@ -3,8 +3,7 @@ use mathlib.Core.Path.{refl}
 use mathlib.Core.Bool.{false}
 use Prim.Native.Nat.{◌+◌, ◌-◌, ◌%◌}
 use lib.ListN.{length, length-set}
-use Rattle.column_lines.proofs.Writing.{Writing, write_start, write_turn, write_short, write_end, write_none}
-use borrow.Author.Rules.{rules}
+use Rattle.column_lines.proofs.Writing.{write_start, write_turn, write_short, write_end, write_none}
 use native.Mathlib.Omega.{arith}
 use Rattle.column_lines.proofs.number.write_natural.Goals as goal
 

@@ -3,7 +3,6 @@ use mathlib.Core.Path.{sym, ◌∙◌}
 use Rattle.column_lines.proofs.Integers.{integer_same}
 use Rattle.column_lines.proofs.Negated.{passed_neg, passed_size}
 use Rattle.column_lines.proofs.Writing.{wrote_natural, wrote_negative, negative_yes}
-use borrow.Author.Rules.{rules}
 use Rattle.column_lines.proofs.number.write_number.Goals as goal
 
 pub write_negative-requires : goal.write_negative-requires

@@ -1,0 +1,13 @@
+-- `first_bad` meets its contract. The invariant: the first bad line of the file is the first from here on. The measure: the lines left. Assumes nothing.
+use mathlib.Core.Path.{◌≡◌}
+use Prim.Native.Nat.{◌+◌, ◌-◌, ◌*◌, ◌≤◌}
+use lib.ListN.{drop}
+use Rattle.column_lines.specs.Form.{line_length}
+use Rattle.column_files.specs.Files.{bad_by, first_bad, lines_in}
+use Rattle.column_files.proofs.file.first_bad.Given as goal
+
+abbrev pub invariant-loop-i : goal.invariant-loop-i
+invariant-loop-i l = (first_bad l.file ≡ bad_by (lines_in l.file - l.i) (l.i + 1) (drop (l.i * line_length) l.file)) × (l.i ≤ lines_in l.file)
+
+abbrev pub decreases-loop-i : goal.decreases-loop-i
+decreases-loop-i l = lines_in l.file - l.i
