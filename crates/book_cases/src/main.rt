@@ -4,11 +4,15 @@
 // and every word of the memory must be as stored: the areas one after the other, zeros after a list's end and behind the last area, or there the stale words
 // where the program that stands is refused. A line with the reply is written for each case, below it one for each part that differs, and the counts at the
 // end.
-ghost use Rattle.std.specs.Prelude.{◌≤◌, length};
+#![tactic(auto)]
+
+ghost use Rattle.std.specs.Prelude.{◌≤◌, length, IfOk};
 
 use book_compiler::{commit, compile, lay_on, trial};
 use case_numbers::parse;
-use libc::{STDIN_FILENO, STDOUT_FILENO};
+use reading::read_full;
+use std::io;
+use std::io::Read;
 use words::reply::{BAD_SHAPE, Reply, Totals};
 
 // What `next` answers.
@@ -48,12 +52,12 @@ const PROGRAM_PLACE: u64 = 1048576;
 // A place past every number.
 const NOWHERE: usize = 18446744073709551615;
 
-fn say(text: &[u8]) {
-    io::write_all(STDOUT_FILENO, text);
+fn say(rt: &impl Print, text: &[u8]) -> io::Result<()> {
+    rt.write_all(text)
 }
 
-fn say_number(n: u64) {
-    io::print_decimal(STDOUT_FILENO, n);
+fn say_number(rt: &impl Print, n: u64) -> io::Result<()> {
+    rt.print(n)
 }
 
 // The number at a place; 0 outside.
@@ -91,38 +95,46 @@ fn stored(numbers: &[u64], at: usize, n: u64, i: usize, past: u64) -> u64 {
     past
 }
 
-fn say_difference(part: u64, i: usize, is: u64, was: u64) {
-    say(b"  part ");
-    say_number(part);
-    say(b", word ");
-    say_number(i as u64);
-    say(b": ");
-    say_number(is);
-    say(b", stored ");
-    say_number(was);
-    say(b"\n");
+fn say_difference(rt: &impl Print, part: u64, i: usize, is: u64, was: u64) -> io::Result<()> {
+    say(rt, b"  part ")?;
+    say_number(rt, part)?;
+    say(rt, b", word ")?;
+    say_number(rt, i as u64)?;
+    say(rt, b": ")?;
+    say_number(rt, is)?;
+    say(rt, b", stored ")?;
+    say_number(rt, was)?;
+    say(rt, b"\n")
 }
 
 // The words of a part, 0 the reply, 13 what is left over and else an area, are the n that stand after a place, and past them another.
-fn same(part: u64, words: &[u64], numbers: &[u64], at: usize, n: u64, past: u64) -> bool {
+fn same(
+    rt: &impl Print,
+    part: u64,
+    words: &[u64],
+    numbers: &[u64],
+    at: usize,
+    n: u64,
+    past: u64,
+) -> io::Result<bool> {
     if (words.len() as u64) < n {
-        say_difference(part, words.len(), 0, n);
-        return false;
+        say_difference(rt, part, words.len(), 0, n)?;
+        return Ok(false);
     }
     let mut i: usize = 0;
     while i < words.len() {
         let was = stored(numbers, at, n, i, past);
         if words[i] != was {
-            say_difference(part, i, words[i], was);
-            return false;
+            say_difference(rt, part, i, words[i], was)?;
+            return Ok(false);
         }
         i += 1;
     }
-    true
+    Ok(true)
 }
 
 // The reply is the words after a place.
-fn same_reply(reply: Reply, numbers: &[u64], at: usize) -> bool {
+fn same_reply(rt: &impl Print, reply: Reply, numbers: &[u64], at: usize) -> io::Result<bool> {
     let totals = reply.totals;
     let words = [
         reply.number,
@@ -143,7 +155,7 @@ fn same_reply(reply: Reply, numbers: &[u64], at: usize) -> bool {
         totals.global_dependencies,
         totals.bundles,
     ];
-    same(0, &words, numbers, at, REPLY_WORDS, 0)
+    same(rt, 0, &words, numbers, at, REPLY_WORDS, 0)
 }
 
 // Where a part of so many words ends that starts in a memory of so many: a length that passes the memory's end is cut there.
@@ -159,7 +171,14 @@ fn end_of(start: usize, words: usize, size: usize) -> usize
 
 // The areas of these lengths, which stand from a place on, follow each other in the memory and are the lists from another place on, and then zeros; what is
 // left over is one word again and again, and no number stands after the lists.
-fn same_areas(memory: &[u64], numbers: &[u64], lengths: usize, lists: usize, left: u64) -> bool
+fn same_areas(
+    rt: &impl Print,
+    memory: &[u64],
+    numbers: &[u64],
+    lengths: usize,
+    lists: usize,
+    left: u64,
+) -> io::Result<bool>
     requires { lengths ≤ 1024 }
 {
     let size = memory.len();
@@ -172,25 +191,25 @@ fn same_areas(memory: &[u64], numbers: &[u64], lengths: usize, lists: usize, lef
         let end = end_of(start, words, size);
         let n = number_at(numbers, list);
         area += 1;
-        let is = same(area, &memory[start..end], numbers, list, n, 0);
+        let is = same(rt, area, &memory[start..end], numbers, list, n, 0)?;
         fine = fine && is;
         start = end;
         list = after(numbers, list);
     }
-    let rest = same(area + 1, &memory[start..], numbers, 0, 0, left);
+    let rest = same(rt, area + 1, &memory[start..], numbers, 0, 0, left)?;
     if list != numbers.len() {
-        say(b"  the numbers end elsewhere\n");
-        return false;
+        say(rt, b"  the numbers end elsewhere\n")?;
+        return Ok(false);
     }
-    fine && rest
+    Ok(fine && rest)
 }
 
-fn say_reply(reply: Reply) {
-    say(b": row ");
-    say_number(reply.number);
-    say(b", place ");
-    say_number(reply.place);
-    say(b"\n");
+fn say_reply(rt: &impl Print, reply: Reply) -> io::Result<()> {
+    say(rt, b": row ")?;
+    say_number(rt, reply.number)?;
+    say(rt, b", place ")?;
+    say_number(rt, reply.place)?;
+    say(rt, b"\n")
 }
 
 // The lengths of the areas, from a place on.
@@ -271,28 +290,36 @@ fn put_areas(memory: &mut [u64], numbers: &[u64], lengths: usize, lists: usize) 
 
 // What a call must leave: the reply after a place, and the lists behind it for the areas whose lengths stand from another place on.
 fn as_stored(
+    rt: &impl Print,
     reply: Reply,
     memory: &[u64],
     numbers: &[u64],
     lengths: usize,
     at: usize,
     left: u64,
-) -> bool
+) -> io::Result<bool>
     requires { (lengths ≤ 1024) × (at ≤ 2048) }
 {
-    say_reply(reply);
-    let is_reply = same_reply(reply, numbers, at);
-    let are_areas = same_areas(memory, numbers, lengths, at + 18, left);
-    is_reply && are_areas
+    say_reply(rt, reply)?;
+    let is_reply = same_reply(rt, reply, numbers, at)?;
+    let are_areas = same_areas(rt, memory, numbers, lengths, at + 18, left)?;
+    Ok(is_reply && are_areas)
 }
 
 // The compile call with lengths that stand from a place on; the reply stands after the last.
-fn judge_compile(tree: &[u64], strict: bool, memory: &mut [u64], numbers: &[u64], at: usize) -> bool
+fn judge_compile(
+    rt: &impl Print,
+    tree: &[u64],
+    strict: bool,
+    memory: &mut [u64],
+    numbers: &[u64],
+    at: usize,
+) -> io::Result<bool>
     requires { at ≤ 1024 }
 {
     let lengths = lengths_at(numbers, at);
     let reply = compile(tree, strict, lengths, memory);
-    as_stored(reply, memory, numbers, at, at + 11, 0)
+    as_stored(rt, reply, memory, numbers, at, at + 11, 0)
 }
 
 // What the slots must hold after a call on a program, where the reply stands after a place: the program check comes first, and writes nothing.
@@ -340,120 +367,148 @@ fn ask(
 // A call on the program that is in the memory, with lengths that stand from a place on, behind them the totals of the program and of a commit those of its
 // trial. The reply stands after another place.
 fn judge_asked(
+    rt: &impl Print,
     tree: &[u64],
     call: u64,
     memory: &mut [u64],
     numbers: &[u64],
     at: usize,
     last: usize,
-) -> bool
+) -> io::Result<bool>
     requires { (at ≤ 1024) × (last ≤ 1024) }
 {
     let lengths = lengths_at(numbers, at);
     let standing = totals_at(numbers, at + 12);
     let tried = totals_at(numbers, at + 27);
     let reply = ask(tree, call, standing, tried, lengths, memory);
-    as_stored(reply, memory, numbers, at, last, slots_left(numbers, last))
+    as_stored(
+        rt,
+        reply,
+        memory,
+        numbers,
+        at,
+        last,
+        slots_left(numbers, last),
+    )
 }
 
 // A call on a program: behind the lengths and the totals stand the areas of the program, and then the reply.
-fn judge_on_program(tree: &[u64], call: u64, memory: &mut [u64], numbers: &[u64], at: usize) -> bool
+fn judge_on_program(
+    rt: &impl Print,
+    tree: &[u64],
+    call: u64,
+    memory: &mut [u64],
+    numbers: &[u64],
+    at: usize,
+) -> io::Result<bool>
     requires { at ≤ 1024 }
 {
     let end = put_areas(memory, numbers, at, lists_at(call, at));
     if end > MOST_NUMBERS {
-        say(b"  no case\n");
-        return false;
+        say(rt, b"  no case\n")?;
+        return Ok(false);
     }
-    judge_asked(tree, call, memory, numbers, at, end - 1)
+    judge_asked(rt, tree, call, memory, numbers, at, end - 1)
 }
 
 // Lends a memory of so many words.
-fn lend(tree: &[u64], call: u64, size: usize, numbers: &[u64], at: usize) -> bool
+fn lend(
+    rt: &impl Print,
+    tree: &[u64],
+    call: u64,
+    size: usize,
+    numbers: &[u64],
+    at: usize,
+) -> io::Result<bool>
     requires { (at ≤ 1024) × (size ≤ 6144) }
 {
     let mut memory = [7777777; 6144];
     if call < LAY_ON {
-        return judge_compile(tree, call % 2 == 1, &mut memory[0..size], numbers, at);
+        return judge_compile(rt, tree, call % 2 == 1, &mut memory[0..size], numbers, at);
     }
-    judge_on_program(tree, call, &mut memory[0..size], numbers, at)
+    judge_on_program(rt, tree, call, &mut memory[0..size], numbers, at)
 }
 
-fn case_in(call: u64, size: u64, numbers: &[u64]) -> u64 {
+fn case_in(rt: &impl Print, call: u64, size: u64, numbers: &[u64]) -> io::Result<u64> {
     let end = after(numbers, 0);
     if end > MOST_NUMBERS {
-        say(b"  no case\n");
-        return DIFFERS;
+        say(rt, b"  no case\n")?;
+        return Ok(DIFFERS);
     }
     if end > numbers.len() {
-        say(b"  no case\n");
-        return DIFFERS;
+        say(rt, b"  no case\n")?;
+        return Ok(DIFFERS);
     }
     if size > MOST_MEMORY {
-        say(b"  no room\n");
-        return DIFFERS;
+        say(rt, b"  no room\n")?;
+        return Ok(DIFFERS);
     }
-    if lend(&numbers[1..end], call, size as usize, numbers, end) {
-        return AS_STORED;
+    if lend(rt, &numbers[1..end], call, size as usize, numbers, end)? {
+        return Ok(AS_STORED);
     }
-    DIFFERS
+    Ok(DIFFERS)
 }
 
 // The first number is the call: 0 the compile call, 2 laying on, 4 a trial, 6 a commit, and one more in strict mode. The second is the words of the memory.
-fn case(numbers: &[u64]) -> u64 {
+fn case(rt: &impl Print, numbers: &[u64]) -> io::Result<u64> {
     let end = numbers.len();
     if end < 2 {
-        say(b"  no case\n");
-        return DIFFERS;
+        say(rt, b"  no case\n")?;
+        return Ok(DIFFERS);
     }
     let call = number_at(numbers, 0);
     let size = number_at(numbers, 1);
-    case_in(call, size, &numbers[2..end])
+    case_in(rt, call, size, &numbers[2..end])
 }
 
-fn read_name(name: &mut [u8]) {
-    let n = io::read_full(STDIN_FILENO, name);
-    say(&name[..n]);
+fn read_name(rt: &impl Print, input: &mut impl Read, name: &mut [u8]) -> io::Result<()> {
+    let n = read_full(input, name)?;
+    say(rt, &name[..n])
 }
 
-fn read_numbers(text: &mut [u8], numbers: &mut [u64]) -> usize
-    ensures { result ≤ length numbers.new }
+fn read_numbers(input: &mut impl Read, text: &mut [u8], numbers: &mut [u64]) -> io::Result<usize>
+    ensures { IfOk result (λ n. n ≤ length numbers.new) }
 {
-    let n = io::read_full(STDIN_FILENO, text);
-    parse(&text[..n], numbers)
+    let n = read_full(input, text)?;
+    Ok(parse(&text[..n], numbers))
 }
 
 // Reads a case, given the bytes of its name and of its numbers, and judges it.
-fn read_case(name_size: u64, text_size: u64) -> u64 {
+fn read_case(
+    rt: &impl Print,
+    input: &mut impl Read,
+    name_size: u64,
+    text_size: u64,
+) -> io::Result<u64> {
     if name_size > MOST_NAME {
-        return NO_CASE;
+        return Ok(NO_CASE);
     }
     if text_size > MOST_TEXT {
-        return NO_CASE;
+        return Ok(NO_CASE);
     }
     let name_end = name_size as usize;
     let text_end = text_size as usize;
     let mut name = [0; 256];
-    read_name(&mut name[0..name_end]);
+    read_name(rt, input, &mut name[0..name_end])?;
     let mut text = [0; 8192];
     let mut numbers = [0; 1024];
-    let count = read_numbers(&mut text[0..text_end], &mut numbers);
-    case(&numbers[0..count])
+    let count = read_numbers(input, &mut text[0..text_end], &mut numbers)?;
+    case(rt, &numbers[0..count])
 }
 
 // The next case, if there is one.
-fn next() -> u64 {
+fn next(rt: &impl Print, input: &mut impl Read) -> io::Result<u64> {
     let mut head = [0; 12];
-    let got = io::read_full(STDIN_FILENO, &mut head);
+    let got = read_full(input, &mut head)?;
     if got < 12 {
-        return NO_CASE;
+        return Ok(NO_CASE);
     }
     let mut sizes = [0; 2];
     let count = parse(&head, &mut sizes);
     if count < 2 {
-        return NO_CASE;
+        return Ok(NO_CASE);
     }
-    read_case(sizes[0], sizes[1])
+    read_case(rt, input, sizes[0], sizes[1])
 }
 
 // One more where a case differs.
@@ -466,24 +521,24 @@ fn count(differ: u64, answer: u64) -> u64 {
     differ
 }
 
-fn end(cases: u64, differ: u64) {
-    say_number(cases);
-    say(b" cases, ");
-    say_number(differ);
-    say(b" differ\n");
+fn end(rt: &impl Print, cases: u64, differ: u64) -> io::Result<()> {
+    say_number(rt, cases)?;
+    say(rt, b" cases, ")?;
+    say_number(rt, differ)?;
+    say(rt, b" differ\n")
 }
 
-fn main() {
+fn main(rt: HostRuntime) -> io::Result<()> {
+    let mut input = rt.stdin();
     let mut cases = 0;
     let mut differ = 0;
-    while cases < MOST_CASES {
-        let answer = next();
+    for _ in 0..MOST_CASES {
+        let answer = next(&rt, &mut input)?;
         if answer == NO_CASE {
-            end(cases, differ);
-            return;
+            break;
         }
         differ = count(differ, answer);
         cases += 1;
     }
-    end(cases, differ);
+    end(&rt, cases, differ)
 }

@@ -1,5 +1,7 @@
 // The static library: what a Rust or C program calls (docs/FORMAT.md, 'The static library'). Each function is another crate's routine under a name of
 // its own; a slice is a pointer and a length.
+#![tactic(auto)]
+
 ghost use Rattle.book_compiler.specs.Promise.{CompilesInto, LaysOnInto, TriesInto, CommitsInto};
 ghost use Rattle.definition.specs.Promise.{lent_counted};
 ghost use Rattle.definition.specs.Trial.{counted_fault};

@@ -1,29 +1,30 @@
 // What goes out, and copies of a case's numbers as words and as bytes.
-use libc::STDOUT_FILENO;
+use std::io;
 
-pub(crate) fn say(text: &[u8]) {
-    io::write_all(STDOUT_FILENO, text);
+pub(crate) fn say(rt: &impl Print, text: &[u8]) -> io::Result<()> {
+    rt.write_all(text)
 }
 
-pub(crate) fn number(n: u64) {
-    say(b" ");
-    io::print_decimal(STDOUT_FILENO, n);
+pub(crate) fn number(rt: &impl Print, n: u64) -> io::Result<()> {
+    print!(rt; " {n}")
 }
 
-pub(crate) fn words(words: &[u64]) {
+pub(crate) fn words(rt: &impl Print, words: &[u64]) -> io::Result<()> {
     let mut i: usize = 0;
     while i < words.len() {
-        number(words[i]);
+        number(rt, words[i])?;
         i += 1;
     }
+    Ok(())
 }
 
-pub(crate) fn bytes(bytes: &[u8]) {
+pub(crate) fn bytes(rt: &impl Print, bytes: &[u8]) -> io::Result<()> {
     let mut i: usize = 0;
     while i < bytes.len() {
-        number(bytes[i] as u64);
+        number(rt, bytes[i] as u64)?;
         i += 1;
     }
+    Ok(())
 }
 
 // The numbers, as many as there is room for.
