@@ -16,11 +16,12 @@ use std::io::Read;
 use words::reply::{BAD_SHAPE, Reply, Totals};
 
 // What `next` answers.
-const AS_STORED: u64 = 0;
-
-const DIFFERS: u64 = 1;
-
-const NO_CASE: u64 = 2;
+#[derive(Clone, Copy, PartialEq, Eq)]
+enum Answer {
+    AsStored,
+    Differs,
+    NoCase,
+}
 
 // The first call that lays on, the first on trial, and the first that commits.
 const LAY_ON: u64 = 2;
@@ -121,14 +122,12 @@ fn same(
         say_difference(rt, part, words.len(), 0, n)?;
         return Ok(false);
     }
-    let mut i: usize = 0;
-    while i < words.len() {
+    for (i, word) in words.iter().enumerate() {
         let was = stored(numbers, at, n, i, past);
-        if words[i] != was {
-            say_difference(rt, part, i, words[i], was)?;
+        if *word != was {
+            say_difference(rt, part, i, *word, was)?;
             return Ok(false);
         }
-        i += 1;
     }
     Ok(true)
 }
@@ -183,20 +182,18 @@ fn same_areas(
 {
     let size = memory.len();
     let mut fine = true;
-    let mut area: u64 = 0;
     let mut start: usize = 0;
     let mut list = lists;
-    while area < AREAS {
+    for area in 0..AREAS {
         let words = number_at(numbers, lengths + area as usize) as usize;
         let end = end_of(start, words, size);
         let n = number_at(numbers, list);
-        area += 1;
-        let is = same(rt, area, &memory[start..end], numbers, list, n, 0)?;
+        let is = same(rt, area + 1, &memory[start..end], numbers, list, n, 0)?;
         fine = fine && is;
         start = end;
         list = after(numbers, list);
     }
-    let rest = same(rt, area + 1, &memory[start..], numbers, 0, 0, left)?;
+    let rest = same(rt, AREAS + 1, &memory[start..], numbers, 0, 0, left)?;
     if list != numbers.len() {
         say(rt, b"  the numbers end elsewhere\n")?;
         return Ok(false);
@@ -257,10 +254,8 @@ fn totals_at(numbers: &[u64], at: usize) -> Totals
 
 // The n words that stand after a place are put into an area, and then zeros.
 fn put(words: &mut [u64], numbers: &[u64], at: usize, n: u64) {
-    let mut i: usize = 0;
-    while i < words.len() {
-        words[i] = stored(numbers, at, n, i, 0);
-        i += 1;
+    for (i, word) in words.iter_mut().enumerate() {
+        *word = stored(numbers, at, n, i, 0);
     }
 }
 
@@ -269,10 +264,9 @@ fn put_areas(memory: &mut [u64], numbers: &[u64], lengths: usize, lists: usize) 
     requires { (lengths ≤ 1024) × (1 ≤ lists) }
     ensures { 1 ≤ result }
 {
-    let mut area: u64 = 0;
     let mut start: usize = 0;
     let mut list = lists;
-    while area < AREAS {
+    for area in 0..AREAS {
         let words = number_at(numbers, lengths + area as usize) as usize;
         let end = end_of(start, words, memory.len());
         put(
@@ -281,7 +275,6 @@ fn put_areas(memory: &mut [u64], numbers: &[u64], lengths: usize, lists: usize) 
             list,
             number_at(numbers, list),
         );
-        area += 1;
         start = end;
         list = after(numbers, list);
     }
@@ -429,32 +422,32 @@ fn lend(
     judge_on_program(rt, tree, call, &mut memory[0..size], numbers, at)
 }
 
-fn case_in(rt: &impl Print, call: u64, size: u64, numbers: &[u64]) -> io::Result<u64> {
+fn case_in(rt: &impl Print, call: u64, size: u64, numbers: &[u64]) -> io::Result<Answer> {
     let end = after(numbers, 0);
     if end > MOST_NUMBERS {
         say(rt, b"  no case\n")?;
-        return Ok(DIFFERS);
+        return Ok(Answer::Differs);
     }
     if end > numbers.len() {
         say(rt, b"  no case\n")?;
-        return Ok(DIFFERS);
+        return Ok(Answer::Differs);
     }
     if size > MOST_MEMORY {
         say(rt, b"  no room\n")?;
-        return Ok(DIFFERS);
+        return Ok(Answer::Differs);
     }
     if lend(rt, &numbers[1..end], call, size as usize, numbers, end)? {
-        return Ok(AS_STORED);
+        return Ok(Answer::AsStored);
     }
-    Ok(DIFFERS)
+    Ok(Answer::Differs)
 }
 
 // The first number is the call: 0 the compile call, 2 laying on, 4 a trial, 6 a commit, and one more in strict mode. The second is the words of the memory.
-fn case(rt: &impl Print, numbers: &[u64]) -> io::Result<u64> {
+fn case(rt: &impl Print, numbers: &[u64]) -> io::Result<Answer> {
     let end = numbers.len();
     if end < 2 {
         say(rt, b"  no case\n")?;
-        return Ok(DIFFERS);
+        return Ok(Answer::Differs);
     }
     let call = number_at(numbers, 0);
     let size = number_at(numbers, 1);
@@ -479,12 +472,12 @@ fn read_case(
     input: &mut impl Read,
     name_size: u64,
     text_size: u64,
-) -> io::Result<u64> {
+) -> io::Result<Answer> {
     if name_size > MOST_NAME {
-        return Ok(NO_CASE);
+        return Ok(Answer::NoCase);
     }
     if text_size > MOST_TEXT {
-        return Ok(NO_CASE);
+        return Ok(Answer::NoCase);
     }
     let name_end = name_size as usize;
     let text_end = text_size as usize;
@@ -497,23 +490,23 @@ fn read_case(
 }
 
 // The next case, if there is one.
-fn next(rt: &impl Print, input: &mut impl Read) -> io::Result<u64> {
+fn next(rt: &impl Print, input: &mut impl Read) -> io::Result<Answer> {
     let mut head = [0; 12];
     let got = read_full(input, &mut head)?;
     if got < 12 {
-        return Ok(NO_CASE);
+        return Ok(Answer::NoCase);
     }
     let mut sizes = [0; 2];
     let count = parse(&head, &mut sizes);
     if count < 2 {
-        return Ok(NO_CASE);
+        return Ok(Answer::NoCase);
     }
     read_case(rt, input, sizes[0], sizes[1])
 }
 
 // One more where a case differs.
-fn count(differ: u64, answer: u64) -> u64 {
-    if answer == DIFFERS {
+fn count(differ: u64, answer: Answer) -> u64 {
+    if answer == Answer::Differs {
         if differ < MOST_CASES {
             return differ + 1;
         }
@@ -534,7 +527,7 @@ fn main(rt: HostRuntime) -> io::Result<()> {
     let mut differ = 0;
     for _ in 0..MOST_CASES {
         let answer = next(&rt, &mut input)?;
-        if answer == NO_CASE {
+        if answer == Answer::NoCase {
             break;
         }
         differ = count(differ, answer);

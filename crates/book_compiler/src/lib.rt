@@ -1,4 +1,6 @@
 // `backend/compiler.rs` and `backend/dependency_solver.rs` over one lent memory: parts by number, the state of a function in cells.
+#![tactic(auto)]
+
 ghost use Rattle.book_compiler.specs.Promise.{CompilesInto, LaysOnInto, TriesInto, CommitsInto};
 
 mod book;

@@ -64,10 +64,8 @@ pub(crate) fn found(rt: &impl Print, name: &[u8], found: Found) -> io::Result<()
 }
 
 pub(crate) fn words(rt: &impl Print, words: &[u64]) -> io::Result<()> {
-    let mut i: usize = 0;
-    while i < words.len() {
-        number(rt, words[i])?;
-        i += 1;
+    for word in words {
+        number(rt, *word)?;
     }
     Ok(())
 }

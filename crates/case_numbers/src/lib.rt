@@ -1,4 +1,6 @@
 // Lines and words in base ten, for the programs that replay stored cases.
+#![tactic(auto)]
+
 ghost use Rattle.std.specs.Prelude.{◌+◌, ◌≤◌, ◌≡◌, cond, ◌&&◌, length, set, ltb};
 ghost use Rattle.case_numbers.specs.Places.{place_from};
 ghost use Rattle.case_numbers.specs.Texts.{is_same};

@@ -1,5 +1,7 @@
 // The two converters between column files and records (01, 'The tree' and 'Replies of the compiler'). Where the output has room, `columns_to_records`
 // writes the words of the whole file there, which is row 1, and checks them there; where it has none, rows 1 to 4 are answered from the bytes.
+#![tactic(auto)]
+
 pub mod bytes;
 pub mod file;
 

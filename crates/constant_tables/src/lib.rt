@@ -1,4 +1,6 @@
 // The two ways between constant tables of the span calculator and the records of their document (02, 2026-02).
+#![tactic(auto)]
+
 mod line;
 
 ghost use Rattle.std.specs.Prelude.{◌≡◌, ◌++◌, ◌+◌, ◌*◌, ◌≤◌, length, drop};

@@ -1,6 +1,8 @@
 // `emit`, `emit_return` and `define_local` of `backend/function_state.rs` with the function's state lent, as the Rust has them. Each is thin over its
 // by-value form in `building` and promises what that promises. Whoever has a reference to a state is proved by a walk of its MIR, by hand;
 // `one_instruction`, above them, takes and returns the state by value, so that its callers need none.
+#![tactic(auto)]
+
 ghost use Rattle.std.specs.Prelude.{◌≡◌};
 ghost use Rattle.words.specs.Codes.{code_word};
 ghost use Rattle.building.specs.Emission.{coded, emit_c, emit_return_c};

@@ -1,4 +1,6 @@
 // Errors in words (02, 2026-10): each error of area 11 as an English line.
+#![tactic(auto)]
+
 pub mod buffer;
 pub mod known;
 pub mod lines;

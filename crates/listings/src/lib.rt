@@ -1,4 +1,6 @@
 // The listing of 01: the lines of a delivery or a refusal, from the reply and the areas.
+#![tactic(auto)]
+
 pub mod lines;
 pub mod methods;
 pub mod sections;

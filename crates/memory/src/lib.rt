@@ -1,4 +1,6 @@
 // One memory for the twelve areas of 01 and what is left over: where each part starts.
+#![tactic(auto)]
+
 ghost use Rattle.std.specs.Prelude.{◌≡◌, ◌+◌, min};
 ghost use Rattle.memory.specs.Layout.{starts_of};
 

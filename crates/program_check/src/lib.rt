@@ -1,4 +1,6 @@
 // The program check (02, 2026-01): whether words and totals that somebody lends are a program, and if not, the first area that fails.
+#![tactic(auto)]
+
 mod areas;
 mod constants;
 mod entries;

@@ -23,8 +23,7 @@ fn read_words(text: &[u8], count: usize, words: &mut [u64]) -> usize
     requires count_in_bounds { count * 22 ≤ length text.now }
     requires count_in_bounds_2 { count ≤ length words.old }
 {
-    let mut i: usize = 0;
-    while i < count {
+    for i in 0..count {
         let at = i * WORD_LINE;
         let end = at + 21;
         if text[end] != b'\n' {
@@ -39,7 +38,6 @@ fn read_words(text: &[u8], count: usize, words: &mut [u64]) -> usize
                 return i + 1;
             }
         }
-        i += 1;
     }
     0
 }

@@ -9,25 +9,16 @@ const MOST_FILE: usize = 4096;
 const MOST_ROOM: usize = 512;
 
 fn zeros(words: &[u64]) -> bool {
-    let mut i: usize = 0;
-    while i < words.len() {
-        if words[i] != 0 {
-            return false;
-        }
-        i += 1;
-    }
-    true
+    words.iter().all(|word| *word == 0)
 }
 
 // The bytes are the file and then zeros.
 fn is_file(bytes: &[u8], file: &[u8]) -> bool {
-    let mut i: usize = 0;
-    while i < bytes.len() {
+    for (i, byte) in bytes.iter().enumerate() {
         let expected = if i < file.len() { file[i] } else { 0 };
-        if bytes[i] != expected {
+        if *byte != expected {
             return false;
         }
-        i += 1;
     }
     true
 }

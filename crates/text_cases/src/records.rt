@@ -20,10 +20,8 @@ fn write_word(rt: &impl Print, word: u64) -> io::Result<()> {
 }
 
 fn write_words(rt: &impl Print, words: &[u64]) -> io::Result<()> {
-    let mut i: usize = 0;
-    while i < words.len() {
-        write_word(rt, words[i])?;
-        i += 1;
+    for word in words {
+        write_word(rt, *word)?;
     }
     Ok(())
 }

@@ -1,6 +1,8 @@
 // Rows 2, 3 and 4 of 01 on any words: `check` goes once over the records, in their order. At each it looks at the record by itself
 // (`stands`: row 3), at its level (row 4), and then at its children, one level down. That a child is lacking, which is row 3 at the parent, shows after the
 // last child; where one of them is at fault, `blame` goes on over the others to see it.
+#![tactic(auto)]
+
 ghost use Rattle.std.specs.Prelude.{◌≡◌, cond, ◌&&◌, ◌+◌, ◌*◌, ◌%◌, ◌≤◌, ◌<◌, length, leb};
 ghost use Rattle.words.specs.Record.{most_levels};
 ghost use Rattle.tree.specs.Rules.{slot_of, rule_of, may_stand, goes_on, slot_after, is_due, first_slot, may_be_at, in_range};

@@ -1,1 +1,2 @@
 // No code: what the proofs by hand of `emitters` and `line_writer` share.
+#![tactic(auto)]

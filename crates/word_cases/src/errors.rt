@@ -20,14 +20,7 @@ const MOST_PART: u64 = 300;
 const MOST_ROOM: u64 = 2000;
 
 fn all_are(bytes: &[u8], byte: u8) -> bool {
-    let mut i: usize = 0;
-    while i < bytes.len() {
-        if bytes[i] != byte {
-            return false;
-        }
-        i += 1;
-    }
-    true
+    bytes.iter().all(|each| *each == byte)
 }
 
 fn say_truth(rt: &impl Print, kept: bool, yes: &[u8], no: &[u8]) -> io::Result<()> {

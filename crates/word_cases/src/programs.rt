@@ -83,11 +83,8 @@ fn put(numbers: &mut [u64], at: usize, number: u64) {
 
 // Other numbers at some places: a place, its number, and so on.
 fn edit(numbers: &mut [u64], edits: &[u64]) {
-    let half = edits.len() / 2;
-    let mut i: usize = 0;
-    while i < half {
+    for i in 0..edits.len() / 2 {
         put(numbers, edits[2 * i] as usize, edits[2 * i + 1]);
-        i += 1;
     }
 }
 

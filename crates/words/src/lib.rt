@@ -1,4 +1,6 @@
 // The words layer: opcodes and instructions, constants, records and the entries of the twelve areas.
+#![tactic(auto)]
+
 pub mod areas;
 pub mod object;
 pub mod opcode;

@@ -1,0 +1,35 @@
+-- `words::areas::write_word` meets its contract: each way through the tests writes what `Patched` says. Assumes nothing.
+use Rattle.words.proofs.Entries.{at_most, at_least, patched, patch_past, patch_beside, patch_wide}
+use borrow.Author.Rules.{rules}
+use native.Mathlib.Omega.{arith}
+use Rattle.words.proofs.areas.write_word.Goals as goal
+
+pub overflow_mul-at : goal.overflow_mul-at
+overflow_mul-at c = omega (arith, at_most c.args.i c.args.width c.if-width-le-MOST_WIDTH.true)
+
+pub overflow_add-at : goal.overflow_add-at
+overflow_add-at c = omega (arith, at_most c.args.i c.args.width c.if-width-le-MOST_WIDTH.true)
+
+pub returns-then-at-area : goal.returns-then-at-area
+returns-then-at-area c = patched c.args.area.now c.args.width
+    c.args.i c.args.k c.args.value
+    c.if-width-le-MOST_WIDTH.true c.if-k-width.true c.if-at-area.true
+
+pub returns-else-at-area : goal.returns-else-at-area
+returns-else-at-area c = patch_past c.args.area.now c.args.width
+    c.args.i c.args.k c.args.value c.if-at-area.false
+
+pub returns-else-i-area : goal.returns-else-i-area
+returns-else-i-area c = patch_past c.args.area.now c.args.width c.args.i
+    c.args.k c.args.value (omega (
+      arith,
+      at_least c.args.i
+          c.args.width (omega arith),
+    ))
+
+pub returns-else-k-width : goal.returns-else-k-width
+returns-else-k-width c = patch_beside c.args.area.now c.args.width c.args.i c.args.k
+    c.args.value c.if-k-width.false
+
+pub returns-else-width-le-MOST_WIDTH : goal.returns-else-width-le-MOST_WIDTH
+returns-else-width-le-MOST_WIDTH c = patch_wide c.args.area.now c.args.width c.args.i c.args.k c.args.value c.if-width-le-MOST_WIDTH.false
