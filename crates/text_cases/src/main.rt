@@ -102,7 +102,7 @@ fn cases(rt: &impl Print, text: &[u8]) -> io::Result<()> {
 }
 
 fn main(rt: HostRuntime) -> io::Result<()> {
-    let mut text = [0; MOST_BYTES];
+    let mut text = vec![in rt.alloc(); 0; MOST_BYTES]?;
     let n = read_full(&mut rt.stdin(), &mut text)?;
     cases(&rt, &text[..n])
 }

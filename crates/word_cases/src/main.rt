@@ -122,7 +122,7 @@ fn cases(rt: &impl Print, text: &[u8], program: &mut [u64]) -> io::Result<()> {
 }
 
 fn main(rt: HostRuntime) -> io::Result<()> {
-    let mut text = [0; MOST_BYTES];
+    let mut text = vec![in rt.alloc(); 0; MOST_BYTES]?;
     let n = read_full(&mut rt.stdin(), &mut text)?;
     let mut program = [0; MOST_NUMBERS];
     cases(&rt, &text[..n], &mut program)
