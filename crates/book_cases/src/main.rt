@@ -523,15 +523,13 @@ fn end(rt: &impl Print, cases: u64, differ: u64) -> io::Result<()> {
 
 fn main(rt: HostRuntime) -> io::Result<()> {
     let mut input = rt.stdin();
-    let mut cases = 0;
     let mut differ = 0;
-    for _ in 0..MOST_CASES {
+    for cases in 0..MOST_CASES {
         let answer = next(&rt, &mut input)?;
         if answer == Answer::NoCase {
-            break;
+            return end(&rt, cases, differ);
         }
         differ = count(differ, answer);
-        cases += 1;
     }
-    end(&rt, cases, differ)
+    end(&rt, MOST_CASES, differ)
 }
