@@ -1,7 +1,7 @@
 -- The work begins over one memory: one that stands for a context, with an entry for each book that is needed behind those that stand, is ready for the first
 -- book; a memory of zeros with three constants and their slots stands for the definition's fresh context. By the lemmas over areas, of the parts. Assumes
 -- nothing.
-use Rattle.std.proofs.Common.{◌≡◌, ℕ, zero, suc, ◌+◌, ◌-◌, ◌/◌, ◌<◌, ◌≤◌, Bool, true, false, cond, eqb, List, [], ◌∷◌, ◌++◌, length, take, drop, replicate, sym, refl, ap, ◌∙◌, subst, arith, eqb-true}
+use Rattle.std.proofs.Common.{◌≡◌, ℕ, zero, suc, ◌+◌, ◌-◌, ◌*◌, ◌/◌, ◌<◌, ◌≤◌, Bool, true, false, cond, eqb, List, [], ◌∷◌, ◌++◌, length, take, drop, replicate, sym, refl, ap, ◌∙◌, subst, arith, eqb-true}
 use lib.ListN.{length-replicate}
 use borrow.Author.Tests.{eqb-false}
 use Rattle.memory.specs.Layout.{part, Fits}
@@ -24,7 +24,7 @@ use Rattle.compiler_laws.specs.BookAreas.{BookAreas, book_areas, Fitted, Represe
 use Rattle.compiler_laws.specs.OpenedBooks.{Resting, opened_book, nobody}
 use Rattle.compiler_laws.proofs.UnchangedByBooks.{Unchanged}
 use Rattle.compiler_laws.specs.FileSets.{set_size, Ascends, Below}
-use Rattle.compiler_laws.specs.SolverSteps.{waiting, TakesBooks}
+use Rattle.compiler_laws.specs.SolverSteps.{InSets, waiting, TakesBooks}
 use Rattle.compiler_laws.specs.BooksInOrder.{Zero, begun_book, FirstConstants, Accepted, Cleared, Emptied}
 use Rattle.compiler_laws.proofs.CallBeginning.{mark_constants, mark_books, no_mark, books_there, fresh_resting, zero_drop}
 use Rattle.compiler_laws.proofs.WaitingBooks.{taken_wait}
@@ -217,7 +217,7 @@ module _ {tree chosen a w w₁ : List ℕ} {s : struct.Book} {stand : ℕ} {r : 
         area = area z;
         waits = taken_wait _ A.bundle (fine_limit tree A.fine) numbers A.there;
         held = H.held;
-        room = rw long A.room;
+        room = subst (λ (n : ℕ). InSets (n * 64) (root ∷ others)) (sym long) A.room;
       };
       so_many = H.so_many;
       in_all = ap (λ (y : Taken). y.count) (taken_all z).0;

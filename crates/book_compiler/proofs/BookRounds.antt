@@ -204,7 +204,10 @@ module _ {tree : List ℕ} {end done count : ℕ} {set : List ℕ} {s s₁ : str
         ≡ (let x = compile_definitions R.book.definitions (opened R.book context uses) in after_book x.compiler.errors file (put_away x) x.uses
         (λ c' uses'. drive (length (without file left)) ds (file ∷ compiled) (without file left) c' uses'))
     unfolding drive compile_document
-    follows R = rw (R.one_less, R.is, R.same)
+    follows {left = left} R =
+        let one_less : length left ≡ suc (length (without R.book.filename left))
+        = subst (λ (f : ℕ). length left ≡ suc (length (without f left))) R.same R.one_less in
+        rw (one_less, R.is, R.same)
 
     -- the books that were done before it are named as they were
     still_named : {ds : List Document} {left rest compiled : List ℕ} {κ : Limits} {others : ℕ → List ℕ} {context : Context} {uses : List Use}

@@ -83,6 +83,20 @@ module _ {tree : List ℕ} {at end start count kind position value : ℕ} (kind_
       go : (e : Expression) → ViewE 39 e → ExpressionAt e tree at → at + size_e e ≡ end → SimulatesInside start count m m' (compile_expression e)
       go (Infix a t b) v_Infix h l = M.meets a b t (as_token tree at kind_is position-is value-is h.0.token
           ∙ ap (λ (k : ℕ). token position k value) q) h.1 h.2 (omega arith)
+      go (Identifier _) seen h l = elim seen [ ]
+      go (This _) seen h l = elim seen [ ]
+      go (Null _) seen h l = elim seen [ ]
+      go (Integer _) seen h l = elim seen [ ]
+      go (Float _) seen h l = elim seen [ ]
+      go (Text _) seen h l = elim seen [ ]
+      go (Boolean _) seen h l = elim seen [ ]
+      go (Array _ _) seen h l = elim seen [ ]
+      go (Prefix _ _) seen h l = elim seen [ ]
+      go (If _ _) seen h l = elim seen [ ]
+      go (IfElse _ _ _) seen h l = elim seen [ ]
+      go (Call _ _ _) seen h l = elim seen [ ]
+      go (InstanceGet _ _ _) seen h l = elim seen [ ]
+      go (IndexGet _ _ _) seen h l = elim seen [ ]
 
   pub if_meets : {m' : Memory} → kind ≡ 42 → CompilesIfExpression tree (at + 1) end start count m m' → CompilesExpression tree at end start count m m'
   unfolding compile_expression ExpressionAt size_e
@@ -91,6 +105,19 @@ module _ {tree : List ℕ} {at end start count kind position value : ℕ} (kind_
       go : (e : Expression) → ViewE 42 e → ExpressionAt e tree at → at + size_e e ≡ end → SimulatesInside start count m m' (compile_expression e)
       go (If c t) v_If h l = M.alone c t h.1 h.2 h.3 (omega arith)
       go (IfElse c t f) v_If_else h l = M.other c t f h.1 h.2 h.3 h.4 h.5 (omega arith)
+      go (Identifier _) seen h l = elim seen [ ]
+      go (This _) seen h l = elim seen [ ]
+      go (Null _) seen h l = elim seen [ ]
+      go (Integer _) seen h l = elim seen [ ]
+      go (Float _) seen h l = elim seen [ ]
+      go (Text _) seen h l = elim seen [ ]
+      go (Boolean _) seen h l = elim seen [ ]
+      go (Array _ _) seen h l = elim seen [ ]
+      go (Prefix _ _) seen h l = elim seen [ ]
+      go (Infix _ _ _) seen h l = elim seen [ ]
+      go (Call _ _ _) seen h l = elim seen [ ]
+      go (InstanceGet _ _ _) seen h l = elim seen [ ]
+      go (IndexGet _ _ _) seen h l = elim seen [ ]
 
   -- a list of parts, and what the kind does when they are there
   module _ {n : ℕ} {m₁ m' : Memory} (high : 37 ≤ kind) (n39 : kind ≡ 39 → ⊥) (n42 : kind ≡ 42 → ⊥) (L : CompilesList tree (at + 1) end start count m m₁ 0 n)

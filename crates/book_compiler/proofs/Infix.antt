@@ -117,6 +117,20 @@ module _ {tree : List ℕ} {at end position value start count : ℕ} where
         go : (x : Expression) (a : Token) → a ≡ token position 39 value → ViewE 30 x → ExpressionAt x tree at
             → SimulatesInside start count m m' (compile_assign_expression_left_part x a)
         go (Identifier t) a r v_Identifier h = rw (r, h.token, ← text-is) N
+        go (This _) a r seen h = elim seen [ ]
+        go (Null _) a r seen h = elim seen [ ]
+        go (Integer _) a r seen h = elim seen [ ]
+        go (Float _) a r seen h = elim seen [ ]
+        go (Text _) a r seen h = elim seen [ ]
+        go (Boolean _) a r seen h = elim seen [ ]
+        go (Array _ _) a r seen h = elim seen [ ]
+        go (Prefix _ _) a r seen h = elim seen [ ]
+        go (Infix _ _ _) a r seen h = elim seen [ ]
+        go (If _ _) a r seen h = elim seen [ ]
+        go (IfElse _ _ _) a r seen h = elim seen [ ]
+        go (Call _ _ _) a r seen h = elim seen [ ]
+        go (InstanceGet _ _ _) a r seen h = elim seen [ ]
+        go (IndexGet _ _ _) a r seen h = elim seen [ ]
 
     module _ {place : ℕ} (place_is : place ≡ position_at tree at) {m m₁ m' : Memory} (L : CompilesExpressions tree (at + 1) end start count m m₁) where
       pub target_instance : kind ≡ 45 → OnCode (emit_c (word (to_instruction InstanceSet 0)) place) m₁ m'
@@ -127,6 +141,20 @@ module _ {tree : List ℕ} {at end position value start count : ℕ} where
           go : (x : Expression) (a : Token) → ViewE 45 x → ExpressionAt x tree at → at + size_e x ≡ end
               → SimulatesInside start count m m' (compile_assign_expression_left_part x a)
           go (InstanceGet t x y) a v_Instance_get h l = pair tree at InstanceSet t x y place_is L h.0.token d h.1 h.2 (omega arith)
+          go (Identifier _) a seen h l = elim seen [ ]
+          go (This _) a seen h l = elim seen [ ]
+          go (Null _) a seen h l = elim seen [ ]
+          go (Integer _) a seen h l = elim seen [ ]
+          go (Float _) a seen h l = elim seen [ ]
+          go (Text _) a seen h l = elim seen [ ]
+          go (Boolean _) a seen h l = elim seen [ ]
+          go (Array _ _) a seen h l = elim seen [ ]
+          go (Prefix _ _) a seen h l = elim seen [ ]
+          go (Infix _ _ _) a seen h l = elim seen [ ]
+          go (If _ _) a seen h l = elim seen [ ]
+          go (IfElse _ _ _) a seen h l = elim seen [ ]
+          go (Call _ _ _) a seen h l = elim seen [ ]
+          go (IndexGet _ _ _) a seen h l = elim seen [ ]
 
       pub target_index : kind ≡ 46 → OnCode (emit_c (word (to_instruction IndexSet 0)) place) m₁ m'
           → CompilesAssignLeftPart tree at end position value start count m m'
@@ -136,6 +164,20 @@ module _ {tree : List ℕ} {at end position value start count : ℕ} where
           go : (x : Expression) (a : Token) → ViewE 46 x → ExpressionAt x tree at → at + size_e x ≡ end
               → SimulatesInside start count m m' (compile_assign_expression_left_part x a)
           go (IndexGet t x y) a v_Index_get h l = pair tree at IndexSet t x y place_is L h.0.token d h.1 h.2 (omega arith)
+          go (Identifier _) a seen h l = elim seen [ ]
+          go (This _) a seen h l = elim seen [ ]
+          go (Null _) a seen h l = elim seen [ ]
+          go (Integer _) a seen h l = elim seen [ ]
+          go (Float _) a seen h l = elim seen [ ]
+          go (Text _) a seen h l = elim seen [ ]
+          go (Boolean _) a seen h l = elim seen [ ]
+          go (Array _ _) a seen h l = elim seen [ ]
+          go (Prefix _ _) a seen h l = elim seen [ ]
+          go (Infix _ _ _) a seen h l = elim seen [ ]
+          go (If _ _) a seen h l = elim seen [ ]
+          go (IfElse _ _ _) a seen h l = elim seen [ ]
+          go (Call _ _ _) a seen h l = elim seen [ ]
+          go (InstanceGet _ _ _) a seen h l = elim seen [ ]
 
     -- nothing else is assigned to
     pub target_other : {m m' : Memory} → (kind ≡ 30 → ⊥) → (kind ≡ 45 → ⊥) → (kind ≡ 46 → ⊥) → PushesError 2 position 39 value m m'

@@ -136,6 +136,20 @@ module _ {start count : ℕ} {m m' : Memory} {kind position value : ℕ} where
       go tree at k p v (Identifier t) v_Identifier h =
           token_as tree at k p v (λ (u : Token). SimulatesInside start count m m' (emit_name LocalGet ContextGet GlobalGet u.value u.position))
           h.token N
+      go tree at k p v (This _) seen h = elim seen [ ]
+      go tree at k p v (Null _) seen h = elim seen [ ]
+      go tree at k p v (Integer _) seen h = elim seen [ ]
+      go tree at k p v (Float _) seen h = elim seen [ ]
+      go tree at k p v (Text _) seen h = elim seen [ ]
+      go tree at k p v (Boolean _) seen h = elim seen [ ]
+      go tree at k p v (Array _ _) seen h = elim seen [ ]
+      go tree at k p v (Prefix _ _) seen h = elim seen [ ]
+      go tree at k p v (Infix _ _ _) seen h = elim seen [ ]
+      go tree at k p v (If _ _) seen h = elim seen [ ]
+      go tree at k p v (IfElse _ _ _) seen h = elim seen [ ]
+      go tree at k p v (Call _ _ _) seen h = elim seen [ ]
+      go tree at k p v (InstanceGet _ _ _) seen h = elim seen [ ]
+      go tree at k p v (IndexGet _ _ _) seen h = elim seen [ ]
 
   pub leaf_integer : kind ≡ 33 → Simulates m m' (emit_constant PushConstant (constant_of 2 value) position) → CompilesLeaf kind position value start count m m'
   unfolding ExpressionAt compile_expression compile_integer_expression
@@ -147,6 +161,20 @@ module _ {start count : ℕ} {m m' : Memory} {kind position value : ℕ} where
           token_as tree at k p v (λ (u : Token). SimulatesInside start count m m' (emit_constant PushConstant (constant_of 2 u.value) u.position))
           h.token
           (acts_does P)
+      go tree at k p v (Identifier _) seen h = elim seen [ ]
+      go tree at k p v (This _) seen h = elim seen [ ]
+      go tree at k p v (Null _) seen h = elim seen [ ]
+      go tree at k p v (Float _) seen h = elim seen [ ]
+      go tree at k p v (Text _) seen h = elim seen [ ]
+      go tree at k p v (Boolean _) seen h = elim seen [ ]
+      go tree at k p v (Array _ _) seen h = elim seen [ ]
+      go tree at k p v (Prefix _ _) seen h = elim seen [ ]
+      go tree at k p v (Infix _ _ _) seen h = elim seen [ ]
+      go tree at k p v (If _ _) seen h = elim seen [ ]
+      go tree at k p v (IfElse _ _ _) seen h = elim seen [ ]
+      go tree at k p v (Call _ _ _) seen h = elim seen [ ]
+      go tree at k p v (InstanceGet _ _ _) seen h = elim seen [ ]
+      go tree at k p v (IndexGet _ _ _) seen h = elim seen [ ]
 
   pub leaf_float : kind ≡ 34 → Simulates m m' (emit_constant PushConstant (constant_of 3 value) position) → CompilesLeaf kind position value start count m m'
   unfolding ExpressionAt compile_expression compile_float_expression
@@ -158,6 +186,20 @@ module _ {start count : ℕ} {m m' : Memory} {kind position value : ℕ} where
           token_as tree at k p v (λ (u : Token). SimulatesInside start count m m' (emit_constant PushConstant (constant_of 3 u.value) u.position))
           h.token
           (acts_does P)
+      go tree at k p v (Identifier _) seen h = elim seen [ ]
+      go tree at k p v (This _) seen h = elim seen [ ]
+      go tree at k p v (Null _) seen h = elim seen [ ]
+      go tree at k p v (Integer _) seen h = elim seen [ ]
+      go tree at k p v (Text _) seen h = elim seen [ ]
+      go tree at k p v (Boolean _) seen h = elim seen [ ]
+      go tree at k p v (Array _ _) seen h = elim seen [ ]
+      go tree at k p v (Prefix _ _) seen h = elim seen [ ]
+      go tree at k p v (Infix _ _ _) seen h = elim seen [ ]
+      go tree at k p v (If _ _) seen h = elim seen [ ]
+      go tree at k p v (IfElse _ _ _) seen h = elim seen [ ]
+      go tree at k p v (Call _ _ _) seen h = elim seen [ ]
+      go tree at k p v (InstanceGet _ _ _) seen h = elim seen [ ]
+      go tree at k p v (IndexGet _ _ _) seen h = elim seen [ ]
 
   pub leaf_text : kind ≡ 35 → Simulates m m' (emit_constant PushConstant (constant_of 4 value) position) → CompilesLeaf kind position value start count m m'
   unfolding ExpressionAt compile_expression compile_string_expression
@@ -169,6 +211,20 @@ module _ {start count : ℕ} {m m' : Memory} {kind position value : ℕ} where
           token_as tree at k p v (λ (u : Token). SimulatesInside start count m m' (emit_constant PushConstant (constant_of 4 u.value) u.position))
           h.token
           (acts_does P)
+      go tree at k p v (Identifier _) seen h = elim seen [ ]
+      go tree at k p v (This _) seen h = elim seen [ ]
+      go tree at k p v (Null _) seen h = elim seen [ ]
+      go tree at k p v (Integer _) seen h = elim seen [ ]
+      go tree at k p v (Float _) seen h = elim seen [ ]
+      go tree at k p v (Boolean _) seen h = elim seen [ ]
+      go tree at k p v (Array _ _) seen h = elim seen [ ]
+      go tree at k p v (Prefix _ _) seen h = elim seen [ ]
+      go tree at k p v (Infix _ _ _) seen h = elim seen [ ]
+      go tree at k p v (If _ _) seen h = elim seen [ ]
+      go tree at k p v (IfElse _ _ _) seen h = elim seen [ ]
+      go tree at k p v (Call _ _ _) seen h = elim seen [ ]
+      go tree at k p v (InstanceGet _ _ _) seen h = elim seen [ ]
+      go tree at k p v (IndexGet _ _ _) seen h = elim seen [ ]
 
   -- one instruction
   module _ {x : ℕ} (d : OnCode (emit_c x position) m m') where
@@ -188,6 +244,20 @@ module _ {start count : ℕ} {m m' : Memory} {kind position value : ℕ} where
                 slots = G.slots;
               };
         }
+        go tree at p (Identifier _) seen h = elim seen [ ]
+        go tree at p (Null _) seen h = elim seen [ ]
+        go tree at p (Integer _) seen h = elim seen [ ]
+        go tree at p (Float _) seen h = elim seen [ ]
+        go tree at p (Text _) seen h = elim seen [ ]
+        go tree at p (Boolean _) seen h = elim seen [ ]
+        go tree at p (Array _ _) seen h = elim seen [ ]
+        go tree at p (Prefix _ _) seen h = elim seen [ ]
+        go tree at p (Infix _ _ _) seen h = elim seen [ ]
+        go tree at p (If _ _) seen h = elim seen [ ]
+        go tree at p (IfElse _ _ _) seen h = elim seen [ ]
+        go tree at p (Call _ _ _) seen h = elim seen [ ]
+        go tree at p (InstanceGet _ _ _) seen h = elim seen [ ]
+        go tree at p (IndexGet _ _ _) seen h = elim seen [ ]
 
     module _ {v : ℕ} (v-is : v ≡ standing_of kind value) (as-word : x ≡ word (to_instruction PushConstant v))
         (n30 : kind ≡ 30 → ⊥) (n31 : kind ≡ 31 → ⊥) (n33 : kind ≡ 33 → ⊥) (n34 : kind ≡ 34 → ⊥) (n35 : kind ≡ 35 → ⊥) where

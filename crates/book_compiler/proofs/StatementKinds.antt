@@ -152,6 +152,11 @@ module _ {tree : List ℕ} {at end start count : ℕ} {s s₁ s₂ s' : Function
       where
         go : (st : Statement) → ViewS 25 st → StatementAt st tree at → at + size_s st ≡ end → SimulatesInside start count (laid s₁ a l) (laid s₂ a l₂) (inner st)
         go (Expr x) v_Expr h k = record { meets = λ κ E others w I H. last_emitted Pop d ((M.meets x h.1 (omega arith)).meets κ E others w I H) }
+        go (Local _) seen h k = elim seen [ ]
+        go (Return _) seen h k = elim seen [ ]
+        go (For _ _ _ _) seen h k = elim seen [ ]
+        go (Break _) seen h k = elim seen [ ]
+        go (Rescue _) seen h k = elim seen [ ]
 
     pub statement_local : kind ≡ 20 → CompilesVariables tree (at + 1) end start count (laid s₁ a l) (laid s₂ a l₂)
         → CompilesStatement tree at end start count (laid s a l) (laid s' a l₂)
@@ -160,6 +165,11 @@ module _ {tree : List ℕ} {at end start count : ℕ} {s s₁ s₂ s' : Function
       where
         go : (st : Statement) → ViewS 20 st → StatementAt st tree at → at + size_s st ≡ end → SimulatesInside start count (laid s₁ a l) (laid s₂ a l₂) (inner st)
         go (Local vs) v_Local h k = M.meets vs h.1 (omega arith)
+        go (Return _) seen h k = elim seen [ ]
+        go (For _ _ _ _) seen h k = elim seen [ ]
+        go (Break _) seen h k = elim seen [ ]
+        go (Rescue _) seen h k = elim seen [ ]
+        go (Expr _) seen h k = elim seen [ ]
 
     pub statement_for : {position : ℕ} → position ≡ position_at tree at → kind ≡ 24
         → CompilesForStatement tree (at + 1) end position start count (laid s₁ a l) (laid s₂ a l₂)
@@ -171,6 +181,11 @@ module _ {tree : List ℕ} {at end start count : ℕ} {s s₁ s₂ s' : Function
         go (For t i x ss) v_For h k =
             let z : at + 2 ≡ at + 1 + 1 = omega arith in
             M.meets t i x ss (ap (λ (u : Token). u.position) h.0.token ∙ sym position-is) h.1 (rw (← z) h.2) (rw (← z) h.3) (omega arith)
+        go (Local _) seen h k = elim seen [ ]
+        go (Return _) seen h k = elim seen [ ]
+        go (Break _) seen h k = elim seen [ ]
+        go (Rescue _) seen h k = elim seen [ ]
+        go (Expr _) seen h k = elim seen [ ]
 
     -- by a step that acts: a break, a rescue
     pub statement_break : {position : ℕ} → position ≡ position_at tree at → kind ≡ 22
@@ -183,6 +198,11 @@ module _ {tree : List ℕ} {at end start count : ℕ} {s s₁ s₂ s' : Function
         go (Break t) v_Break h =
             let here : t.position ≡ position = ap (λ (u : Token). u.position) h.token ∙ sym position-is in
             rw here (acts_does A)
+        go (Local _) seen h = elim seen [ ]
+        go (Return _) seen h = elim seen [ ]
+        go (For _ _ _ _) seen h = elim seen [ ]
+        go (Rescue _) seen h = elim seen [ ]
+        go (Expr _) seen h = elim seen [ ]
 
     pub statement_rescue : {position value : ℕ} → position ≡ position_at tree at → value ≡ value_at tree at → kind ≡ 23
         → Simulates (laid s₁ a l) (laid s₂ a l₂) (compile_rescue (token position kind value))
@@ -192,6 +212,11 @@ module _ {tree : List ℕ} {at end start count : ℕ} {s s₁ s₂ s' : Function
       where
         go : (st : Statement) → ViewS 23 st → StatementAt st tree at → SimulatesInside start count (laid s₁ a l) (laid s₂ a l₂) (inner st)
         go (Rescue t) v_Rescue h = rw (h.token, ← kind_is, ← position-is, ← value-is) (acts_does A)
+        go (Local _) seen h = elim seen [ ]
+        go (Return _) seen h = elim seen [ ]
+        go (For _ _ _ _) seen h = elim seen [ ]
+        go (Break _) seen h = elim seen [ ]
+        go (Expr _) seen h = elim seen [ ]
 
     -- a return is what is left
     pub statement_return : {position : ℕ} → position ≡ position_at tree at → (kind ≡ 25 → ⊥) → (kind ≡ 20 → ⊥) → (kind ≡ 24 → ⊥) → (kind ≡ 22 → ⊥)

@@ -16,14 +16,14 @@ use words::record;
 use words::record::field;
 
 // A constant's number, with the book.
-#[derive(Drop)]
+#[derive(Clone, Copy)]
 pub struct Placed {
     pub place: u64,
     pub book: Book,
 }
 
 // What may be found, with the book.
-#[derive(Drop)]
+#[derive(Clone, Copy)]
 pub struct Sought {
     pub found: Found,
     pub book: Book,

@@ -21,7 +21,7 @@ use words::reply::Reply;
 use words::{areas, record, reply};
 
 // A row of 01 and its place; row 0 for none.
-#[derive(Drop)]
+#[derive(Clone, Copy)]
 pub struct Row {
     pub number: u64,
     pub place: u64,

@@ -20,7 +20,7 @@ const ERRORS_PART: usize = 11;
 const PART_COUNT: usize = 14;
 
 // How the books end: the counts, a row and its place; where the row is 0 the place is the number of books.
-#[derive(Drop)]
+#[derive(Clone, Copy)]
 pub struct Ended {
     pub book: Book,
     pub row: u64,

@@ -24,7 +24,7 @@ use words::reply;
 use words::reply::{Reply, Totals};
 
 // What is wanted of a bundle: to lay it on, to see what that would answer, or to lay on what a trial was answered with these totals.
-#[derive(Drop)]
+#[derive(Clone, Copy)]
 pub enum Order {
     Lay,
     Trial,

@@ -12,7 +12,7 @@ use building::taking::Taken;
 use words::{areas, reply};
 
 // The book that is compiled next: the index of its entry in area 12, or one from the count on where no book is ready; its file number; its document's place.
-#[derive(Drop)]
+#[derive(Clone, Copy)]
 pub struct Next {
     pub index: usize,
     pub file: u64,

@@ -317,7 +317,7 @@ pub(crate) fn missing(needed: &[u64], present: &[u64]) -> Found
 }
 
 // Where a document was found: those ahead of it have no number from its own up to `above`, so the next one's search goes on from there.
-#[derive(Drop)]
+#[derive(Clone, Copy)]
 pub struct Place {
     pub at: usize,
     pub above: u64,

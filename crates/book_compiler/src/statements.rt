@@ -91,7 +91,7 @@ fn found_or_zero(found: Found) -> u64
 }
 
 // Where a loop starts, and where the jump out of it stands.
-#[derive(Drop)]
+#[derive(Clone, Copy)]
 struct LoopEntry {
     first: usize,
     exit: usize,

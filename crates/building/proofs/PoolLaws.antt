@@ -54,11 +54,11 @@ marks_more : (gs : List ℕ) (i j : ℕ) (cs : List Constant) → j < length cs
 marks_more gs i j [] h = absurd (omega arith)
 marks_more gs i zero (c ∷ cs) h =
     let here : i + 0 ≡ i = omega arith in
-    rw (here, eq-eqb i i refl, marks_past i gs (i + 1) cs (omega arith))
+    rw (here, eq-eqb i i refl, marks_past (i + 0) gs (i + 1) cs (omega arith))
 marks_more gs i (suc j) (c ∷ cs) h =
     let next : i + suc j ≡ i + 1 + j = omega arith in
-    rw (ne_eqb (i + suc j) i (λ q. omega arith), next) (ap (λ (x : Entries). (c.kind ∷ c.value ∷ bit (has_text i gs) ∷ []) ∷ x)
-    (marks_more gs (i + 1) j cs (omega arith)))
+    rw (ne_eqb (i + suc j) i (λ q. omega arith)) (ap (λ (x : Entries). (c.kind ∷ c.value ∷ bit (has_text i gs) ∷ []) ∷ x)
+    (marks_more gs (i + 1) j cs (omega arith) ∙ ap (λ (k : ℕ). entries_from (constant_entry (k ∷ gs)) (i + 1) cs) (sym next)))
 
 -- a constant as area 2 has it
 constant_there : (gs : List ℕ) (cs : List Constant) {l : List ℕ} {n : ℕ} → Filled 3 l (entries_from (constant_entry gs) 0 cs) n

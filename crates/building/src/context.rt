@@ -20,7 +20,7 @@ const VALUE_MARK: usize = 2;
 const CONSTANT: usize = 3;
 
 // What `define_context_local` answers: the local, if it is new, then the first full area and how many context locals there are.
-#[derive(Drop)]
+#[derive(Clone, Copy)]
 pub struct ContextLocal {
     pub found: Found,
     pub full: u64,

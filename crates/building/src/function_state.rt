@@ -24,7 +24,7 @@ const MOST_DEPTH: usize = 18446744073709551615;
 // The Rust's `FunctionState`. Scopes and break scopes are flat: `names` and `breaks` count the live entries of areas 9 and 10, of which those from
 // `scope_base` and `break_base` on are the innermost's. `code`, `constants` and `errors` count areas 1, 2 and 11; the function's own code starts at
 // entry `base`. `full` is the first area that a step needed an entry beyond, 0 for none. `local_count` wraps at 2^64, which no book reaches.
-#[derive(Drop)]
+#[derive(Clone, Copy)]
 pub struct FunctionState {
     pub full: u64,
     pub code: usize,

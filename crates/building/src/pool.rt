@@ -17,7 +17,7 @@ const VALUE: usize = 1;
 const GLOBAL_MARK: usize = 2;
 
 // A constant's number, and the state.
-#[derive(Drop)]
+#[derive(Clone, Copy)]
 pub struct Added {
     pub index: u64,
     pub state: FunctionState,

@@ -13,14 +13,14 @@ const NAME: usize = 0;
 const LOCAL: usize = 1;
 
 // What a search finds.
-#[derive(Drop)]
+#[derive(Clone, Copy)]
 pub enum Found {
     At(u64),
     Nothing,
 }
 
 // What a search among names and locals of 32 bits finds: a local of 32 bits, nothing, or a local past 32 bits. `Beyond`: the area does not hold every entry.
-#[derive(Drop)]
+#[derive(Clone, Copy)]
 enum Narrow {
     At(u32),
     Nothing,
@@ -32,7 +32,7 @@ enum Narrow {
 const MOST_NARROW: u64 = 4294967295;
 
 // What `define_local` gives: the local's number, or nothing where the innermost scope has the name.
-#[derive(Drop)]
+#[derive(Clone, Copy)]
 pub struct Defined {
     pub found: Found,
     pub state: FunctionState,

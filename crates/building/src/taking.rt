@@ -5,7 +5,7 @@ ghost use Rattle.building.specs.Taking.{Took, start_of, given_up};
 use words::areas;
 
 // The first full area (0: none), and how many entries of this one are in use.
-#[derive(Drop)]
+#[derive(Clone, Copy)]
 pub struct Taken {
     pub full: u64,
     pub count: usize,

@@ -20,7 +20,7 @@ use words::reply::{AREA_FULL, BAD_LINE};
 
 // What a converter answers: the number of a refusal's row and its place, or 0 and 0, and how many records it converted.
 #[repr(C)]
-#[derive(Drop)]
+#[derive(Clone, Copy)]
 pub struct Converted {
     pub number: u64,
     pub place: usize,

@@ -33,7 +33,7 @@ pub const LINE_LENGTH: usize = VALUE_END + 1;
 pub const NEWLINE: u8 = 10;
 
 // What a line spells: a record's kind, span, position and value, or none.
-#[derive(Drop)]
+#[derive(Clone, Copy)]
 pub enum Line {
     Record(u64, u64, u64, u64),
     Bad,

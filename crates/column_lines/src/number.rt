@@ -30,7 +30,7 @@ const LEAST_TENTH: i64 = -922337203685477580;
 const LEAST_DIGIT: u64 = 8;
 
 // What a field spells.
-#[derive(Drop)]
+#[derive(Clone, Copy)]
 pub enum Number {
     Word(u64),
     Off,

@@ -1,6 +1,6 @@
 -- One lemma for each way through the routines that read the documents one after the other. Whatever is answered from here is answered from the start.
 -- Assumes nothing.
-use Prim.Native.Nat.{ℕ, zero, suc, ◌+◌, ◌/◌, ◌≤◌, ◌<◌}
+use Prim.Native.Nat.{ℕ, zero, suc, ◌+◌, ◌*◌, ◌/◌, ◌≤◌, ◌<◌}
 use native.Mathlib.Omega.{arith}
 use native.Mathlib.Decide.{ℕ_discrete}
 use mathlib.Core.Path.{◌≡◌, refl, sym, ap, subst, ◌∙◌}
@@ -208,6 +208,13 @@ module _ (tree : List ℕ) (j end : ℕ) (P : List ℕ → Type 0) where
           = q ∙ skip_law tree j end (head_d (IncludeDefinition index t l) u.0) (size_d_pos (IncludeDefinition index t l)) (omega arith) in
           let same : t.value ≡ file = ap (λ (x : Token). x.value) u.0.0.token ∙ sym v in
           rw same (p ds (rw nx u.1) (omega arith))
+      go (LocalDefinition _) s u e = elim s [ ]
+      go (ModelDefinition _ _) s u e = elim s [ ]
+      go (PublicModelDefinition _ _) s u e = elim s [ ]
+      go (PlainFunction _) s u e = elim s [ ]
+      go (PublicFunction _) s u e = elim s [ ]
+      go (ImplementDefinition _ _) s u e = elim s [ ]
+      go (ApplyDefinition _ _) s u e = elim s [ ]
 
 -- `add_includes`
 neither : (a b : Bool) → cond a true b ≡ false → (a ≡ false) × (b ≡ false)
@@ -408,7 +415,7 @@ needed_start tree end standing read set next {root} {set'} {next'} {after} v q a
       let n : d.filename ≡ root = (bundle_first w).file ∙ sym v in
       let one : set' ≡ add_bits standing set (d.filename ∷ []) = a.words ∙ rw n refl in
       N.needs files stands (d ∷ ds) (d ∷ ds) (insert_numbers files (d.filename ∷ []) []) w u w
-      (rw (one, add_bits_length standing set (d.filename ∷ [])) room)
+      (subst (λ (n : ℕ). InSets (n * 64) (d ∷ ds)) (sym (ap length one ∙ add_bits_length standing set (d.filename ∷ []))) room)
       (inserts_ascend files (d.filename ∷ []) [] tt) (inserts_below files (d.filename ∷ []) [] tt (w.numbers.0, tt))
       (rw one (set_adds set [] (d.filename ∷ []) stands s (room.0, tt))) (b.words ∙ rw (q, ← a.words))
       (covers_none standing read set' (d ∷ ds) e w.numbers);

@@ -445,12 +445,12 @@ covers_reached standing set (d ∷ ds) next w = go (bit_of set d.filename) refl 
 
     go : (t : Bool) → bit_of set d.filename ≡ t
         → ((next' : List ℕ) → Room next' ds → Covers standing set (reach_bits standing set ds next') ds)
-        → Covers standing set (reach_bits standing set (d ∷ ds) next) (d ∷ ds)
-    go true q r = rw q (
+        → Covers standing set (reach_bits standing set ds (cond t (add_bits standing next deps) next)) (d ∷ ds)
+    go true q r = (
       λ h. all_stay standing deps (reach_grows standing set ds (add_bits standing next deps) added) (all_of standing (add_bits standing next deps) deps there),
       r (add_bits standing next deps) added,
     )
-    go false q r = rw q (λ h. never (sym h), r next w.2)
+    go false q r = (λ h. never (sym h ∙ q), r next w.2)
 
 -- nothing new is reached: no further round finds more
 pub needed_still : (stand : List ℕ) (k : ℕ) (ds : List Document) (l : List ℕ) → reached_from stand ds l l ≡ l → needed_in k stand ds l ≡ l

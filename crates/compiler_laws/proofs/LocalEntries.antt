@@ -78,12 +78,13 @@ pub values_set : (vs : List Entry) (constant i j : ℕ) (ns : List Entry) → j 
 values_set vs constant i j [] h = absurd (omega arith)
 values_set vs constant i zero (n ∷ ns) h =
     let here : i + 0 ≡ i = omega arith in
-    rw (here, insert_found (record { name = i; index = constant }) vs, values_past (record { name = i; index = constant }) vs (i + 1) ns (omega arith))
+    rw (here, insert_found (record { name = i; index = constant }) vs, values_past (record { name = i + 0; index = constant }) vs (i + 1) ns (omega arith))
     (ap (λ (x : List ℕ). x ∷ entries_from (local_entry vs) (i + 1) ns) (words_set (find_name i vs) n.index n.name constant))
 values_set vs constant i (suc j) (n ∷ ns) h =
     let next : i + suc j ≡ i + 1 + j = omega arith in
-    rw (insert_other (record { name = i + suc j; index = constant }) vs i (λ q. omega arith), next)
-    (ap (λ (x : Entries). local_words (find_name i vs) n.index n.name ∷ x) (values_set vs constant (i + 1) j ns (omega arith)))
+    let more : ℕ → Entries = λ (k : ℕ). entries_from (local_entry (insert_entry (record { name = k; index = constant }) vs)) (i + 1) ns in
+    rw (insert_other (record { name = i + suc j; index = constant }) vs i (λ q. omega arith))
+    (ap (λ (x : Entries). local_words (find_name i vs) n.index n.name ∷ x) (values_set vs constant (i + 1) j ns (omega arith) ∙ ap more (sym next)))
 
 -- behind those that stood before
 pub table_set : (stood : Entries) (vs ns : List Entry) (constant i : ℕ) → length stood ≤ i → i < length stood + length ns

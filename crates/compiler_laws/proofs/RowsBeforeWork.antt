@@ -2,7 +2,7 @@
 use mathlib.Core.Bool.{Bool}
 use Prim.Native.Nat.{ℕ, ◌-◌, ◌*◌, ◌/◌}
 use native.Mathlib.Omega.{arith}
-use mathlib.Core.Path.{◌≡◌, refl, sym, ap, ◌∙◌}
+use mathlib.Core.Path.{◌≡◌, refl, sym, ap, subst, ◌∙◌}
 use mathlib.Core.Option.{Option, none, some}
 use mathlib.Core.List.{List, [], ◌∷◌}
 use lib.ListN.{length, replicate, length-replicate}
@@ -156,7 +156,7 @@ module _ (tree : List ℕ) {x : Shape} (Shape-is : x ≡ shape_of tree) (fine_is
                   bundle = rw (← end_is) bundled;
                   distinct = distinct;
                   chosen = chosen;
-                  room = rw kept (room (root ∷ others) bundled);
+                  room = subst (λ (n : ℕ). InSets (n * 64) (root ∷ others)) (sym kept) (room (root ∷ others) bundled);
                   there = there;
                   answers = λ c loaded lengths. so_far c loaded lengths ∙ rw there;
                 },

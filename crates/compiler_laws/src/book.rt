@@ -3,7 +3,7 @@
 // The book under compilation: the first full area, the entries in use of each area, the book's index, where its context locals and public names start,
 // the entry point, how many methods stood before the bundle (2026-01), and the mode (2026-07). Where the mark is `FIRST_NOT_PUBLIC` or more it is no
 // area's but row 11's.
-#[derive(Drop)]
+#[derive(Clone, Copy)]
 pub struct Book {
     pub full: u64,
     pub code: usize,

@@ -11,7 +11,7 @@ pub(crate) const KIND: usize = 0;
 pub(crate) const VALUE: usize = 1;
 
 // What a search answers: a constant's number, or that there is none.
-#[derive(Drop)]
+#[derive(Clone, Copy)]
 pub enum Found {
     At(u64),
     Nothing,

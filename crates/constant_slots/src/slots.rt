@@ -20,7 +20,7 @@ const LAST_PRIME: u64 = 4294967291;
 const MOST_WORD: u64 = 18446744073709551615;
 
 // What a search answers: the constant's number, and how many slots were looked at; 0 where the plain search answered.
-#[derive(Drop)]
+#[derive(Clone, Copy)]
 pub struct Looked {
     pub found: Found,
     pub looked: usize,

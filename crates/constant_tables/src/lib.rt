@@ -36,7 +36,7 @@ const MOST_LINES: usize = (MOST_RECORDS - 1) / DEFINITION_RECORDS;
 
 // What the way back answers: the number of a refusal's row and its place, or 0 and 0, how many lines were written, and the document's file number.
 #[repr(C)]
-#[derive(Drop)]
+#[derive(Clone, Copy)]
 pub struct Tabled {
     pub number: u64,
     pub place: usize,

@@ -22,7 +22,7 @@ const TABLE_INTEGER: u64 = 2;
 const TABLE_FLOAT: u64 = 3;
 
 // What a line spells: a constant's text, kind and value, or none.
-#[derive(Drop)]
+#[derive(Clone, Copy)]
 pub enum TableLine {
     Constant(u64, u64, u64),
     Bad,

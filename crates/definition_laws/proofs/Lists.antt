@@ -31,7 +31,7 @@ module _ {A : Type 0} where
   pub all_take : {P : A → Type 0} {l : List A} → All P l → (n : ℕ) → All P (take n l)
   all_take ps zero = nil
   all_take nil (suc n) = nil
-  all_take (p & ps) (suc n) = p & all_take ps n
+  all_take {l = x ∷ xs} (p & ps) (suc n) = p & all_take {l = xs} ps n
 
   pub cond_case : (P : A → Type 0) (b : Bool) {x y : A} → (T b → P x) → (T (not b) → P y) → P (cond b x y)
   cond_case P true f g = f tt

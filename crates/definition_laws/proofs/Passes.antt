@@ -82,7 +82,7 @@ bit_mark false = passes
 
 function_entries_lem : (start : ℕ) (fs : List Function) → All KnownFunction fs → All FunctionEntryKnown (function_entries start fs)
 function_entries_lem start [] nil = nil
-function_entries_lem start (f ∷ fs) (k & ks) = (bit_mark f.state.header.is_instance, k.name) & function_entries_lem _ fs ks
+function_entries_lem start (f ∷ fs) (k & ks) = (bit_mark f.state.header.is_instance, k.name) & function_entries_lem (start + length f.state.code.instructions) fs ks
 
 property_entries_lem : (i : ℕ) (ns : List ℕ) → All IsText ns → All NameKnown (property_entries i ns)
 property_entries_lem i [] nil = nil

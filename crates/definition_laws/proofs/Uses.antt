@@ -64,6 +64,7 @@ greatest_here area n us = go (eqb area area) (eqb_refl area)
   where
     go : (b : Bool) → T b → n ≤ max (cond b n 0) (greatest_use area us)
     go true t = omega arith
+    go false t = elim t [ ]
 
 each_greatest : (us : List Use) → All (λ (u : Use). u.count ≤ greatest_use u.area us) us
 each_greatest us = go us (λ a. le_refl _)

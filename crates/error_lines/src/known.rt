@@ -23,7 +23,7 @@ const VALUE: usize = 3;
 const SLOTS: usize = 24;
 
 // An error: its number, and its token's position, kind and value.
-#[derive(Drop)]
+#[derive(Clone, Copy)]
 pub struct ListedError {
     pub number: u64,
     pub position: u64,
@@ -137,7 +137,7 @@ pub fn is_known(error: ListedError) -> bool
 }
 
 // The index of an error, or none.
-#[derive(Drop)]
+#[derive(Clone, Copy)]
 pub enum Index {
     At(usize),
     Nothing,

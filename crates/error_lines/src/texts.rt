@@ -19,7 +19,7 @@ const FIRST_PRINTED: u8 = 32;
 const LAST_PRINTED: u8 = 126;
 
 // Where a text stands in the bytes: its start and its end.
-#[derive(Drop)]
+#[derive(Clone, Copy)]
 pub enum Part {
     From(usize, usize),
     Lacking,

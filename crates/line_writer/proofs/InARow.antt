@@ -6,7 +6,7 @@ use mathlib.Core.List.{List}
 use Prim.Native.Nat.{ℕ}
 use lib.ListN.{length}
 use base.Fml.{GName}
-use denote.Ref.{Bor}
+use denote.Ref.{MutBor}
 use Rattle.line_writer.specs.declared.writer.Writer.{Writer}
 use Rattle.line_writer.specs.declared.writer.Fields.{Fields}
 use Rattle.line_writer.specs.Placed.{Placed, number_at, byte_at}
@@ -21,8 +21,8 @@ pub record Then (F : Placed → Placed) (h r : Writer) : Type 0 where
 then_held : {F : Placed → Placed} {h r : Writer} {m : Placed} → held h ≡ m → Then F h r → held r ≡ F m
 then_held {F} before e = ap held e.is ∙ ap F before
 
-then_name : {F : Placed → Placed} {h r : Writer} {γ : GName} → h.buffer.name ≡ γ → Then F h r → r.buffer.name ≡ γ
-then_name before e = ap (λ (w : Writer). w.buffer.name) e.is ∙ before
+then_name : {F : Placed → Placed} {h r : Writer} {γ : GName} → h.buffer.ghost_name ≡ γ → Then F h r → r.buffer.ghost_name ≡ γ
+then_name before e = ap (λ (w : Writer). w.buffer.ghost_name) e.is ∙ before
 
 -- a line leaves the buffer as long as it is
 pub line_length_lem : (l : Fields) (m : Placed) → length (line_at l m).bytes ≡ length m.bytes
@@ -33,7 +33,7 @@ line_length_lem l m =
     ∙ (number_length field_width l.second false _ ∙ (number_length field_width l.first false _
     ∙ number_length section_width l.section false m)))))))
 
-module _ (x : Bor (List ℕ)) (n : ℕ) (l : Fields) (r₀ r₁ r₂ r₃ r₄ r₅ r₆ r₇ r₈ r₉ : Writer) (e₀ : r₀ ≡ begun x n)
+module _ (x : MutBor (List ℕ)) (n : ℕ) (l : Fields) (r₀ r₁ r₂ r₃ r₄ r₅ r₆ r₇ r₈ r₉ : Writer) (e₀ : r₀ ≡ begun x n)
     (e₁ : Then (number_at section_width false l.section) r₀ r₁) (e₂ : Then (field_at l.first) r₁ r₂) (e₃ : Then (field_at l.second) r₂ r₃)
     (e₄ : Then (field_at l.third) r₃ r₄) (e₅ : Then (field_at l.fourth) r₄ r₅) (e₆ : Then (field_at l.fifth) r₅ r₆)
     (e₇ : Then (field_at l.sixth) r₆ r₇) (e₈ : Then (number_at last_width l.signed l.last) r₇ r₈) (e₉ : Then (byte_at newline) r₈ r₉) where
@@ -42,9 +42,9 @@ module _ (x : Bor (List ℕ)) (n : ℕ) (l : Fields) (r₀ r₁ r₂ r₃ r₄ r
   line_held =
       then_held (then_held (then_held (then_held (then_held (then_held (then_held (then_held (then_held (ap held e₀) e₁) e₂) e₃) e₄) e₅) e₆) e₇) e₈) e₉
 
-  pub line_name : r₉.buffer.name ≡ x.name
+  pub line_name : r₉.buffer.ghost_name ≡ x.ghost_name
   line_name =
-      then_name (then_name (then_name (then_name (then_name (then_name (then_name (then_name (then_name (ap (λ (w : Writer). w.buffer.name) e₀) e₁) e₂) e₃)
+      then_name (then_name (then_name (then_name (then_name (then_name (then_name (then_name (then_name (ap (λ (w : Writer). w.buffer.ghost_name) e₀) e₁) e₂) e₃)
       e₄) e₅) e₆) e₇) e₈) e₉
 
 -- the same of the column writer on slice and offset

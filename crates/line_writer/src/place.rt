@@ -5,7 +5,7 @@ ghost use Rattle.line_writer.specs.Placed.{placed, number_at, byte_at};
 use column_lines::number::write_number;
 
 // Where the next byte goes, and whether all before it had room and was no wider than its field.
-#[derive(Drop)]
+#[derive(Clone, Copy)]
 pub struct Place {
     pub offset: usize,
     pub fits: bool,

@@ -23,7 +23,7 @@ pub struct Writer<'a> {
 }
 
 // What a line says. The last field alone may be signed.
-#[derive(Drop)]
+#[derive(Clone, Copy)]
 pub struct Fields {
     pub section: u64,
     pub first: u64,

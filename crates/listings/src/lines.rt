@@ -49,7 +49,7 @@ pub const ERROR: u64 = 11;
 const UNKNOWN: u64 = 0xFF;
 
 // The sections that list the entries of one area; of instructions, those of one function.
-#[derive(Drop)]
+#[derive(Clone, Copy)]
 pub enum Section {
     Functions,
     Instructions(u64),

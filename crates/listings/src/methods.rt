@@ -7,7 +7,7 @@ ghost use Rattle.listings.specs.Selecting.{is_above, is_less, lesser, least_from
 use words::areas::{METHOD_WORDS, entry_word};
 
 // A method by its entry, or none.
-#[derive(Drop)]
+#[derive(Clone, Copy)]
 pub enum Method {
     Entry(usize),
     Over,

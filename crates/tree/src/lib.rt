@@ -68,14 +68,14 @@ const WORD: u64 = 1 << 7;
 const MOST: u64 = 1 << 8;
 
 // What a bundle is: fine, or refused by a row of 01 at a place.
-#[derive(Drop)]
+#[derive(Clone, Copy)]
 pub enum Shape {
     Fine,
     Refused(u64, usize),
 }
 
 // What a run of records is: gone through, with the number of kind 41 met so far (0: none), or at fault by a row at a place.
-#[derive(Drop)]
+#[derive(Clone, Copy)]
 pub enum Outcome {
     Went(u64),
     Fault(u64, usize),

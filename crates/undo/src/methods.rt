@@ -31,7 +31,7 @@ const HIGH_PART: u64 = 4503599627370496;
 const MIDDLES: u64 = 256;
 
 // The words of a method.
-#[derive(Drop)]
+#[derive(Clone, Copy)]
 struct Method {
     model: u64,
     name: u64,

@@ -46,7 +46,7 @@ const INFINITY_BITS: u64 = 9218868437227405312;
 const NAN_BITS: u64 = 9221120237041090560;
 
 // `Object`, of which a pool has these cases.
-#[derive(Drop)]
+#[derive(Clone, Copy)]
 pub enum Constant {
     Null,
     Boolean(bool),
@@ -58,7 +58,7 @@ pub enum Constant {
 }
 
 // What two words of the pool are.
-#[derive(Drop)]
+#[derive(Clone, Copy)]
 pub enum Decoded {
     Is(Constant),
     NoConstant,

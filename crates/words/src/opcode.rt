@@ -32,11 +32,11 @@ pub const OPERATION_OR: u64 = 258;
 pub const OPCODE_UNIT: u64 = 72057594037927936;
 
 // A word of code. Only `OpCode::to_instruction` makes one, so that it is not confused with an operand or an index.
-#[derive(Drop)]
+#[derive(Clone, Copy)]
 pub struct Instruction(u64);
 
 // Their numbers are those of `number_of`.
-#[derive(Drop)]
+#[derive(Clone, Copy)]
 pub enum OpCode {
     Pop,
     PushConstant,

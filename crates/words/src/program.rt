@@ -28,7 +28,7 @@ pub const FILE: usize = 6;
 pub const NAME: usize = 7;
 
 // `Function`: the words of an entry of area 3, in their order.
-#[derive(Drop)]
+#[derive(Clone, Copy)]
 pub struct FunctionRecord {
     pub parameters: u64,
     pub locals: u64,

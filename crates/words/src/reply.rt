@@ -59,7 +59,7 @@ const AREA_COUNT: usize = 13;
 // How many entries each area holds, the function that is the entry point, how many constants are global dependencies, and how many bundles were delivered
 // into the program (2026-08).
 #[repr(C)]
-#[derive(Drop)]
+#[derive(Clone, Copy)]
 pub struct Totals {
     pub code: u64,
     pub constants: u64,
@@ -80,7 +80,7 @@ pub struct Totals {
 
 // The number of a refusal's row, or 0, with its place, and the totals.
 #[repr(C)]
-#[derive(Drop)]
+#[derive(Clone, Copy)]
 pub struct Reply {
     pub number: u64,
     pub place: u64,

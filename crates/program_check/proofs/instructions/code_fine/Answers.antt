@@ -1,0 +1,10 @@
+-- `code_fine` meets its contract, word by word. Assumes nothing.
+use Rattle.program_check.proofs.InstructionTests.{code_fine}
+use borrow.Author.Rules.{rules}
+use Rattle.program_check.proofs.instructions.code_fine.Goals as goal
+
+pub returns : goal.returns
+returns c =
+    code_fine c.args.code.now c.args.i c.args.totals c.entry_word-word.ensures c.entry_word-position.ensures c.class_of-class.ensures
+    c.implies-pool.ensures c.implies-context.ensures
+    c.is_operation.ensures c.implies-operation.ensures c.is_opcode.ensures c.in_place.ensures

@@ -1,0 +1,17 @@
+-- `keys_differ` meets its contract. The invariant: no entry of the shares below has the key of one before it. The measure: the shares left. Assumes nothing.
+use Prim.Native.Nat.{◌-◌, ◌≤◌}
+use lib.Dec.{T}
+use Rattle.definition.specs.Within.{all_below}
+use Rattle.program_check.specs.Keys.{share_fresh}
+use Rattle.program_check.proofs.KeyPlaces.{shares_turn, shares_no, shares_done}
+use borrow.Author.Rules.{rules}
+use native.Mathlib.Omega.{arith}
+use mathlib.Core.Path.{ap}
+use mathlib.Core.Bool.{not}
+use Rattle.program_check.proofs.keys.keys_differ.Given as goal
+
+abbrev pub invariant-loop-share : goal.invariant-loop-share
+invariant-loop-share l = (l.share ≤ l.shares) × T (all_below l.share (share_fresh l.width l.first l.second l.words l.total l.shares))
+
+abbrev pub decreases-loop-share : goal.decreases-loop-share
+decreases-loop-share l = l.shares - l.share

@@ -1,0 +1,25 @@
+-- `inside` and `walk` meet their contracts. The invariant: what the pass gives from the entry is what it gives from here on. The measure, of the loop and
+-- of the calls: the records left; `walk` counts one more than `inside`. Assumes nothing.
+use mathlib.Core.Path.{◌≡◌, refl, sym, ◌∙◌}
+use Prim.Native.Nat.{◌≤◌, ◌-◌, ◌+◌, ◌*◌, ℕ, ◌<◌}
+use Rattle.tree.specs.Check.{walk_of}
+use Rattle.tree.specs.Children.{blamed}
+use Rattle.tree.proofs.Lacking.{blame_done, inside_low, inside_on, walk_fails, walk_span, walk_found, walk_past}
+use borrow.Author.Rules.{rules}
+use native.Mathlib.Omega.{arith}
+use mathlib.Core.Path.{ap}
+use mathlib.Core.Bool.{not}
+use Rattle.tree.proofs.+inside_walk.Given as goal
+
+abbrev pub decreases-walk : goal.decreases-walk
+decreases-walk l = 2 * (l.end - l.at) + 1
+
+abbrev pub decreases-inside : goal.decreases-inside
+decreases-inside l = 2 * (l.end - l.at)
+
+abbrev pub invariant-walk-loop-i : goal.invariant-walk-loop-i
+invariant-walk-loop-i l = (l.at ≤ l.i) × (blamed l.tree l.slot l.parent l.at l.end
+    (walk_of l.tree l.slot l.level l.this l.at l.end) ≡ blamed l.tree l.s l.parent l.i l.end (walk_of l.tree l.s l.level l.t l.i l.end))
+
+abbrev pub decreases-walk-loop-i : goal.decreases-walk-loop-i
+decreases-walk-loop-i l = l.end - l.i

@@ -1,0 +1,16 @@
+-- `undo::methods::method_model` meets its contract, by its tests. Assumes nothing.
+use Rattle.undo.proofs.MethodWords.{model_later, model_broken, model_stood}
+use borrow.Author.Rules.{rules}
+use Rattle.undo.proofs.methods.method_model.Goals as goal
+
+pub returns-then-stood-i : goal.returns-then-stood-i
+returns-then-stood-i c = model_later c.args.stood c.args.i c.args.methods.now
+    c.entry_word-word.ensures c.if-stood-i.true
+
+pub returns-then-methods-i : goal.returns-then-methods-i
+returns-then-methods-i c = model_broken c.args.stood c.args.i
+    c.args.methods.now c.entry_word-word.ensures c.if-methods-i.true
+
+pub returns : goal.returns
+returns c = model_stood c.args.stood c.args.i
+    c.args.methods.now c.entry_word-word.ensures c.if-stood-i.false c.if-methods-i.false
