@@ -6,19 +6,22 @@
 // end.
 #![tactic(auto)]
 
-ghost use Rattle.std.specs.Prelude.{◌≤◌, length};
+ghost use Rattle.std.specs.Prelude.{◌≤◌, length, IfOk};
 
 use book_compiler::{commit, compile, lay_on, trial};
 use case_numbers::parse;
-use libc::{STDIN_FILENO, STDOUT_FILENO};
+use reading::read_full;
+use std::io;
+use std::io::Read;
 use words::reply::{BAD_SHAPE, Reply, Totals};
 
 // What `next` answers.
-const AS_STORED: u64 = 0;
-
-const DIFFERS: u64 = 1;
-
-const NO_CASE: u64 = 2;
+#[derive(Clone, Copy, PartialEq, Eq)]
+enum Answer {
+    AsStored,
+    Differs,
+    NoCase,
+}
 
 // The first call that lays on, the first on trial, and the first that commits.
 const LAY_ON: u64 = 2;
@@ -50,12 +53,12 @@ const PROGRAM_PLACE: u64 = 1048576;
 // A place past every number.
 const NOWHERE: usize = 18446744073709551615;
 
-fn say(text: &[u8]) {
-    io::write_all(STDOUT_FILENO, text);
+fn say(rt: &impl Print, text: &[u8]) -> io::Result<()> {
+    rt.write_all(text)
 }
 
-fn say_number(n: u64) {
-    io::print_decimal(STDOUT_FILENO, n);
+fn say_number(rt: &impl Print, n: u64) -> io::Result<()> {
+    rt.print(n)
 }
 
 // The number at a place; 0 outside.
@@ -93,38 +96,44 @@ fn stored(numbers: &[u64], at: usize, n: u64, i: usize, past: u64) -> u64 {
     past
 }
 
-fn say_difference(part: u64, i: usize, is: u64, was: u64) {
-    say(b"  part ");
-    say_number(part);
-    say(b", word ");
-    say_number(i as u64);
-    say(b": ");
-    say_number(is);
-    say(b", stored ");
-    say_number(was);
-    say(b"\n");
+fn say_difference(rt: &impl Print, part: u64, i: usize, is: u64, was: u64) -> io::Result<()> {
+    say(rt, b"  part ")?;
+    say_number(rt, part)?;
+    say(rt, b", word ")?;
+    say_number(rt, i as u64)?;
+    say(rt, b": ")?;
+    say_number(rt, is)?;
+    say(rt, b", stored ")?;
+    say_number(rt, was)?;
+    say(rt, b"\n")
 }
 
 // The words of a part, 0 the reply, 13 what is left over and else an area, are the n that stand after a place, and past them another.
-fn same(part: u64, words: &[u64], numbers: &[u64], at: usize, n: u64, past: u64) -> bool {
+fn same(
+    rt: &impl Print,
+    part: u64,
+    words: &[u64],
+    numbers: &[u64],
+    at: usize,
+    n: u64,
+    past: u64,
+) -> io::Result<bool> {
     if (words.len() as u64) < n {
-        say_difference(part, words.len(), 0, n);
-        return false;
+        say_difference(rt, part, words.len(), 0, n)?;
+        return Ok(false);
     }
-    let mut i: usize = 0;
-    while i < words.len() {
+    for (i, word) in words.iter().enumerate() {
         let was = stored(numbers, at, n, i, past);
-        if words[i] != was {
-            say_difference(part, i, words[i], was);
-            return false;
+        if *word != was {
+            say_difference(rt, part, i, *word, was)?;
+            return Ok(false);
         }
-        i += 1;
     }
-    true
+    Ok(true)
 }
 
 // The reply is the words after a place.
-fn same_reply(reply: Reply, numbers: &[u64], at: usize) -> bool {
+fn same_reply(rt: &impl Print, reply: Reply, numbers: &[u64], at: usize) -> io::Result<bool> {
     let totals = reply.totals;
     let words = [
         reply.number,
@@ -145,7 +154,7 @@ fn same_reply(reply: Reply, numbers: &[u64], at: usize) -> bool {
         totals.global_dependencies,
         totals.bundles,
     ];
-    same(0, &words, numbers, at, REPLY_WORDS, 0)
+    same(rt, 0, &words, numbers, at, REPLY_WORDS, 0)
 }
 
 // Where a part of so many words ends that starts in a memory of so many: a length that passes the memory's end is cut there.
@@ -161,38 +170,43 @@ fn end_of(start: usize, words: usize, size: usize) -> usize
 
 // The areas of these lengths, which stand from a place on, follow each other in the memory and are the lists from another place on, and then zeros; what is
 // left over is one word again and again, and no number stands after the lists.
-fn same_areas(memory: &[u64], numbers: &[u64], lengths: usize, lists: usize, left: u64) -> bool
+fn same_areas(
+    rt: &impl Print,
+    memory: &[u64],
+    numbers: &[u64],
+    lengths: usize,
+    lists: usize,
+    left: u64,
+) -> io::Result<bool>
     requires { lengths ≤ 1024 }
 {
     let size = memory.len();
     let mut fine = true;
-    let mut area: u64 = 0;
     let mut start: usize = 0;
     let mut list = lists;
-    while area < AREAS {
+    for area in 0..AREAS {
         let words = number_at(numbers, lengths + area as usize) as usize;
         let end = end_of(start, words, size);
         let n = number_at(numbers, list);
-        area += 1;
-        let is = same(area, &memory[start..end], numbers, list, n, 0);
+        let is = same(rt, area + 1, &memory[start..end], numbers, list, n, 0)?;
         fine = fine && is;
         start = end;
         list = after(numbers, list);
     }
-    let rest = same(area + 1, &memory[start..], numbers, 0, 0, left);
+    let rest = same(rt, AREAS + 1, &memory[start..], numbers, 0, 0, left)?;
     if list != numbers.len() {
-        say(b"  the numbers end elsewhere\n");
-        return false;
+        say(rt, b"  the numbers end elsewhere\n")?;
+        return Ok(false);
     }
-    fine && rest
+    Ok(fine && rest)
 }
 
-fn say_reply(reply: Reply) {
-    say(b": row ");
-    say_number(reply.number);
-    say(b", place ");
-    say_number(reply.place);
-    say(b"\n");
+fn say_reply(rt: &impl Print, reply: Reply) -> io::Result<()> {
+    say(rt, b": row ")?;
+    say_number(rt, reply.number)?;
+    say(rt, b", place ")?;
+    say_number(rt, reply.place)?;
+    say(rt, b"\n")
 }
 
 // The lengths of the areas, from a place on.
@@ -240,10 +254,8 @@ fn totals_at(numbers: &[u64], at: usize) -> Totals
 
 // The n words that stand after a place are put into an area, and then zeros.
 fn put(words: &mut [u64], numbers: &[u64], at: usize, n: u64) {
-    let mut i: usize = 0;
-    while i < words.len() {
-        words[i] = stored(numbers, at, n, i, 0);
-        i += 1;
+    for (i, word) in words.iter_mut().enumerate() {
+        *word = stored(numbers, at, n, i, 0);
     }
 }
 
@@ -252,10 +264,9 @@ fn put_areas(memory: &mut [u64], numbers: &[u64], lengths: usize, lists: usize) 
     requires { (lengths ≤ 1024) × (1 ≤ lists) }
     ensures { 1 ≤ result }
 {
-    let mut area: u64 = 0;
     let mut start: usize = 0;
     let mut list = lists;
-    while area < AREAS {
+    for area in 0..AREAS {
         let words = number_at(numbers, lengths + area as usize) as usize;
         let end = end_of(start, words, memory.len());
         put(
@@ -264,7 +275,6 @@ fn put_areas(memory: &mut [u64], numbers: &[u64], lengths: usize, lists: usize) 
             list,
             number_at(numbers, list),
         );
-        area += 1;
         start = end;
         list = after(numbers, list);
     }
@@ -273,28 +283,36 @@ fn put_areas(memory: &mut [u64], numbers: &[u64], lengths: usize, lists: usize) 
 
 // What a call must leave: the reply after a place, and the lists behind it for the areas whose lengths stand from another place on.
 fn as_stored(
+    rt: &impl Print,
     reply: Reply,
     memory: &[u64],
     numbers: &[u64],
     lengths: usize,
     at: usize,
     left: u64,
-) -> bool
+) -> io::Result<bool>
     requires { (lengths ≤ 1024) × (at ≤ 2048) }
 {
-    say_reply(reply);
-    let is_reply = same_reply(reply, numbers, at);
-    let are_areas = same_areas(memory, numbers, lengths, at + 18, left);
-    is_reply && are_areas
+    say_reply(rt, reply)?;
+    let is_reply = same_reply(rt, reply, numbers, at)?;
+    let are_areas = same_areas(rt, memory, numbers, lengths, at + 18, left)?;
+    Ok(is_reply && are_areas)
 }
 
 // The compile call with lengths that stand from a place on; the reply stands after the last.
-fn judge_compile(tree: &[u64], strict: bool, memory: &mut [u64], numbers: &[u64], at: usize) -> bool
+fn judge_compile(
+    rt: &impl Print,
+    tree: &[u64],
+    strict: bool,
+    memory: &mut [u64],
+    numbers: &[u64],
+    at: usize,
+) -> io::Result<bool>
     requires { at ≤ 1024 }
 {
     let lengths = lengths_at(numbers, at);
     let reply = compile(tree, strict, lengths, memory);
-    as_stored(reply, memory, numbers, at, at + 11, 0)
+    as_stored(rt, reply, memory, numbers, at, at + 11, 0)
 }
 
 // What the slots must hold after a call on a program, where the reply stands after a place: the program check comes first, and writes nothing.
@@ -342,125 +360,153 @@ fn ask(
 // A call on the program that is in the memory, with lengths that stand from a place on, behind them the totals of the program and of a commit those of its
 // trial. The reply stands after another place.
 fn judge_asked(
+    rt: &impl Print,
     tree: &[u64],
     call: u64,
     memory: &mut [u64],
     numbers: &[u64],
     at: usize,
     last: usize,
-) -> bool
+) -> io::Result<bool>
     requires { (at ≤ 1024) × (last ≤ 1024) }
 {
     let lengths = lengths_at(numbers, at);
     let standing = totals_at(numbers, at + 12);
     let tried = totals_at(numbers, at + 27);
     let reply = ask(tree, call, standing, tried, lengths, memory);
-    as_stored(reply, memory, numbers, at, last, slots_left(numbers, last))
+    as_stored(
+        rt,
+        reply,
+        memory,
+        numbers,
+        at,
+        last,
+        slots_left(numbers, last),
+    )
 }
 
 // A call on a program: behind the lengths and the totals stand the areas of the program, and then the reply.
-fn judge_on_program(tree: &[u64], call: u64, memory: &mut [u64], numbers: &[u64], at: usize) -> bool
+fn judge_on_program(
+    rt: &impl Print,
+    tree: &[u64],
+    call: u64,
+    memory: &mut [u64],
+    numbers: &[u64],
+    at: usize,
+) -> io::Result<bool>
     requires { at ≤ 1024 }
 {
     let end = put_areas(memory, numbers, at, lists_at(call, at));
     if end > MOST_NUMBERS {
-        say(b"  no case\n");
-        return false;
+        say(rt, b"  no case\n")?;
+        return Ok(false);
     }
-    judge_asked(tree, call, memory, numbers, at, end - 1)
+    judge_asked(rt, tree, call, memory, numbers, at, end - 1)
 }
 
 // Lends a memory of so many words.
-fn lend(tree: &[u64], call: u64, size: usize, numbers: &[u64], at: usize) -> bool
+fn lend(
+    rt: &impl Print,
+    tree: &[u64],
+    call: u64,
+    size: usize,
+    numbers: &[u64],
+    at: usize,
+) -> io::Result<bool>
     requires { (at ≤ 1024) × (size ≤ 6144) }
 {
     let mut memory = [7777777; 6144];
     if call < LAY_ON {
-        return judge_compile(tree, call % 2 == 1, &mut memory[0..size], numbers, at);
+        return judge_compile(rt, tree, call % 2 == 1, &mut memory[0..size], numbers, at);
     }
-    judge_on_program(tree, call, &mut memory[0..size], numbers, at)
+    judge_on_program(rt, tree, call, &mut memory[0..size], numbers, at)
 }
 
-fn case_in(call: u64, size: u64, numbers: &[u64]) -> u64 {
+fn case_in(rt: &impl Print, call: u64, size: u64, numbers: &[u64]) -> io::Result<Answer> {
     let end = after(numbers, 0);
     if end > MOST_NUMBERS {
-        say(b"  no case\n");
-        return DIFFERS;
+        say(rt, b"  no case\n")?;
+        return Ok(Answer::Differs);
     }
     if end > numbers.len() {
-        say(b"  no case\n");
-        return DIFFERS;
+        say(rt, b"  no case\n")?;
+        return Ok(Answer::Differs);
     }
     if size > MOST_MEMORY {
-        say(b"  no room\n");
-        return DIFFERS;
+        say(rt, b"  no room\n")?;
+        return Ok(Answer::Differs);
     }
-    if lend(&numbers[1..end], call, size as usize, numbers, end) {
-        return AS_STORED;
+    if lend(rt, &numbers[1..end], call, size as usize, numbers, end)? {
+        return Ok(Answer::AsStored);
     }
-    DIFFERS
+    Ok(Answer::Differs)
 }
 
 // The first number is the call: 0 the compile call, 2 laying on, 4 a trial, 6 a commit, and one more in strict mode. The second is the words of the memory.
-fn case(numbers: &[u64]) -> u64 {
+fn case(rt: &impl Print, numbers: &[u64]) -> io::Result<Answer> {
     let end = numbers.len();
     if end < 2 {
-        say(b"  no case\n");
-        return DIFFERS;
+        say(rt, b"  no case\n")?;
+        return Ok(Answer::Differs);
     }
     let call = number_at(numbers, 0);
     let size = number_at(numbers, 1);
-    case_in(call, size, &numbers[2..end])
+    case_in(rt, call, size, &numbers[2..end])
 }
 
-fn read_name(name: &mut [u8]) {
-    let n = io::read_full(STDIN_FILENO, name);
-    say(&name[..n]);
+fn read_name(rt: &impl Print, input: &mut impl Read, name: &mut [u8]) -> io::Result<()> {
+    let n = read_full(input, name)?;
+    say(rt, &name[..n])
 }
 
-fn read_numbers(text: &mut [u8], numbers: &mut [u64]) -> usize
-    ensures { result ≤ length numbers.new }
+fn read_numbers(input: &mut impl Read, text: &mut [u8], numbers: &mut [u64]) -> io::Result<usize>
+    ensures { IfOk result (λ n. n ≤ length numbers.new) }
 {
-    let n = io::read_full(STDIN_FILENO, text);
-    parse(&text[..n], numbers)
+    let n = read_full(input, text)?;
+    Ok(parse(&text[..n], numbers))
 }
 
 // Reads a case, given the bytes of its name and of its numbers, and judges it.
-fn read_case(name_size: u64, text_size: u64) -> u64 {
+fn read_case(
+    rt: &impl Print,
+    input: &mut impl Read,
+    name_size: u64,
+    text_size: u64,
+) -> io::Result<Answer> {
     if name_size > MOST_NAME {
-        return NO_CASE;
+        return Ok(Answer::NoCase);
     }
     if text_size > MOST_TEXT {
-        return NO_CASE;
+        return Ok(Answer::NoCase);
     }
     let name_end = name_size as usize;
     let text_end = text_size as usize;
     let mut name = [0; 256];
-    read_name(&mut name[0..name_end]);
+    read_name(rt, input, &mut name[0..name_end])?;
     let mut text = [0; 8192];
     let mut numbers = [0; 1024];
-    let count = read_numbers(&mut text[0..text_end], &mut numbers);
-    case(&numbers[0..count])
+    let count = read_numbers(input, &mut text[0..text_end], &mut numbers)?;
+    case(rt, &numbers[0..count])
 }
 
 // The next case, if there is one.
-fn next() -> u64 {
+fn next(rt: &impl Print, input: &mut impl Read) -> io::Result<Answer> {
     let mut head = [0; 12];
-    let got = io::read_full(STDIN_FILENO, &mut head);
+    let got = read_full(input, &mut head)?;
     if got < 12 {
-        return NO_CASE;
+        return Ok(Answer::NoCase);
     }
     let mut sizes = [0; 2];
     let count = parse(&head, &mut sizes);
     if count < 2 {
-        return NO_CASE;
+        return Ok(Answer::NoCase);
     }
-    read_case(sizes[0], sizes[1])
+    read_case(rt, input, sizes[0], sizes[1])
 }
 
 // One more where a case differs.
-fn count(differ: u64, answer: u64) -> u64 {
-    if answer == DIFFERS {
+fn count(differ: u64, answer: Answer) -> u64 {
+    if answer == Answer::Differs {
         if differ < MOST_CASES {
             return differ + 1;
         }
@@ -468,24 +514,22 @@ fn count(differ: u64, answer: u64) -> u64 {
     differ
 }
 
-fn end(cases: u64, differ: u64) {
-    say_number(cases);
-    say(b" cases, ");
-    say_number(differ);
-    say(b" differ\n");
+fn end(rt: &impl Print, cases: u64, differ: u64) -> io::Result<()> {
+    say_number(rt, cases)?;
+    say(rt, b" cases, ")?;
+    say_number(rt, differ)?;
+    say(rt, b" differ\n")
 }
 
-fn main() {
-    let mut cases = 0;
+fn main(rt: HostRuntime) -> io::Result<()> {
+    let mut input = rt.stdin();
     let mut differ = 0;
-    while cases < MOST_CASES {
-        let answer = next();
-        if answer == NO_CASE {
-            end(cases, differ);
-            return;
+    for cases in 0..MOST_CASES {
+        let answer = next(&rt, &mut input)?;
+        if answer == Answer::NoCase {
+            return end(&rt, cases, differ);
         }
         differ = count(differ, answer);
-        cases += 1;
     }
-    end(cases, differ);
+    end(&rt, MOST_CASES, differ)
 }

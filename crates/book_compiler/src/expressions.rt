@@ -143,7 +143,7 @@ fn leaf(
 }
 
 // `compile_expression`
-#[cycle(compile_assign_expression_left_part_compile_expression_compile_if_expression_compile_infix_expression_compile_block_compile_for_statement_compile_statement)]
+#[cycle(statements_and_expressions)]
 pub(crate) fn compile_expression(
     tree: &[u64],
     at: usize,
@@ -202,7 +202,7 @@ pub(crate) fn compile_expression(
 }
 
 // `compile_infix_expression`: its sides stand from `at` on; `position` and `value` are the infix's.
-#[cycle(compile_assign_expression_left_part_compile_expression_compile_if_expression_compile_infix_expression_compile_block_compile_for_statement_compile_statement)]
+#[cycle(statements_and_expressions)]
 fn compile_infix_expression(
     tree: &[u64],
     at: usize,
@@ -259,7 +259,7 @@ fn compile_infix_expression(
 }
 
 // `compile_assign_expression_left_part`: `position` and `value` are the assignment's.
-#[cycle(compile_assign_expression_left_part_compile_expression_compile_if_expression_compile_infix_expression_compile_block_compile_for_statement_compile_statement)]
+#[cycle(statements_and_expressions)]
 fn compile_assign_expression_left_part(
     tree: &[u64],
     at: usize,
@@ -339,7 +339,7 @@ fn compile_assign_expression_left_part(
 }
 
 // `compile_if_expression`: the condition and the parts stand from `at` on. The false part comes before the true part.
-#[cycle(compile_assign_expression_left_part_compile_expression_compile_if_expression_compile_infix_expression_compile_block_compile_for_statement_compile_statement)]
+#[cycle(statements_and_expressions)]
 fn compile_if_expression(
     tree: &[u64],
     at: usize,

@@ -150,7 +150,7 @@ fn end_loop(
 }
 
 // `compile_statement`: one deeper, and back.
-#[cycle(compile_assign_expression_left_part_compile_expression_compile_if_expression_compile_infix_expression_compile_block_compile_for_statement_compile_statement)]
+#[cycle(statements_and_expressions)]
 pub(crate) fn compile_statement(
     tree: &[u64],
     at: usize,
@@ -246,7 +246,7 @@ pub(crate) fn compile_statement(
 }
 
 // A part of an if: its statements in a scope, then their value; null where there is no part.
-#[cycle(compile_assign_expression_left_part_compile_expression_compile_if_expression_compile_infix_expression_compile_block_compile_for_statement_compile_statement)]
+#[cycle(statements_and_expressions)]
 pub(crate) fn compile_block(
     tree: &[u64],
     at: usize,
@@ -277,7 +277,7 @@ pub(crate) fn compile_block(
 }
 
 // `compile_for_statement`: the name, the expression and the statements stand from `at` on; `position` is the for's.
-#[cycle(compile_assign_expression_left_part_compile_expression_compile_if_expression_compile_infix_expression_compile_block_compile_for_statement_compile_statement)]
+#[cycle(statements_and_expressions)]
 fn compile_for_statement(
     tree: &[u64],
     at: usize,

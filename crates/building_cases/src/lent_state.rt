@@ -7,6 +7,7 @@ ghost use Rattle.emitters.specs.Function.{function, function_c};
 use crate::lines;
 use building::function_state::FunctionState;
 use building::{function_state, scopes};
+use std::io;
 use words::opcode::{Instruction, OpCode};
 
 const MOST_CODE: usize = 20;
@@ -31,139 +32,166 @@ fn one_instruction(
     function_state::emit_return(code, e, position)
 }
 
-fn show_truth(name: &[u8], b: bool) {
+fn show_truth(rt: &impl Print, name: &[u8], b: bool) -> io::Result<()> {
     if b {
-        lines::answer(name, 1);
+        lines::answer(rt, name, 1)?;
     } else {
-        lines::answer(name, 0);
+        lines::answer(rt, name, 0)?;
     }
+    Ok(())
 }
 
-fn show_counts(state: FunctionState) {
-    lines::answer(b"full", state.full);
-    lines::answer(b"code", state.code as u64);
-    lines::answer(b"constants", state.constants as u64);
-    lines::answer(b"names", state.names as u64);
-    lines::answer(b"breaks", state.breaks as u64);
-    lines::answer(b"errors", state.errors as u64);
+fn show_counts(rt: &impl Print, state: FunctionState) -> io::Result<()> {
+    lines::answer(rt, b"full", state.full)?;
+    lines::answer(rt, b"code", state.code as u64)?;
+    lines::answer(rt, b"constants", state.constants as u64)?;
+    lines::answer(rt, b"names", state.names as u64)?;
+    lines::answer(rt, b"breaks", state.breaks as u64)?;
+    lines::answer(rt, b"errors", state.errors as u64)
 }
 
-fn show_state(state: FunctionState) {
-    show_counts(state);
-    lines::answer(b"base", state.base as u64);
-    lines::answer(b"scope base", state.scope_base as u64);
-    lines::answer(b"break base", state.break_base as u64);
-    show_truth(b"in a loop", state.in_loop);
-    lines::answer(b"depth", state.depth as u64);
-    lines::answer(b"rescue", state.rescue_position as u64);
-    show_truth(b"instance", state.is_instance);
-    lines::answer(b"parameters", state.parameter_count as u64);
-    lines::answer(b"locals", state.local_count);
+fn show_state(rt: &impl Print, state: FunctionState) -> io::Result<()> {
+    show_counts(rt, state)?;
+    lines::answer(rt, b"base", state.base as u64)?;
+    lines::answer(rt, b"scope base", state.scope_base as u64)?;
+    lines::answer(rt, b"break base", state.break_base as u64)?;
+    show_truth(rt, b"in a loop", state.in_loop)?;
+    lines::answer(rt, b"depth", state.depth as u64)?;
+    lines::answer(rt, b"rescue", state.rescue_position as u64)?;
+    show_truth(rt, b"instance", state.is_instance)?;
+    lines::answer(rt, b"parameters", state.parameter_count as u64)?;
+    lines::answer(rt, b"locals", state.local_count)
 }
 
-fn show_line(form: &[u8], state: FunctionState, code: &[u64], names: &[u64]) {
-    lines::say(form);
-    show_state(state);
-    lines::say(b", area 1");
-    lines::words(code);
-    lines::say(b", area 9");
-    lines::words(names);
-    lines::say(b"\n");
+fn show_line(
+    rt: &impl Print,
+    form: &[u8],
+    state: FunctionState,
+    code: &[u64],
+    names: &[u64],
+) -> io::Result<()> {
+    lines::say(rt, form)?;
+    show_state(rt, state)?;
+    lines::say(rt, b", area 1")?;
+    lines::words(rt, code)?;
+    lines::say(rt, b", area 9")?;
+    lines::words(rt, names)?;
+    lines::say(rt, b"\n")
 }
 
-fn lent(code: &mut [u64], names: &mut [u64], full: u64, base: usize, opcode: OpCode) {
+fn lent(
+    rt: &impl Print,
+    code: &mut [u64],
+    names: &mut [u64],
+    full: u64,
+    base: usize,
+    opcode: OpCode,
+) -> io::Result<()> {
     let begun = function_state::new(full, base, 3, 0);
     let instruction = opcode.to_instruction(5);
     let first = emitters::one_instruction(code, names, begun, 7, instruction, 10);
     let second = emitters::one_instruction(code, names, first, 7, instruction, 11);
     let third = emitters::one_instruction(code, names, second, 8, instruction, 12);
-    show_line(b"lent    ", third, code, names);
+    show_line(rt, b"lent    ", third, code, names)
 }
 
-fn by_value(code: &mut [u64], names: &mut [u64], full: u64, base: usize, opcode: OpCode) {
+fn by_value(
+    rt: &impl Print,
+    code: &mut [u64],
+    names: &mut [u64],
+    full: u64,
+    base: usize,
+    opcode: OpCode,
+) -> io::Result<()> {
     let begun = function_state::new(full, base, 3, 0);
     let instruction = opcode.to_instruction(5);
     let first = one_instruction(code, names, begun, 7, instruction, 10);
     let second = one_instruction(code, names, first, 7, instruction, 11);
     let third = one_instruction(code, names, second, 8, instruction, 12);
-    show_line(b"by value", third, code, names);
+    show_line(rt, b"by value", third, code, names)
 }
 
 // Both forms, over areas of the same lengths.
 fn case(
+    rt: &impl Print,
     label: &[u8],
     code_words: usize,
     name_words: usize,
     full: u64,
     base: usize,
     opcode: OpCode,
-) {
+) -> io::Result<()> {
     let mut code = [0u64; MOST_CODE];
     let mut names = [0u64; MOST_NAMES];
     let mut code_too = [0u64; MOST_CODE];
     let mut names_too = [0u64; MOST_NAMES];
     if code_words > MOST_CODE {
-        return;
+        return Ok(());
     }
     if name_words > MOST_NAMES {
-        return;
+        return Ok(());
     }
-    lines::begin(label);
-    lines::say(b"\n");
+    lines::begin(rt, label)?;
+    lines::say(rt, b"\n")?;
     lent(
+        rt,
         &mut code[0..code_words],
         &mut names[0..name_words],
         full,
         base,
         opcode,
-    );
+    )?;
     by_value(
+        rt,
         &mut code_too[0..code_words],
         &mut names_too[0..name_words],
         full,
         base,
         opcode,
-    );
+    )
 }
 
-fn cases_of(name: &[u8], opcode: OpCode) {
-    lines::say(b"With ");
-    lines::say(name);
-    lines::say(b"\n");
-    case(b"areas of less than an entry", 1, 1, 0, 0, opcode);
-    case(b"a name, and no code", 1, 2, 0, 0, opcode);
-    case(b"the return is one entry too many", 4, 2, 0, 0, opcode);
+fn cases_of(rt: &impl Print, name: &[u8], opcode: OpCode) -> io::Result<()> {
+    lines::say(rt, b"With ")?;
+    lines::say(rt, name)?;
+    lines::say(rt, b"\n")?;
+    case(rt, b"areas of less than an entry", 1, 1, 0, 0, opcode)?;
+    case(rt, b"a name, and no code", 1, 2, 0, 0, opcode)?;
+    case(rt, b"the return is one entry too many", 4, 2, 0, 0, opcode)?;
     case(
+        rt,
         b"the third function's name is one entry too many",
         18,
         3,
         0,
         0,
         opcode,
-    );
+    )?;
     case(
+        rt,
         b"the third function's return is a word too long",
         17,
         4,
         0,
         0,
         opcode,
-    );
-    case(b"room for all", 20, 5, 0, 0, opcode);
+    )?;
+    case(rt, b"room for all", 20, 5, 0, 0, opcode)?;
     case(
+        rt,
         b"room for all, behind another function's code",
         20,
         5,
         0,
         1,
         opcode,
-    );
-    case(b"marked as full", 20, 5, 3, 0, opcode);
+    )?;
+    case(rt, b"marked as full", 20, 5, 3, 0, opcode)
 }
 
 // Emission's three ways to end a function: null is pushed, a Pop is taken back, a Return stays.
-pub(crate) fn cases() {
-    cases_of(b"LocalGet", OpCode::LocalGet);
-    cases_of(b"Pop", OpCode::Pop);
-    cases_of(b"Return", OpCode::Return);
+pub(crate) fn cases(rt: &impl Print) -> io::Result<()> {
+    cases_of(rt, b"LocalGet", OpCode::LocalGet)?;
+    cases_of(rt, b"Pop", OpCode::Pop)?;
+    cases_of(rt, b"Return", OpCode::Return)
 }

@@ -1,80 +1,80 @@
 // How a case is written: a line with its label, then what was answered, by name, and the area: the mark, the count and the words.
 use building::scopes::Found;
+use std::io;
 
-const OUTPUT: i32 = 1;
-
-pub(crate) fn say(text: &[u8]) {
-    io::write_all(OUTPUT, text);
+pub(crate) fn say(rt: &impl Print, text: &[u8]) -> io::Result<()> {
+    rt.write_all(text)
 }
 
-pub(crate) fn decimal(n: u64) {
-    io::print_decimal(OUTPUT, n);
+pub(crate) fn decimal(rt: &impl Print, n: u64) -> io::Result<()> {
+    rt.print(n)
 }
 
 // The cases behind this line are of this part.
-pub(crate) fn part(name: &[u8]) {
-    say(b"part ");
-    say(name);
-    say(b"\n");
+pub(crate) fn part(rt: &impl Print, name: &[u8]) -> io::Result<()> {
+    say(rt, b"part ")?;
+    say(rt, name)?;
+    say(rt, b"\n")
 }
 
-pub(crate) fn begin(label: &[u8]) {
-    say(label);
-    say(b":");
+pub(crate) fn begin(rt: &impl Print, label: &[u8]) -> io::Result<()> {
+    say(rt, label)?;
+    say(rt, b":")
 }
 
 // A part of a case that writes more than one line.
-pub(crate) fn begin_part(label: &[u8], part: &[u8]) {
-    say(label);
-    say(b", ");
-    begin(part);
+pub(crate) fn begin_part(rt: &impl Print, label: &[u8], part: &[u8]) -> io::Result<()> {
+    say(rt, label)?;
+    say(rt, b", ")?;
+    begin(rt, part)
 }
 
-fn number(n: u64) {
-    say(b" ");
-    decimal(n);
+fn number(rt: &impl Print, n: u64) -> io::Result<()> {
+    say(rt, b" ")?;
+    decimal(rt, n)
 }
 
-pub(crate) fn answer(name: &[u8], n: u64) {
-    say(b" ");
-    say(name);
-    number(n);
+pub(crate) fn answer(rt: &impl Print, name: &[u8], n: u64) -> io::Result<()> {
+    say(rt, b" ")?;
+    say(rt, name)?;
+    number(rt, n)
 }
 
-pub(crate) fn truth(name: &[u8], b: bool) {
-    say(b" ");
-    say(name);
+pub(crate) fn truth(rt: &impl Print, name: &[u8], b: bool) -> io::Result<()> {
+    say(rt, b" ")?;
+    say(rt, name)?;
     if b {
-        say(b" yes");
+        say(rt, b" yes")?;
     } else {
-        say(b" no");
+        say(rt, b" no")?;
     }
+    Ok(())
 }
 
-pub(crate) fn found(name: &[u8], found: Found) {
+pub(crate) fn found(rt: &impl Print, name: &[u8], found: Found) -> io::Result<()> {
     match found {
-        Found::At(i) => answer(name, i),
+        Found::At(i) => answer(rt, name, i)?,
         Found::Nothing => {
-            say(b" ");
-            say(name);
-            say(b" nothing");
+            say(rt, b" ")?;
+            say(rt, name)?;
+            say(rt, b" nothing")?;
         }
     }
+    Ok(())
 }
 
-pub(crate) fn words(words: &[u64]) {
-    let mut i: usize = 0;
-    while i < words.len() {
-        number(words[i]);
-        i += 1;
+pub(crate) fn words(rt: &impl Print, words: &[u64]) -> io::Result<()> {
+    for word in words {
+        number(rt, *word)?;
     }
+    Ok(())
 }
 
 // The end of a line.
-pub(crate) fn area(full: u64, count: usize, area: &[u64]) {
-    answer(b"full", full);
-    answer(b"entries", count as u64);
-    say(b" words");
-    words(area);
-    say(b"\n");
+pub(crate) fn area(rt: &impl Print, full: u64, count: usize, area: &[u64]) -> io::Result<()> {
+    answer(rt, b"full", full)?;
+    answer(rt, b"entries", count as u64)?;
+    say(rt, b" words")?;
+    words(rt, area)?;
+    say(rt, b"\n")
 }

@@ -11,17 +11,19 @@ mod tables;
 mod taking;
 mod written_lines;
 
-fn main() {
-    lines::part(b"tables");
-    tables::cases();
-    lines::part(b"names");
-    names::cases();
-    lines::part(b"taking");
-    taking::cases();
-    lines::part(b"emission");
-    emission::cases();
-    lines::part(b"lent state");
-    lent_state::cases();
-    lines::part(b"written lines");
-    written_lines::cases();
+use std::io;
+
+fn main(rt: HostRuntime) -> io::Result<()> {
+    lines::part(&rt, b"tables")?;
+    tables::cases(&rt)?;
+    lines::part(&rt, b"names")?;
+    names::cases(&rt)?;
+    lines::part(&rt, b"taking")?;
+    taking::cases(&rt)?;
+    lines::part(&rt, b"emission")?;
+    emission::cases(&rt)?;
+    lines::part(&rt, b"lent state")?;
+    lent_state::cases(&rt)?;
+    lines::part(&rt, b"written lines")?;
+    written_lines::cases(&rt)
 }

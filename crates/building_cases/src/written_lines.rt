@@ -9,6 +9,7 @@ use column_lines::line::NEWLINE;
 use line_writer::place::{Place, byte_at, number_at};
 use line_writer::writer;
 use line_writer::writer::{FIELD_WIDTH, Fields, LAST_WIDTH, SECTION_WIDTH};
+use std::io;
 
 const DOT: u8 = b'.';
 
@@ -28,56 +29,65 @@ fn write_line(buffer: &mut [u8], offset: usize, line: Fields) -> Place
     byte_at(buffer, last, NEWLINE)
 }
 
-fn show(name: &[u8], form: &[u8], buffer: &[u8], place: Place) {
-    lines::say(name);
-    lines::say(form);
-    lines::decimal(place.offset as u64);
+fn show(rt: &impl Print, name: &[u8], form: &[u8], buffer: &[u8], place: Place) -> io::Result<()> {
+    lines::say(rt, name)?;
+    lines::say(rt, form)?;
+    lines::decimal(rt, place.offset as u64)?;
     if place.fits {
-        lines::say(b", fits\n");
+        lines::say(rt, b", fits\n")?;
     } else {
-        lines::say(b", refused\n");
+        lines::say(rt, b", refused\n")?;
     }
-    lines::say(buffer);
-    lines::say(b"\n");
+    lines::say(rt, buffer)?;
+    lines::say(rt, b"\n")
 }
 
 // Both forms over buffers of the same length.
-fn both(name: &[u8], buffer: &mut [u8], buffer_too: &mut [u8], offset: usize, line: Fields) {
+fn both(
+    rt: &impl Print,
+    name: &[u8],
+    buffer: &mut [u8],
+    buffer_too: &mut [u8],
+    offset: usize,
+    line: Fields,
+) -> io::Result<()> {
     let place = writer::write_line(buffer, offset, line);
     show(
+        rt,
         name,
         b", the writer with its buffer: offset ",
         buffer,
         place,
-    );
+    )?;
     let place_too = write_line(buffer_too, offset, line);
     show(
+        rt,
         name,
         b", on slice and offset: offset ",
         buffer_too,
         place_too,
-    );
+    )
 }
 
 // A line in a buffer of its own length.
-fn whole(name: &[u8], line: Fields) {
+fn whole(rt: &impl Print, name: &[u8], line: Fields) -> io::Result<()> {
     let mut buffer = [DOT; 74];
     let mut buffer_too = [DOT; 74];
-    both(name, &mut buffer, &mut buffer_too, 0, line);
+    both(rt, name, &mut buffer, &mut buffer_too, 0, line)
 }
 
 // One byte short: the newline has no room.
-fn short(name: &[u8], line: Fields) {
+fn short(rt: &impl Print, name: &[u8], line: Fields) -> io::Result<()> {
     let mut buffer = [DOT; 73];
     let mut buffer_too = [DOT; 73];
-    both(name, &mut buffer, &mut buffer_too, 0, line);
+    both(rt, name, &mut buffer, &mut buffer_too, 0, line)
 }
 
 // In the midst of a longer buffer, and beyond its end.
-fn inside(name: &[u8], offset: usize, line: Fields) {
+fn inside(rt: &impl Print, name: &[u8], offset: usize, line: Fields) -> io::Result<()> {
     let mut buffer = [DOT; 80];
     let mut buffer_too = [DOT; 80];
-    both(name, &mut buffer, &mut buffer_too, offset, line);
+    both(rt, name, &mut buffer, &mut buffer_too, offset, line)
 }
 
 // A line of a section with the same number in each of the six fields.
@@ -95,8 +105,9 @@ fn line_of(section: u64, each: u64, last: u64, signed: bool) -> Fields {
     }
 }
 
-pub(crate) fn cases() {
+pub(crate) fn cases(rt: &impl Print) -> io::Result<()> {
     whole(
+        rt,
         b"an instruction",
         Fields {
             section: 3,
@@ -109,21 +120,23 @@ pub(crate) fn cases() {
             last: 72057594037927935,
             signed: false,
         },
-    );
+    )?;
     whole(
+        rt,
         b"the smallest integer",
         line_of(4, 0, 9223372036854775808, true),
-    );
-    whole(b"minus one", line_of(4, 0, 18446744073709551615, true));
+    )?;
+    whole(rt, b"minus one", line_of(4, 0, 18446744073709551615, true))?;
     whole(
+        rt,
         b"the widest numbers",
         line_of(4, 99999999, 18446744073709551615, false),
-    );
-    short(b"a byte short", line_of(9999, 7, 7, true));
-    inside(b"in the midst", 3, line_of(10, 7, 42, false));
-    inside(b"up to the end", 6, line_of(11, 7, 42, false));
-    inside(b"a byte past the end", 7, line_of(11, 7, 42, false));
-    inside(b"from beyond the end", 81, line_of(11, 7, 42, false));
-    whole(b"a section too wide", line_of(12345, 7, 42, false));
-    whole(b"a field too wide", line_of(1, 100000000, 42, false));
+    )?;
+    short(rt, b"a byte short", line_of(9999, 7, 7, true))?;
+    inside(rt, b"in the midst", 3, line_of(10, 7, 42, false))?;
+    inside(rt, b"up to the end", 6, line_of(11, 7, 42, false))?;
+    inside(rt, b"a byte past the end", 7, line_of(11, 7, 42, false))?;
+    inside(rt, b"from beyond the end", 81, line_of(11, 7, 42, false))?;
+    whole(rt, b"a section too wide", line_of(12345, 7, 42, false))?;
+    whole(rt, b"a field too wide", line_of(1, 100000000, 42, false))
 }

@@ -1,5 +1,5 @@
-// The static library: what a Rust or C program calls (docs/FORMAT.md, 'The static library'). Each function is another crate's routine under a name of
-// its own; a slice is a pointer and a length.
+// What a Rust or C program calls (docs/FORMAT.md, 'The static library'): each function is another crate's routine under a name of its own.
+// `clover_back_end_c`, the static library, exports them, each with the same promise.
 #![tactic(auto)]
 
 ghost use Rattle.book_compiler.specs.Promise.{CompilesInto, LaysOnInto, TriesInto, CommitsInto};
@@ -32,7 +32,7 @@ const LAYOUT: u64 = 6;
 
 // What the shape check and the program check answer: the number of a refusal's row and its place, or 0 and 0.
 #[repr(C)]
-#[derive(Drop)]
+#[derive(Clone, Copy)]
 pub struct Refusal {
     pub number: u64,
     pub place: usize,
@@ -40,7 +40,7 @@ pub struct Refusal {
 
 // How many words of one memory each area has; the areas follow each other by number.
 #[repr(C)]
-#[derive(Drop)]
+#[derive(Clone, Copy)]
 pub struct Lengths {
     pub code: usize,
     pub constants: usize,
@@ -58,15 +58,15 @@ pub struct Lengths {
 
 // Which library this is. A caller compares the layout with the one that it was written for.
 #[repr(C)]
-#[derive(Drop)]
+#[derive(Clone, Copy)]
 pub struct Version {
     pub version: u64,
     pub layout: u64,
 }
 
 // The version of the library and the number of its layout.
-#[unsafe(no_mangle)]
-pub extern "C" fn clover_version() -> Version
+#[tactic(auto, unfolding(crate::specs::Versions::this_version))]
+pub fn clover_version() -> Version
     ensures { result ≡ this_version }
 {
     Version {
@@ -75,6 +75,7 @@ pub extern "C" fn clover_version() -> Version
     }
 }
 
+#[tactic(auto, unfolding(crate::specs::Refusals::refusal_of))]
 fn refusal_of(shape: Shape) -> Refusal
     ensures { result ≡ refusal_of shape }
 {
@@ -88,6 +89,7 @@ fn refusal_of(shape: Shape) -> Refusal
 }
 
 // The lengths by the areas' numbers.
+#[tactic(auto, unfolding(crate::specs::Lengths::lengths_of))]
 fn by_number(lengths: Lengths) -> [usize; 12]
     ensures { result ≡ lengths_of lengths }
 {
@@ -108,56 +110,49 @@ fn by_number(lengths: Lengths) -> [usize; 12]
 }
 
 // Rows 2 to 4 on any words.
-#[unsafe(no_mangle)]
-pub extern "C" fn clover_check(tree: &[u64]) -> Refusal
+pub fn clover_check(tree: &[u64]) -> Refusal
     ensures { result ≡ refusal_of (shape_of tree.now) }
 {
     refusal_of(check(tree))
 }
 
 // The program check (2026-01) on any memory, lengths and totals: row 3 with 1,048,576 plus the first area that fails, or 0 and 0.
-#[unsafe(no_mangle)]
-pub extern "C" fn clover_check_program(memory: &[u64], lengths: Lengths, totals: Totals) -> Refusal
+pub fn clover_check_program(memory: &[u64], lengths: Lengths, totals: Totals) -> Refusal
     ensures { result ≡ refusal_of (answer_of (counted_fault (lent_counted (areas_in (lengths_of lengths) memory.now) totals))) }
 {
     refusal_of(check_program(memory, by_number(lengths), totals))
 }
 
 // A column file to records.
-#[unsafe(no_mangle)]
-pub extern "C" fn clover_columns_to_records(file: &[u8], out: &mut [u64]) -> Converted
+pub fn clover_columns_to_records(file: &[u8], out: &mut [u64]) -> Converted
     ensures { Converts (columns_to_records file.now (length out.old)) out.new result }
 {
     columns_to_records(file, out)
 }
 
 // Records to a column file.
-#[unsafe(no_mangle)]
-pub extern "C" fn clover_records_to_columns(tree: &[u64], out: &mut [u8]) -> Converted
+pub fn clover_records_to_columns(tree: &[u64], out: &mut [u8]) -> Converted
     ensures { Converts (records_to_columns tree.now (length out.old)) out.new result }
 {
     records_to_columns(tree, out)
 }
 
 // A constant table and a file number to the records of its document.
-#[unsafe(no_mangle)]
-pub extern "C" fn clover_table_to_records(table: &[u8], file: u64, out: &mut [u64]) -> Converted
+pub fn clover_table_to_records(table: &[u8], file: u64, out: &mut [u64]) -> Converted
     ensures { Converts (table_to_records table.now file (length out.old)) out.new result }
 {
     table_to_records(table, file, out)
 }
 
 // The records of a table's document to the table.
-#[unsafe(no_mangle)]
-pub extern "C" fn clover_records_to_table(tree: &[u64], out: &mut [u8]) -> Tabled
+pub fn clover_records_to_table(tree: &[u64], out: &mut [u8]) -> Tabled
     ensures { Tables (records_to_table tree.now (length out.old)) out.new result }
 {
     records_to_table(tree, out)
 }
 
 // The errors of area 11 in words: a line each, with the caller's file number and the texts of a lent table.
-#[unsafe(no_mangle)]
-pub extern "C" fn clover_errors_in_words(
+pub fn clover_errors_in_words(
     errors: &[u64],
     file: u64,
     table: &[u64],
@@ -170,13 +165,7 @@ pub extern "C" fn clover_errors_in_words(
 }
 
 // The compile call over one memory; a mode of 0 is the present one, anything else is strict (2026-07).
-#[unsafe(no_mangle)]
-pub extern "C" fn clover_compile(
-    tree: &[u64],
-    mode: u64,
-    lengths: Lengths,
-    memory: &mut [u64],
-) -> Reply
+pub fn clover_compile(tree: &[u64], mode: u64, lengths: Lengths, memory: &mut [u64]) -> Reply
     ensures { CompilesInto (is_strict mode) tree.now (lengths_of lengths) memory.old memory.new result }
 {
     compile(tree, mode != 0, by_number(lengths), memory)
@@ -184,8 +173,7 @@ pub extern "C" fn clover_compile(
 
 // Laying a bundle onto a program that stands in a memory (2026-01), on any words, memory, lengths and totals: the program check first of all; a refused bundle
 // leaves the program as it stood.
-#[unsafe(no_mangle)]
-pub extern "C" fn clover_lay_on(
+pub fn clover_lay_on(
     tree: &[u64],
     mode: u64,
     standing: Totals,
@@ -198,8 +186,7 @@ pub extern "C" fn clover_lay_on(
 }
 
 // What laying a bundle on would answer (2026-08): the program stays as it stands.
-#[unsafe(no_mangle)]
-pub extern "C" fn clover_trial(
+pub fn clover_trial(
     tree: &[u64],
     mode: u64,
     standing: Totals,
@@ -213,8 +200,7 @@ pub extern "C" fn clover_trial(
 
 // Laying on what a trial was answered these totals for (2026-08): refused where the program has another number of bundles since, or where the totals of the
 // listing's line 1 are others.
-#[unsafe(no_mangle)]
-pub extern "C" fn clover_commit(
+pub fn clover_commit(
     tree: &[u64],
     mode: u64,
     standing: Totals,

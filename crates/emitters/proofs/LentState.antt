@@ -6,7 +6,7 @@ use types.Logic.{Logic, sem}
 use denote.Ref.{MutBor}
 use Rattle.walks.proofs.Names.{ℕ, List, [], ◌∷◌, refl, ap, Ura, full_share, Val, vptr, ent, sep, Lft, Share, GName, fat, flft, fdead, fobs, fauth, fobor}
 use Rattle.walks.proofs.Names.{flent, fres, sem, Item, Goal, Soaks, Seq, Step, step, ‵, ◌$◌, ◌⊛◌, some, later, given, move, drop, use1}
-use Rattle.walks.proofs.Names.{fsplit, fsplit3, fjoin, fjoin3, fpick, feq_i, await, use3, ◌∵◌, !, qed, done, RattleType, mem, cell_at, Is, shows, MutRef, RefT}
+use Rattle.walks.proofs.Names.{fsplit, fsplit3, fjoin, fjoin3, fpick, feq_i, await, use3, ◌∵◌, !, qed, done, RattleType, mem, cell_at, Is, shows, MutRef}
 use Rattle.walks.proofs.Names.{Body, ◌≡◌, only, fsep, updating, by, opens, closes, owned, peeks, spelt, fpack}
 use mir.Syntax.{Lifetime}
 use mir.Val.{has_ty, WT}
@@ -50,7 +50,7 @@ Open κ q γ b o h Γ = ‵ (fobor κ q (Body (mem R) b o γ)) ∷ ‵ (fobs γ 
 
 module _ {M : Type 1} {𝓤 : Ura M} {𝓛 : Logic 𝓤} {K : Type 0} {Γ : List (Item 𝓤)} {G : Goal 𝓤 𝓛.H} where
   -- a state is plain data: what it owns is had for nothing
-  pub own_state : K → (h : FunctionState) → Fits h → Step K 𝓛 (‵ (R.own h (val h ∷ [])) ∷ Γ) G Γ G
+  pub own_state : K → (h : FunctionState) → Fits h → Step K 𝓛 (‵ (R.own_val h (val h ∷ [])) ∷ Γ) G Γ G
   own_state t h fits = owned t R (Is R) (LL.makes T.the_type T'.the_plain 𝓛) h _ fits
 
 module _ {M : Type 1} {𝓤 : Ura M} {𝓛 : Logic 𝓤} {K : Type 0} {Γ : List (Item 𝓤)} {G : Goal 𝓤 𝓛.H} where
@@ -84,7 +84,7 @@ module _ {M : Type 1} {𝓤 : Ura M} (𝓛 : Logic 𝓤) where
       qed 𝓛 (‵ (fat full_share T'.mir l 0 (val h)) ∷ []) ∵
       use1 𝓛 (‵ (cell_at full_share R.mir (val h ∷ []) l 0)) (𝓛.laws.at_raw full_share T'.mir l 0 (val h)) $
       own_state ! h fits $ move ! (1 ∷ 0 ∷ []) $ fjoin ! $
-      fpack ! (List Val) (λ us. fsep (cell_at full_share R.mir us l 0) (R.own h us)) (val h ∷ []) $ by ! (lends_ref 𝓛 R ℓ κ h l 0)
+      fpack ! (List Val) (λ us. fsep (cell_at full_share R.mir us l 0) (R.own_val h us)) (val h ∷ []) $ by ! (lends_ref 𝓛 R ℓ κ h l 0)
 
   -- once the lifetime is over it holds the last state
   abbrev pub Back : ℕ → FunctionState → Item 𝓤

@@ -7,9 +7,13 @@ ghost use Rattle.std.specs.Prelude.{◌≤◌, length};
 use book_compiler::compile;
 use column_files::{Converted, columns_to_records};
 use column_lines::line::LINE_LENGTH;
-use libc::{STDIN_FILENO, STDOUT_FILENO};
 use listings::write;
+use reading::read_full;
+use std::io;
 use words::reply::{AREA_FULL, Reply};
+
+// Room for a longer input than there may be, so that it is seen.
+const INPUT: usize = 65536;
 
 const MOST_RECORDS: usize = 1260;
 
@@ -44,7 +48,7 @@ const ERRORS_END: usize = 34000;
 const BOOKS_END: usize = 35000;
 
 // The line of a refusal without errors.
-fn refuse(number: u64, place: u64) {
+fn refuse(rt: &impl Print, number: u64, place: u64) -> io::Result<()> {
     let none = [0u64; 1];
     let empty = &none[0..0];
     let reply = Reply::refused(number, place);
@@ -53,8 +57,9 @@ fn refuse(number: u64, place: u64) {
         reply, empty, empty, empty, empty, empty, empty, empty, empty, empty, &mut line,
     );
     if answer.total == LISTING_LINE {
-        io::write_all(STDOUT_FILENO, &line);
+        rt.write_all(&line)?;
     }
+    Ok(())
 }
 
 // The listing of a reply and the areas in a memory.
@@ -76,7 +81,7 @@ fn write_areas(reply: Reply, memory: &[u64], text: &mut [u8]) -> Converted
     )
 }
 
-fn show(reply: Reply, memory: &[u64])
+fn show(rt: &impl Print, reply: Reply, memory: &[u64]) -> io::Result<()>
     requires { 35000 ≤ length memory.now }
 {
     let mut text = [0u8; MOST_TEXT];
@@ -84,42 +89,40 @@ fn show(reply: Reply, memory: &[u64])
     let total = answer.total;
     if answer.number == 0 {
         if total <= MOST_TEXT {
-            io::write_all(STDOUT_FILENO, &text[0..total]);
-            return;
+            return rt.write_all(&text[0..total]);
         }
     }
-    refuse(AREA_FULL, 0);
+    refuse(rt, AREA_FULL, 0)
 }
 
-fn compile_and_show(tree: &[u64]) {
+fn compile_and_show(rt: &impl Print, tree: &[u64]) -> io::Result<()> {
     let mut memory = [0u64; BOOKS_END];
     let lengths = [
         2000, 3000, 8000, 2000, 2000, 3000, 4000, 3000, 2000, 1000, 4000, 1000,
     ];
     let reply = compile(tree, false, lengths, &mut memory);
-    show(reply, &memory);
+    show(rt, reply, &memory)
 }
 
-fn list(file: &[u8]) {
+fn list(rt: &impl Print, file: &[u8]) -> io::Result<()> {
     if file.len() > MOST_BYTES {
-        refuse(AREA_FULL, 0);
-        return;
+        return refuse(rt, AREA_FULL, 0);
     }
     let mut words = [0u64; MOST_WORDS];
     let answer = columns_to_records(file, &mut words);
     if answer.number != 0 {
-        refuse(answer.number, answer.place as u64);
-        return;
+        return refuse(rt, answer.number, answer.place as u64);
     }
     let total = answer.total;
     if total <= MOST_RECORDS {
         let end = total * 4;
-        compile_and_show(&words[0..end]);
+        compile_and_show(rt, &words[0..end])?;
     }
+    Ok(())
 }
 
-fn main() {
-    let mut text = io::large_buffer();
-    let n = io::read_full(STDIN_FILENO, &mut text);
-    list(&text[..n]);
+fn main(rt: HostRuntime) -> io::Result<()> {
+    let mut text = [0u8; INPUT];
+    let n = read_full(&mut rt.stdin(), &mut text)?;
+    list(&rt, &text[..n])
 }

@@ -6,6 +6,7 @@ use crate::output;
 use column_files::records_to_columns;
 use column_lines::line::LINE_LENGTH;
 use column_lines::number::{Number, read_number};
+use std::io;
 
 const WORD_LINE: usize = 22;
 
@@ -22,8 +23,7 @@ fn read_words(text: &[u8], count: usize, words: &mut [u64]) -> usize
     requires count_in_bounds { count * 22 ≤ length text.now }
     requires count_in_bounds_2 { count ≤ length words.old }
 {
-    let mut i: usize = 0;
-    while i < count {
+    for i in 0..count {
         let at = i * WORD_LINE;
         let end = at + 21;
         if text[end] != b'\n' {
@@ -38,39 +38,36 @@ fn read_words(text: &[u8], count: usize, words: &mut [u64]) -> usize
                 return i + 1;
             }
         }
-        i += 1;
     }
     0
 }
 
-fn refuse(number: u64, place: u64) {
-    output::reply(number, place, 0);
-    output::say(b"\n");
+fn refuse(rt: &impl Print, number: u64, place: u64) -> io::Result<()> {
+    output::reply(rt, number, place, 0)?;
+    output::say(rt, b"\n")
 }
 
-pub(crate) fn case(text: &[u8]) {
+pub(crate) fn case(rt: &impl Print, text: &[u8]) -> io::Result<()> {
     if text.len() > MOST_BYTES {
-        refuse(9, 0);
-        return;
+        return refuse(rt, 9, 0);
     }
     let count = text.len() / WORD_LINE;
     let mut words = [0; MOST_WORDS];
     let bad = read_words(text, count, &mut words);
     if bad != 0 {
-        refuse(1, bad as u64);
-        return;
+        return refuse(rt, 1, bad as u64);
     }
     if text.len() % WORD_LINE != 0 {
-        refuse(1, count as u64 + 1);
-        return;
+        return refuse(rt, 1, count as u64 + 1);
     }
     let mut out = [0; FILE_BYTES];
     let answer = records_to_columns(&words[0..count], &mut out);
-    output::reply(answer.number, answer.place as u64, answer.total as u64);
-    output::say(b"\n");
+    output::reply(rt, answer.number, answer.place as u64, answer.total as u64)?;
+    output::say(rt, b"\n")?;
     let total = answer.total;
     if total <= MOST_RECORDS {
         let end = total * LINE_LENGTH;
-        output::say(&out[0..end]);
+        output::say(rt, &out[0..end])?;
     }
+    Ok(())
 }

@@ -2,31 +2,23 @@
 // must be: after a refusal zeros alone; after a success the file again from the records, also where it has just room, and zeros after both.
 use crate::output;
 use column_files::{columns_to_records, records_to_columns};
+use std::io;
 
 const MOST_FILE: usize = 4096;
 
 const MOST_ROOM: usize = 512;
 
 fn zeros(words: &[u64]) -> bool {
-    let mut i: usize = 0;
-    while i < words.len() {
-        if words[i] != 0 {
-            return false;
-        }
-        i += 1;
-    }
-    true
+    words.iter().all(|word| *word == 0)
 }
 
 // The bytes are the file and then zeros.
 fn is_file(bytes: &[u8], file: &[u8]) -> bool {
-    let mut i: usize = 0;
-    while i < bytes.len() {
+    for (i, byte) in bytes.iter().enumerate() {
         let expected = if i < file.len() { file[i] } else { 0 };
-        if bytes[i] != expected {
+        if *byte != expected {
             return false;
         }
-        i += 1;
     }
     true
 }
@@ -77,28 +69,29 @@ fn back(words: &[u64], file: &[u8]) -> bool {
 }
 
 // A case, with as many words as there is room for.
-fn judge(file: &[u8], words: &mut [u64]) {
+fn judge(rt: &impl Print, file: &[u8], words: &mut [u64]) -> io::Result<()> {
     let answer = columns_to_records(file, words);
-    output::reply(answer.number, answer.place as u64, answer.total as u64);
+    output::reply(rt, answer.number, answer.place as u64, answer.total as u64)?;
     let total = answer.total;
     if total == 0 {
-        output::number(0);
-        output::number(zeros(words) as u64);
-        return;
+        output::number(rt, 0)?;
+        output::number(rt, zeros(words) as u64)?;
+        return Ok(());
     }
     if total <= words.len() / 4 {
         let end = total * 4;
-        output::number(words[end - 1]);
+        output::number(rt, words[end - 1])?;
         let fine = back(&words[0..end], file);
         let rest = zeros(&words[end..]);
-        output::number((fine && rest) as u64);
+        output::number(rt, (fine && rest) as u64)?;
     }
+    Ok(())
 }
 
-pub(crate) fn case(file: &[u8], room: usize) {
+pub(crate) fn case(rt: &impl Print, file: &[u8], room: usize) -> io::Result<()> {
     let mut words = [7; 512];
     if room <= MOST_ROOM {
-        judge(file, &mut words[0..room]);
+        judge(rt, file, &mut words[0..room])?;
     }
-    output::say(b"\n");
+    output::say(rt, b"\n")
 }

@@ -1,18 +1,17 @@
 // What goes out.
-use libc::STDOUT_FILENO;
+use std::io;
 
-pub(crate) fn say(text: &[u8]) {
-    io::write_all(STDOUT_FILENO, text);
+pub(crate) fn say(rt: &impl Print, text: &[u8]) -> io::Result<()> {
+    rt.write_all(text)
 }
 
-pub(crate) fn number(n: u64) {
-    say(b" ");
-    io::print_decimal(STDOUT_FILENO, n);
+pub(crate) fn number(rt: &impl Print, n: u64) -> io::Result<()> {
+    print!(rt; " {n}")
 }
 
 // Number, place and total.
-pub(crate) fn reply(reply_number: u64, place: u64, total: u64) {
-    number(reply_number);
-    number(place);
-    number(total);
+pub(crate) fn reply(rt: &impl Print, reply_number: u64, place: u64, total: u64) -> io::Result<()> {
+    number(rt, reply_number)?;
+    number(rt, place)?;
+    number(rt, total)
 }

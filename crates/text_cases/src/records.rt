@@ -4,6 +4,7 @@ use crate::output;
 use column_files::columns_to_records;
 use column_lines::line::LINE_LENGTH;
 use column_lines::number::write_number;
+use std::io;
 
 const MOST_RECORDS: usize = 1260;
 
@@ -11,34 +12,34 @@ const MOST_BYTES: usize = MOST_RECORDS * LINE_LENGTH;
 
 const MOST_WORDS: usize = MOST_RECORDS * 4;
 
-fn write_word(word: u64) {
+fn write_word(rt: &impl Print, word: u64) -> io::Result<()> {
     let mut digits = [0; 21];
     write_number(&mut digits, word, false);
-    output::say(&digits);
-    output::say(b"\n");
+    output::say(rt, &digits)?;
+    output::say(rt, b"\n")
 }
 
-fn write_words(words: &[u64]) {
-    let mut i: usize = 0;
-    while i < words.len() {
-        write_word(words[i]);
-        i += 1;
+fn write_words(rt: &impl Print, words: &[u64]) -> io::Result<()> {
+    for word in words {
+        write_word(rt, *word)?;
     }
+    Ok(())
 }
 
-pub(crate) fn case(file: &[u8]) {
+pub(crate) fn case(rt: &impl Print, file: &[u8]) -> io::Result<()> {
     if file.len() > MOST_BYTES {
-        output::reply(9, 0, 0);
-        output::say(b"\n");
-        return;
+        output::reply(rt, 9, 0, 0)?;
+        output::say(rt, b"\n")?;
+        return Ok(());
     }
     let mut words = [0; MOST_WORDS];
     let answer = columns_to_records(file, &mut words);
-    output::reply(answer.number, answer.place as u64, answer.total as u64);
-    output::say(b"\n");
+    output::reply(rt, answer.number, answer.place as u64, answer.total as u64)?;
+    output::say(rt, b"\n")?;
     let total = answer.total;
     if total <= MOST_RECORDS {
         let end = total * 4;
-        write_words(&words[0..end]);
+        write_words(rt, &words[0..end])?;
     }
+    Ok(())
 }

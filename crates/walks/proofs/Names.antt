@@ -6,7 +6,7 @@ pub use mathlib.Core.Bool.{Bool, true, false}
 pub use Prim.Native.Nat.{ℕ, ◌<◌, ◌^◌, ◌+◌}
 pub use lib.ListN.{length}
 pub use seplogic.Ra.Ura.{Ura}
-pub use seplogic.Ra.TreeShare.{full_share}
+pub use base.Fraction.{full_share}
 pub use mir.Syntax.{named, erased, w8, w64, ty_int}
 pub use mir.Val.{Val, vunit, vbool, vint, vptr, vstruct, vcons, vnil}
 pub use base.Logic.{SProp, ent, sep, emp, via, fst∗, snd∗, ex_e, id⊢}
@@ -14,11 +14,12 @@ pub use base.Fml.{Lft, Share, GName, Fml, ftrue, fsep, fat, flft, fdead, fobs, f
 pub use prog.Memory.{Memory}
 pub use prog.Routine.{Routine}
 pub use prog.Wp.{Heap, Calls, Loops, WpFn, Tables}
-pub use ghost.Atoms.{Atoms, sem}
+pub use ghost.Atoms.{Atoms}
+pub use types.Logic.{sem}
 pub use contract.Monad.{Fun, fact}
-pub use contract.Running.{given_of, tables}
+pub use contract.Running.{tables}
 unfoldable pub use contract.Running.{tables_of}
-pub use types.Kit.{Given, Item, Goal, Soaks, Seq, Step, step, ‵, raw, given, some, later, ◌⊛◌, ⋆, ◌$◌, ◌∵◌, !, qed, by, move, keep, drop}
+pub use types.Kit.{Item, Goal, Soaks, Seq, Step, step, ‵, raw, given, some, later, ◌⊛◌, ⋆, ◌$◌, ◌∵◌, !, qed, by, move, keep, drop}
 pub use types.Kit.{use1, use2, use3, split, join, pick, learn, rewrite, fsplit, fsplit3, fjoin, fjoin3, fpick, fpack, feq_l, feq_i, suffices, frame, await, done}
 pub use types.Kit.{updating, show}
 pub use types.Run.{look, init, forget, stop, hop, fld, from, load, lit, addr, unit_lit, true_lit, false_lit, of_opd}

@@ -1,51 +1,38 @@
 // What goes out, and copies of a case's numbers as words and as bytes.
-use libc::STDOUT_FILENO;
+use std::io;
 
-pub(crate) fn say(text: &[u8]) {
-    io::write_all(STDOUT_FILENO, text);
+pub(crate) fn say(rt: &impl Print, text: &[u8]) -> io::Result<()> {
+    rt.write_all(text)
 }
 
-pub(crate) fn number(n: u64) {
-    say(b" ");
-    io::print_decimal(STDOUT_FILENO, n);
+pub(crate) fn number(rt: &impl Print, n: u64) -> io::Result<()> {
+    print!(rt; " {n}")
 }
 
-pub(crate) fn words(words: &[u64]) {
-    let mut i: usize = 0;
-    while i < words.len() {
-        number(words[i]);
-        i += 1;
+pub(crate) fn words(rt: &impl Print, words: &[u64]) -> io::Result<()> {
+    for word in words {
+        number(rt, *word)?;
     }
+    Ok(())
 }
 
-pub(crate) fn bytes(bytes: &[u8]) {
-    let mut i: usize = 0;
-    while i < bytes.len() {
-        number(bytes[i] as u64);
-        i += 1;
+pub(crate) fn bytes(rt: &impl Print, bytes: &[u8]) -> io::Result<()> {
+    for byte in bytes {
+        number(rt, u64::from(*byte))?;
     }
+    Ok(())
 }
 
 // The numbers, as many as there is room for.
 pub(crate) fn copy(from: &[u64], to: &mut [u64]) {
-    let mut i: usize = 0;
-    while i < from.len() {
-        if i >= to.len() {
-            return;
-        }
-        to[i] = from[i];
-        i += 1;
+    for (to, from) in to.iter_mut().zip(from) {
+        *to = *from;
     }
 }
 
 // The same as bytes.
 pub(crate) fn copy_bytes(from: &[u64], to: &mut [u8]) {
-    let mut i: usize = 0;
-    while i < from.len() {
-        if i >= to.len() {
-            return;
-        }
-        to[i] = (from[i] % 256) as u8;
-        i += 1;
+    for (to, from) in to.iter_mut().zip(from) {
+        *to = (*from % 256) as u8;
     }
 }

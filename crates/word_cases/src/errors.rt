@@ -6,6 +6,7 @@ ghost use Rattle.std.specs.Prelude.{◌≤◌, ◌-◌, length};
 use crate::elements;
 use column_files::Converted;
 use error_lines::errors_in_words;
+use std::io;
 
 const STALE: u8 = 0xA5;
 
@@ -19,56 +20,60 @@ const MOST_PART: u64 = 300;
 const MOST_ROOM: u64 = 2000;
 
 fn all_are(bytes: &[u8], byte: u8) -> bool {
-    let mut i: usize = 0;
-    while i < bytes.len() {
-        if bytes[i] != byte {
-            return false;
-        }
-        i += 1;
-    }
-    true
+    bytes.iter().all(|each| *each == byte)
 }
 
-fn say_truth(kept: bool, yes: &[u8], no: &[u8]) {
+fn say_truth(rt: &impl Print, kept: bool, yes: &[u8], no: &[u8]) -> io::Result<()> {
     if kept {
-        elements::say(yes);
+        elements::say(rt, yes)?;
     } else {
-        elements::say(no);
+        elements::say(rt, no)?;
     }
+    Ok(())
 }
 
-fn show(answer: Converted, buffer: &[u8]) {
-    elements::number(answer.number);
-    elements::number(answer.place as u64);
-    elements::number(answer.total as u64);
-    elements::say(b"\n");
+fn show(rt: &impl Print, answer: Converted, buffer: &[u8]) -> io::Result<()> {
+    elements::number(rt, answer.number)?;
+    elements::number(rt, answer.place as u64)?;
+    elements::number(rt, answer.total as u64)?;
+    elements::say(rt, b"\n")?;
     let total = answer.total;
     if total <= buffer.len() {
-        elements::say(&buffer[0..total]);
+        elements::say(rt, &buffer[0..total])?;
         let zero = all_are(&buffer[total..], 0);
-        say_truth(zero, b"zeros", b"NOT ZERO");
+        say_truth(rt, zero, b"zeros", b"NOT ZERO")?;
     }
+    Ok(())
 }
 
 // A reply, the buffer that ends at a place, and the bytes beside it.
-fn report(answer: Converted, out: &[u8], end: usize) {
+fn report(rt: &impl Print, answer: Converted, out: &[u8], end: usize) -> io::Result<()> {
     if end <= out.len() {
         if GUARD <= end {
-            show(answer, &out[GUARD..end]);
+            show(rt, answer, &out[GUARD..end])?;
             let before = all_are(&out[0..GUARD], STALE);
-            say_truth(before, b", kept", b", OVERWRITTEN");
+            say_truth(rt, before, b", kept", b", OVERWRITTEN")?;
             let after = all_are(&out[end..], STALE);
-            say_truth(after, b", kept", b", OVERWRITTEN");
+            say_truth(rt, after, b", kept", b", OVERWRITTEN")?;
         }
     }
+    Ok(())
 }
 
-fn report_all(answer: Converted, out: &[u8; 2016], end: usize) {
-    report(answer, out, end);
+fn report_all(rt: &impl Print, answer: Converted, out: &[u8; 2016], end: usize) -> io::Result<()> {
+    report(rt, answer, out, end)
 }
 
 // The call, on the parts of a case's words.
-fn call(words: &[u64], file: u64, first: usize, second: usize, third: usize, room: usize)
+fn call(
+    rt: &impl Print,
+    words: &[u64],
+    file: u64,
+    first: usize,
+    second: usize,
+    third: usize,
+    room: usize,
+) -> io::Result<()>
     requires le_first { 5 ≤ first }
     requires first_le_second { first ≤ second }
     requires second_le_third { second ≤ third }
@@ -88,30 +93,30 @@ fn call(words: &[u64], file: u64, first: usize, second: usize, third: usize, roo
         &text[0..size],
         &mut out[GUARD..end],
     );
-    report_all(answer, &out, end);
+    report_all(rt, answer, &out, end)
 }
 
-pub(crate) fn case(words: &[u64]) {
+pub(crate) fn case(rt: &impl Print, words: &[u64]) -> io::Result<()> {
     if words.len() < HEAD {
-        return;
+        return Ok(());
     }
     if words[0] > MOST_PART {
-        return;
+        return Ok(());
     }
     if words[1] > MOST_PART {
-        return;
+        return Ok(());
     }
     if words[2] > MOST_PART {
-        return;
+        return Ok(());
     }
     if words[4] > MOST_ROOM {
-        return;
+        return Ok(());
     }
     let first = HEAD + words[0] as usize;
     let second = first + words[1] as usize;
     let third = second + words[2] as usize;
     if third > words.len() {
-        return;
+        return Ok(());
     }
-    call(words, words[3], first, second, third, words[4] as usize)
+    call(rt, words, words[3], first, second, third, words[4] as usize)
 }

@@ -11,13 +11,14 @@ mod slots;
 mod tables;
 
 use case_numbers::{find, parse, same};
-use libc::STDIN_FILENO;
+use reading::read_full;
+use std::io;
 
 const MOST_BYTES: usize = 524288;
 
 const MOST_NUMBERS: usize = 1024;
 
-#[derive(Drop)]
+#[derive(Clone, Copy)]
 enum Part {
     Shapes,
     Slots,
@@ -27,73 +28,85 @@ enum Part {
     Unknown,
 }
 
-fn part_named(line: &[u8]) -> Part {
+fn part_named(rt: &impl Print, line: &[u8]) -> io::Result<Part> {
     if same(line, b"part shapes") {
-        return Part::Shapes;
+        return Ok(Part::Shapes);
     }
     if same(line, b"part slots") {
-        return Part::Slots;
+        return Ok(Part::Slots);
     }
     if same(line, b"part programs") {
-        return Part::Programs;
+        return Ok(Part::Programs);
     }
     if same(line, b"part tables") {
-        return Part::Tables;
+        return Ok(Part::Tables);
     }
     if same(line, b"part errors") {
-        return Part::Errors;
+        return Ok(Part::Errors);
     }
-    elements::say(b"unknown ");
-    Part::Unknown
+    elements::say(rt, b"unknown ")?;
+    Ok(Part::Unknown)
 }
 
 // What a case leaves for the next: its part, and how many numbers the last program of the part `programs` has.
-#[derive(Drop)]
+#[derive(Clone, Copy)]
 struct Read {
     part: Part,
     held: usize,
 }
 
 // How many numbers the last program has after this case.
-fn answer(part: Part, numbers: &[u64], program: &mut [u64], held: usize) -> usize {
+fn answer(
+    rt: &impl Print,
+    part: Part,
+    numbers: &[u64],
+    program: &mut [u64],
+    held: usize,
+) -> io::Result<usize> {
     match part {
-        Part::Shapes => shapes::case(numbers),
-        Part::Slots => slots::case(numbers),
+        Part::Shapes => shapes::case(rt, numbers)?,
+        Part::Slots => slots::case(rt, numbers)?,
         Part::Programs => {
-            return programs::case(numbers, program, held);
+            return programs::case(rt, numbers, program, held);
         }
-        Part::Tables => tables::case(numbers),
-        Part::Errors => errors::case(numbers),
-        Part::Unknown => elements::say(b" no part"),
+        Part::Tables => tables::case(rt, numbers)?,
+        Part::Errors => errors::case(rt, numbers)?,
+        Part::Unknown => elements::say(rt, b" no part")?,
     }
-    held
+    Ok(held)
 }
 
-fn case(part: Part, text: &[u8], program: &mut [u64], held: usize) -> usize {
-    elements::say(b":");
+fn case(
+    rt: &impl Print,
+    part: Part,
+    text: &[u8],
+    program: &mut [u64],
+    held: usize,
+) -> io::Result<usize> {
+    elements::say(rt, b":")?;
     let mut numbers = [0; MOST_NUMBERS];
     let count = parse(text, &mut numbers);
-    answer(part, &numbers[0..count], program, held)
+    answer(rt, part, &numbers[0..count], program, held)
 }
 
-fn line(read: Read, text: &[u8], program: &mut [u64]) -> Read {
+fn line(rt: &impl Print, read: Read, text: &[u8], program: &mut [u64]) -> io::Result<Read> {
     let held = read.held;
     let colon = find(text, 0, b':');
     if colon == text.len() {
-        let named = part_named(text);
-        elements::say(text);
-        return Read { part: named, held };
+        let named = part_named(rt, text)?;
+        elements::say(rt, text)?;
+        return Ok(Read { part: named, held });
     }
     let part = read.part;
-    elements::say(&text[0..colon]);
-    let now_held = case(part, &text[colon..], program, held);
-    Read {
+    elements::say(rt, &text[0..colon])?;
+    let now_held = case(rt, part, &text[colon..], program, held)?;
+    Ok(Read {
         part,
         held: now_held,
-    }
+    })
 }
 
-fn cases(text: &[u8], program: &mut [u64]) {
+fn cases(rt: &impl Print, text: &[u8], program: &mut [u64]) -> io::Result<()> {
     let mut read = Read {
         part: Part::Unknown,
         held: 0,
@@ -101,15 +114,16 @@ fn cases(text: &[u8], program: &mut [u64]) {
     let mut at: usize = 0;
     while at < text.len() {
         let end = find(text, at, b'\n');
-        read = line(read, &text[at..end], program);
-        elements::say(b"\n");
+        read = line(rt, read, &text[at..end], program)?;
+        elements::say(rt, b"\n")?;
         at = end + 1;
     }
+    Ok(())
 }
 
-fn main() {
-    let mut text = [0; MOST_BYTES];
-    let n = io::read_full(STDIN_FILENO, &mut text);
+fn main(rt: HostRuntime) -> io::Result<()> {
+    let mut text = vec![in rt.alloc(); 0; MOST_BYTES]?;
+    let n = read_full(&mut rt.stdin(), &mut text)?;
     let mut program = [0; MOST_NUMBERS];
-    cases(&text[..n], &mut program);
+    cases(&rt, &text[..n], &mut program)
 }

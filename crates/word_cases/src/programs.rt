@@ -4,6 +4,7 @@
 use crate::elements::copy;
 use crate::shapes;
 use program_check::check_program;
+use std::io;
 use words::reply::Totals;
 
 const PROGRAM: u64 = 1;
@@ -64,13 +65,14 @@ fn totals_of(numbers: &[u64]) -> Totals {
     }
 }
 
-fn answer(numbers: &[u64]) {
+fn answer(rt: &impl Print, numbers: &[u64]) -> io::Result<()> {
     if WORDS <= numbers.len() {
         let lengths = lengths_of(numbers);
         let totals = totals_of(numbers);
         let shape = check_program(&numbers[WORDS..], lengths, totals);
-        shapes::say_shape(shape);
+        shapes::say_shape(rt, shape)?;
     }
+    Ok(())
 }
 
 fn put(numbers: &mut [u64], at: usize, number: u64) {
@@ -81,38 +83,47 @@ fn put(numbers: &mut [u64], at: usize, number: u64) {
 
 // Other numbers at some places: a place, its number, and so on.
 fn edit(numbers: &mut [u64], edits: &[u64]) {
-    let half = edits.len() / 2;
-    let mut i: usize = 0;
-    while i < half {
+    for i in 0..edits.len() / 2 {
         put(numbers, edits[2 * i] as usize, edits[2 * i + 1]);
-        i += 1;
     }
 }
 
-fn edited(program: &[u64], held: usize, edits: &[u64], numbers: &mut [u64]) {
+fn edited(
+    rt: &impl Print,
+    program: &[u64],
+    held: usize,
+    edits: &[u64],
+    numbers: &mut [u64],
+) -> io::Result<()> {
     copy(program, numbers);
     edit(numbers, edits);
     if held <= numbers.len() {
-        answer(&numbers[0..held]);
+        answer(rt, &numbers[0..held])?;
     }
+    Ok(())
 }
 
-fn changed(program: &[u64], held: usize, edits: &[u64]) {
+fn changed(rt: &impl Print, program: &[u64], held: usize, edits: &[u64]) -> io::Result<()> {
     let mut numbers = [0; MOST_NUMBERS];
-    edited(program, held, edits, &mut numbers);
+    edited(rt, program, held, edits, &mut numbers)
 }
 
 // How many numbers the last program has after this case.
-pub(crate) fn case(numbers: &[u64], program: &mut [u64], held: usize) -> usize {
+pub(crate) fn case(
+    rt: &impl Print,
+    numbers: &[u64],
+    program: &mut [u64],
+    held: usize,
+) -> io::Result<usize> {
     let count = numbers.len();
     if count < 1 {
-        return held;
+        return Ok(held);
     }
     if numbers[0] == PROGRAM {
         copy(&numbers[1..], program);
-        answer(&numbers[1..]);
-        return count - 1;
+        answer(rt, &numbers[1..])?;
+        return Ok(count - 1);
     }
-    changed(program, held, &numbers[1..]);
-    held
+    changed(rt, program, held, &numbers[1..])?;
+    Ok(held)
 }

@@ -4,6 +4,7 @@
 use crate::elements;
 use constant_slots::plain::Found;
 use constant_slots::slots;
+use std::io;
 
 const HEADER: usize = 5;
 
@@ -15,49 +16,67 @@ const PUT: u64 = 3;
 
 const MOST_SLOTS: usize = 60;
 
-fn say_found(found: Found) {
+fn say_found(rt: &impl Print, found: Found) -> io::Result<()> {
     match found {
         Found::At(i) => {
-            elements::number(1);
-            elements::number(i);
+            elements::number(rt, 1)?;
+            elements::number(rt, i)?;
         }
         Found::Nothing => {
-            elements::number(0);
-            elements::number(0);
+            elements::number(rt, 0)?;
+            elements::number(rt, 0)?;
         }
     }
+    Ok(())
 }
 
-fn search(words: &[u64], kind: u64, value: u64, count: usize, size: usize) {
+fn search(
+    rt: &impl Print,
+    words: &[u64],
+    kind: u64,
+    value: u64,
+    count: usize,
+    size: usize,
+) -> io::Result<()> {
     if size <= words.len() {
         let r = slots::find(&words[size..], count, &words[0..size], kind, value);
         let found = r.found;
-        say_found(found);
-        elements::number(r.looked as u64);
+        say_found(rt, found)?;
+        elements::number(rt, r.looked as u64)?;
     }
+    Ok(())
 }
 
 // What a routine leaves of the table and of the words beside it.
-fn change(way: u64, pool: &[u64], table: &mut [u64], kind: u64, value: u64, count: usize) {
+fn change(
+    rt: &impl Print,
+    way: u64,
+    pool: &[u64],
+    table: &mut [u64],
+    kind: u64,
+    value: u64,
+    count: usize,
+) -> io::Result<()> {
     if table.len() < 2 {
-        return;
+        return Ok(());
     }
     let end = table.len() - 1;
     if way == FILL {
         slots::fill(pool, count, &mut table[1..end]);
-        elements::words(table);
-        return;
+        elements::words(rt, table)?;
+        return Ok(());
     }
     if way == PUT {
         slots::put(&mut table[1..end], count as u64, kind, value);
-        elements::words(table);
-        return;
+        elements::words(rt, table)?;
+        return Ok(());
     }
     slots::clear(&mut table[1..end]);
-    elements::words(table);
+    elements::words(rt, table)
 }
 
 fn lend(
+    rt: &impl Print,
     words: &[u64],
     way: u64,
     kind: u64,
@@ -65,26 +84,43 @@ fn lend(
     count: usize,
     size: usize,
     table: &mut [u64],
-) {
+) -> io::Result<()> {
     if size <= MOST_SLOTS {
         let all = size + 2;
         if all <= table.len() {
             if size <= words.len() {
                 elements::copy(&words[0..size], &mut table[1..]);
-                change(way, &words[size..], &mut table[0..all], kind, value, count);
+                change(
+                    rt,
+                    way,
+                    &words[size..],
+                    &mut table[0..all],
+                    kind,
+                    value,
+                    count,
+                )?;
             }
         }
     }
+    Ok(())
 }
 
-fn lent(words: &[u64], way: u64, kind: u64, value: u64, count: usize, size: usize) {
+fn lent(
+    rt: &impl Print,
+    words: &[u64],
+    way: u64,
+    kind: u64,
+    value: u64,
+    count: usize,
+    size: usize,
+) -> io::Result<()> {
     let mut table = [7; 64];
-    lend(words, way, kind, value, count, size, &mut table);
+    lend(rt, words, way, kind, value, count, size, &mut table)
 }
 
-pub(crate) fn case(numbers: &[u64]) {
+pub(crate) fn case(rt: &impl Print, numbers: &[u64]) -> io::Result<()> {
     if numbers.len() < HEADER {
-        return;
+        return Ok(());
     }
     let way = numbers[0];
     let kind = numbers[1];
@@ -92,8 +128,8 @@ pub(crate) fn case(numbers: &[u64]) {
     let entries = numbers[3] as usize;
     let size = numbers[4] as usize;
     if way == SEARCH {
-        search(&numbers[HEADER..], kind, value, entries, size);
-        return;
+        search(rt, &numbers[HEADER..], kind, value, entries, size)?;
+        return Ok(());
     }
-    lent(&numbers[HEADER..], way, kind, value, entries, size);
+    lent(rt, &numbers[HEADER..], way, kind, value, entries, size)
 }

@@ -2,6 +2,7 @@
 // words. The reply, and every element of the output with those beside it.
 use crate::elements;
 use constant_tables::{records_to_table, table_to_records};
+use std::io;
 
 const HEADER: usize = 3;
 
@@ -13,32 +14,32 @@ const BESIDE: usize = 2;
 const MOST_ROOM: usize = 500;
 
 // A call on what lies between the elements beside.
-fn forward(table: &[u8], file: u64, out: &mut [u64]) {
+fn forward(rt: &impl Print, table: &[u8], file: u64, out: &mut [u64]) -> io::Result<()> {
     if out.len() < BESIDE + BESIDE {
-        return;
+        return Ok(());
     }
     let end = out.len() - BESIDE;
     let answer = table_to_records(table, file, &mut out[BESIDE..end]);
-    elements::number(answer.number);
-    elements::number(answer.place as u64);
-    elements::number(answer.total as u64);
-    elements::words(out);
+    elements::number(rt, answer.number)?;
+    elements::number(rt, answer.place as u64)?;
+    elements::number(rt, answer.total as u64)?;
+    elements::words(rt, out)
 }
 
-fn backward(tree: &[u64], out: &mut [u8]) {
+fn backward(rt: &impl Print, tree: &[u64], out: &mut [u8]) -> io::Result<()> {
     if out.len() < BESIDE + BESIDE {
-        return;
+        return Ok(());
     }
     let end = out.len() - BESIDE;
     let answer = records_to_table(tree, &mut out[BESIDE..end]);
-    elements::number(answer.number);
-    elements::number(answer.place as u64);
-    elements::number(answer.total as u64);
-    elements::number(answer.file);
-    elements::bytes(out);
+    elements::number(rt, answer.number)?;
+    elements::number(rt, answer.place as u64)?;
+    elements::number(rt, answer.total as u64)?;
+    elements::number(rt, answer.file)?;
+    elements::bytes(rt, out)
 }
 
-fn to_records(table: &[u64], file: u64, room: usize) {
+fn to_records(rt: &impl Print, table: &[u64], file: u64, room: usize) -> io::Result<()> {
     let mut bytes = [0; 512];
     elements::copy_bytes(table, &mut bytes);
     let size = table.len();
@@ -46,29 +47,31 @@ fn to_records(table: &[u64], file: u64, room: usize) {
     if room <= MOST_ROOM {
         if size <= MOST_ROOM {
             let all = room + BESIDE + BESIDE;
-            forward(&bytes[0..size], file, &mut out[0..all]);
+            forward(rt, &bytes[0..size], file, &mut out[0..all])?;
         }
     }
+    Ok(())
 }
 
-fn to_table(tree: &[u64], room: usize) {
+fn to_table(rt: &impl Print, tree: &[u64], room: usize) -> io::Result<()> {
     let mut out = [7; 512];
     if room <= MOST_ROOM {
         let all = room + BESIDE + BESIDE;
-        backward(tree, &mut out[0..all]);
+        backward(rt, tree, &mut out[0..all])?;
     }
+    Ok(())
 }
 
-pub(crate) fn case(numbers: &[u64]) {
+pub(crate) fn case(rt: &impl Print, numbers: &[u64]) -> io::Result<()> {
     if numbers.len() < HEADER {
-        return;
+        return Ok(());
     }
     let way = numbers[0];
     let file = numbers[1];
     let room = numbers[2] as usize;
     if way == BACK {
-        to_table(&numbers[HEADER..], room);
-        return;
+        to_table(rt, &numbers[HEADER..], room)?;
+        return Ok(());
     }
-    to_records(&numbers[HEADER..], file, room);
+    to_records(rt, &numbers[HEADER..], file, room)
 }

@@ -1,0 +1,76 @@
+-- The cycle of `compile_statement`: each member does what the definition does to what stands at its place. The measure is the unread span.
+-- A loop's invariant: whatever finishes from here finishes the whole. Assumes nothing.
+use Rattle.std.proofs.Common.{◌≡◌, ℕ, ◌+◌, ◌-◌, ◌<◌, ◌≤◌, length, sym, refl, ◌∙◌, arith, rules}
+use Rattle.compiler_laws.specs.Cells.{state_of}
+use Rattle.compiler_laws.proofs.Tokens.{skip_more, skip_inside}
+use Rattle.book_compiler.specs.Represents.{Memory, laid}
+use Rattle.book_compiler.specs.Members.{CompilesExpressions, CompilesList, CompilesStatements, CompilesVariables}
+use Rattle.book_compiler.proofs.ExpressionKinds as e
+use Rattle.book_compiler.proofs.Infix as i
+use Rattle.book_compiler.proofs.Ifs as f
+use Rattle.book_compiler.proofs.StatementKinds as s
+use Rattle.book_compiler.proofs.Variables as v
+use Rattle.book_compiler.proofs.BothParts.{break_acts}
+use Rattle.book_compiler.proofs.Loops.{for_meets, for_past}
+use Rattle.book_compiler.proofs.+statements_and_expressions.Given as goal
+
+abbrev pub decreases-statements::compile_for_statement : goal.decreases-statements::compile_for_statement
+decreases-statements::compile_for_statement l = l.end - l.at
+
+abbrev pub decreases-statements::compile_block : goal.decreases-statements::compile_block
+decreases-statements::compile_block l = l.end - l.at
+
+abbrev pub decreases-statements::compile_statement : goal.decreases-statements::compile_statement
+decreases-statements::compile_statement l = l.end - l.at
+
+abbrev pub decreases-expressions::compile_if_expression : goal.decreases-expressions::compile_if_expression
+decreases-expressions::compile_if_expression l = l.end - l.at
+
+abbrev pub decreases-expressions::compile_assign_expression_left_part : goal.decreases-expressions::compile_assign_expression_left_part
+decreases-expressions::compile_assign_expression_left_part l = l.end - l.at
+
+abbrev pub decreases-expressions::compile_infix_expression : goal.decreases-expressions::compile_infix_expression
+decreases-expressions::compile_infix_expression l = l.end - l.at
+
+abbrev pub decreases-expressions::compile_expression : goal.decreases-expressions::compile_expression
+decreases-expressions::compile_expression l = l.end - l.at
+
+abbrev pub invariant-expressions::compile_assign_expression_left_part-loop-i : goal.invariant-expressions::compile_assign_expression_left_part-loop-i
+invariant-expressions::compile_assign_expression_left_part-loop-i l =
+    (l.at < l.i) × (length l.memory ≡ length l.initial.memory) × ((m : Memory) → CompilesExpressions l.tree l.i l.end l.start l.count
+    (laid (state_of l.cells) l.starts l.memory) m → CompilesExpressions l.tree (l.at + 1) l.end l.start l.count (laid (state_of l.initial.cells) l.starts l.initial.memory) m)
+
+abbrev pub decreases-expressions::compile_assign_expression_left_part-loop-i : goal.decreases-expressions::compile_assign_expression_left_part-loop-i
+decreases-expressions::compile_assign_expression_left_part-loop-i l = l.end - l.i
+
+abbrev pub invariant-expressions::compile_expression-loop-i : goal.invariant-expressions::compile_expression-loop-i
+invariant-expressions::compile_expression-loop-i l = (l.at + l.n < l.i) ×
+    (length l.memory ≡ length l.initial.memory) × ((m : Memory) (r : ℕ) → CompilesList l.tree l.i l.end l.start l.count
+    (laid (state_of l.cells) l.starts l.memory) m l.n r → CompilesList l.tree (l.at + 1) l.end l.start l.count (laid (state_of l.initial.cells) l.starts l.initial.memory) m 0 r)
+
+abbrev pub decreases-expressions::compile_expression-loop-i : goal.decreases-expressions::compile_expression-loop-i
+decreases-expressions::compile_expression-loop-i l = l.end - l.i
+
+abbrev pub invariant-statements::compile_block-loop-i : goal.invariant-statements::compile_block-loop-i
+invariant-statements::compile_block-loop-i l = (l.at < l.i) × (length l.memory ≡ length l.initial.memory) ×
+    ((m : Memory) → CompilesStatements l.tree l.i l.end l.start l.count (laid (state_of l.cells) l.starts l.memory) m
+    → CompilesStatements l.tree (l.at + 1) l.end l.start l.count (laid (state_of l.initial.cells) l.starts l.initial.memory) m)
+
+abbrev pub decreases-statements::compile_block-loop-i : goal.decreases-statements::compile_block-loop-i
+decreases-statements::compile_block-loop-i l = l.end - l.i
+
+abbrev pub invariant-statements::compile_for_statement-loop-i : goal.invariant-statements::compile_for_statement-loop-i
+invariant-statements::compile_for_statement-loop-i l =
+    (l.at < l.i) × (length l.memory ≡ length l.initial.memory) × ((m : Memory) → CompilesStatements l.tree l.i l.end l.start l.count
+    (laid (state_of l.cells) l.starts l.memory) m → CompilesStatements l.tree l.body l.end l.start l.count (laid (state_of l.initial.cells) l.starts l.initial.memory) m)
+
+abbrev pub decreases-statements::compile_for_statement-loop-i : goal.decreases-statements::compile_for_statement-loop-i
+decreases-statements::compile_for_statement-loop-i l = l.end - l.i
+
+abbrev pub invariant-statements::compile_statement-loop-i : goal.invariant-statements::compile_statement-loop-i
+invariant-statements::compile_statement-loop-i l = (l.at < l.i) ×
+    (length l.memory ≡ length l.initial.memory) × ((m : Memory) → CompilesVariables l.tree l.i l.end l.start l.count
+    (laid (state_of l.cells) l.starts l.memory) m → CompilesVariables l.tree (l.at + 1) l.end l.start l.count (laid (state_of l.initial.cells) l.starts l.initial.memory) m)
+
+abbrev pub decreases-statements::compile_statement-loop-i : goal.decreases-statements::compile_statement-loop-i
+decreases-statements::compile_statement-loop-i l = l.end - l.i

@@ -1,0 +1,16 @@
+-- `book_compiler::driver::run_short` meets its contract. Assumes nothing.
+use Rattle.std.proofs.Common.{refl, rules}
+use Rattle.compiler_laws.proofs.RowsBeforeWork.{fresh_zeros}
+use Rattle.book_compiler.proofs.driver.run_short.Goals as goal
+
+pub run_in-requires : goal.run_in-requires
+run_in-requires c =
+    (fresh_zeros c.args.tree.now 64 (c.requires.below refl), refl, refl)
+
+pub shape_of-memory : goal.shape_of-memory
+shape_of-memory c =
+    c.run_in.auto.memory
+
+pub returns : goal.returns
+returns c =
+    c.run_in.ensures

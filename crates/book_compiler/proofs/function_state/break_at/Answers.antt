@@ -1,0 +1,19 @@
+-- `book_compiler::function_state::break_at` meets its contract: it lends part 10. Assumes nothing.
+use Rattle.memory.specs.Layout.{part}
+use Rattle.book_compiler.proofs.Parts.{reads_wide, reads_back}
+use Rattle.std.proofs.Common.{arith, rules}
+use Rattle.book_compiler.proofs.function_state.break_at.Goals as goal
+
+pub returns-then-end-memory : goal.returns-then-end-memory
+unfolding part
+returns-then-end-memory c = record { reads = record { on = λ f. c.break_at.ensures } }
+
+pub returns-else-end-memory : goal.returns-else-end-memory
+returns-else-end-memory c =
+    record { reads = reads_wide {i = 10} (omega arith) c.args.starts.now c.args.memory.now c.if-end-memory.false }
+
+pub returns-else-start-end : goal.returns-else-start-end
+returns-else-start-end c = record {
+  reads = reads_back {i = 10} (omega arith) c.args.starts.now
+      c.args.memory.now c.if-start-end.false;
+}

@@ -1,0 +1,23 @@
+-- `book_compiler::function_state::define_local` meets its contract: it lends part 9. Assumes nothing.
+use Rattle.std.proofs.Common.{refl, arith, rules}
+use Rattle.memory.specs.Layout.{part, with_part}
+use Rattle.book_compiler.proofs.Parts.{on_part, on_wide, on_back}
+use Rattle.book_compiler.proofs.function_state.define_local.Goals as goal
+
+pub returns-then-end-memory : goal.returns-then-end-memory
+unfolding part with_part
+returns-then-end-memory c =
+    record {
+      acts = on_part {i = 9} c.args.starts.now c.args.memory.now
+          c.define_local.new.names c.define_local.ensures c.define_local.auto.names;
+    }
+
+pub returns-else-end-memory : goal.returns-else-end-memory
+returns-else-end-memory c =
+    record { acts = on_wide {i = 9} (omega arith) c.args.starts.now c.args.memory.now _ c.if-end-memory.false }
+
+pub returns-else-start-end : goal.returns-else-start-end
+returns-else-start-end c = record {
+  acts = on_back {i = 9} (omega arith) c.args.starts.now
+      c.args.memory.now _ c.if-start-end.false;
+}

@@ -1,0 +1,23 @@
+-- `book_compiler::functions::drop_function` meets its contract: it lends part 1. Assumes nothing.
+use Rattle.memory.specs.Layout.{part, with_part}
+use Rattle.book_compiler.proofs.Parts.{on_part, on_wide, on_back}
+use Rattle.std.proofs.Common.{arith, rules}
+use Rattle.book_compiler.proofs.functions.drop_function.Goals as goal
+
+pub returns-then-end-memory : goal.returns-then-end-memory
+unfolding part with_part
+returns-then-end-memory c =
+    record {
+      acts = on_part {i = 1} c.args.starts.now c.args.memory.now
+          c.drop_function.new.code c.drop_function.ensures c.drop_function.auto.code;
+    }
+
+pub returns-else-end-memory : goal.returns-else-end-memory
+returns-else-end-memory c =
+    record { acts = on_wide {i = 1} (omega arith) c.args.starts.now c.args.memory.now _ c.if-end-memory.false }
+
+pub returns-else-start-end : goal.returns-else-start-end
+returns-else-start-end c = record {
+  acts = on_back {i = 1} (omega arith) c.args.starts.now
+      c.args.memory.now _ c.if-start-end.false;
+}

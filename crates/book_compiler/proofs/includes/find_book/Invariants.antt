@@ -1,0 +1,13 @@
+-- `book_compiler::includes::find_book` meets its contract. The invariant: what is found from the first on is what is found from here on. Assumes nothing.
+use Rattle.std.proofs.Common.{◌≡◌, ◌-◌, sym, refl, ◌∙◌, arith, rules, eq-eqb, ne_eqb}
+use Rattle.words.specs.Areas.{entry_field}
+use Rattle.building.specs.Found.{first_from}
+use Rattle.building.proofs.OldestFirst.{first_start, first_here, first_next, first_end}
+use Rattle.compiler_laws.specs.IncludeSteps.{is_book}
+use Rattle.book_compiler.proofs.includes.find_book.Given as goal
+
+abbrev pub invariant-loop-i : goal.invariant-loop-i
+invariant-loop-i l = first_from (is_book l.file l.books) (l.many - l.i) l.i ≡ first_from (is_book l.file l.books) l.many 0
+
+abbrev pub decreases-loop-i : goal.decreases-loop-i
+decreases-loop-i l = l.many - l.i

@@ -1,0 +1,38 @@
+-- `book_compiler::methods::copy_entries` meets its contract. The invariant: whatever copies from here on copies all, and the methods that stood are the
+-- first. Assumes nothing.
+use Rattle.std.proofs.Common.{◌≡◌, ℕ, ◌-◌, List, length, sym, refl, subst, arith, rules}
+use Rattle.compiler_laws.specs.declared.book.Book.{Book}
+use Rattle.compiler_laws.specs.ModelSteps.{CopiesMethod}
+use Rattle.compiler_laws.proofs.CopiedMethods.{copies_end, copies_more, copies_done, CopiesFrom}
+use Rattle.undo.specs.Notes.{plain_methods}
+use Rattle.book_compiler.specs.BookLeaves.{SparesMethods, SameCounts, StoodFirst, methods_said}
+use Rattle.book_compiler.proofs.StoodBooks.{methods_stay, methods_then, same_counts, counts_then, stood_first_on}
+use Rattle.book_compiler.proofs.methods.copy_entries.Goals as goal
+
+pub loop-i-init : goal.loop-i-init
+loop-i-init c = (refl, same_counts _, λ h s' t' x. x, methods_stay _ _)
+
+pub loop-i-preserved : goal.loop-i-preserved
+loop-i-preserved c =
+    let S = c.loop-i.invariant.1 in (
+      omega (arith, c.loop-i.invariant.0, c.copy_entry-b.auto.methods),
+      counts_then S c.copy_entry-b.ensures.counts,
+      λ h s' t' x. c.loop-i.invariant.2 h s' t'
+          (copies_more c.args.source c.args.target c.args.book.methods c.loop-i.i c.loop-i-test.true
+          (subst (λ (n : ℕ). CopiesMethod c.args.source c.args.target c.loop-i.i c.loop-i.b (plain_methods n c.loop-i.methods)
+          c.copy_entry-b.result (plain_methods n c.copy_entry-b.new.methods)) S.standing
+          (c.copy_entry-b.ensures.copies (stood_first_on c.loop-i.invariant.3 S h))) x),
+      methods_then S c.loop-i.invariant.3 c.copy_entry-b.ensures.spares,
+    )
+
+pub returns : goal.returns
+returns c = (
+  record {
+    copies = λ h. copies_done c.args.source c.args.target
+        c.args.book.methods refl (c.loop-i.invariant.2 h _ _
+        (copies_end c.args.source c.args.target c.args.book.methods
+        c.loop-i.i c.loop-i-test.false));
+    spares = c.loop-i.invariant.3;
+  },
+  c.loop-i.invariant.1,
+)

@@ -1,0 +1,11 @@
+-- `book_compiler::models::place_model` meets its contract: with the mark set, and without. Assumes nothing.
+use Rattle.book_compiler.proofs.ModelDefinitions.{place_full, place_model_lem}
+use Rattle.std.proofs.Common.{rules}
+use Rattle.book_compiler.proofs.models.place_model.Goals as goal
+
+pub returns-then-book-ne0 : goal.returns-then-book-ne0
+returns-then-book-ne0 c = place_full c.if-book-ne0.true
+
+pub returns : goal.returns
+returns c =
+    place_model_lem c.if-book-ne0.false c.take_model-b.ensures c.add_constant-a.ensures c.define_local-d.ensures c.set_value.ensures

@@ -1,0 +1,19 @@
+-- `book_compiler::onto::clear_errors` meets its contract: it lends part 11. Assumes nothing.
+use Rattle.memory.specs.Layout.{part, with_part}
+use Rattle.book_compiler.proofs.LentParts.{part_lent, part_wide, part_back}
+use Rattle.std.proofs.Common.{arith, rules}
+use Rattle.book_compiler.proofs.onto.clear_errors.Goals as goal
+
+pub returns-then-end-memory : goal.returns-then-end-memory
+unfolding part with_part
+returns-then-end-memory c =
+    part_lent {i = 11} c.args.starts.now c.args.memory.now c.clear_from.new.area c.clear_from.ensures
+    c.clear_from.auto.area
+
+pub returns-else-end-memory : goal.returns-else-end-memory
+returns-else-end-memory c =
+    part_wide {i = 11} (omega arith) c.args.starts.now c.args.memory.now _ c.if-end-memory.false
+
+pub returns-else-start-end : goal.returns-else-start-end
+returns-else-start-end c = part_back {i = 11} (omega arith) c.args.starts.now c.args.memory.now _
+    c.if-start-end.false

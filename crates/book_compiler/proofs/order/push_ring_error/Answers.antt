@@ -1,0 +1,19 @@
+-- `book_compiler::order::push_ring_error` meets its contract: it lends part 11. Assumes nothing.
+use Rattle.memory.specs.Layout.{part, with_part}
+use Rattle.book_compiler.proofs.LentParts.{part_lent, part_wide, part_back}
+use Rattle.std.proofs.Common.{arith, rules}
+use Rattle.book_compiler.proofs.order.push_ring_error.Goals as goal
+
+pub returns-then-end-memory : goal.returns-then-end-memory
+unfolding part with_part
+returns-then-end-memory c =
+    part_lent {i = 11} c.args.starts.now c.args.memory.now c.take4.new.area c.take4.ensures
+    c.take4.auto.area
+
+pub returns-else-end-memory : goal.returns-else-end-memory
+returns-else-end-memory c =
+    part_wide {i = 11} (omega arith) c.args.starts.now c.args.memory.now _ c.if-end-memory.false
+
+pub returns-else-start-end : goal.returns-else-start-end
+returns-else-start-end c = part_back {i = 11} (omega arith) c.args.starts.now c.args.memory.now _
+    c.if-start-end.false

@@ -1,0 +1,13 @@
+-- `book_compiler::pairs::find_pair` meets its contract. The invariant: what is found from the start on is what is found from here on. The measure is what is
+-- left of the count. Assumes nothing.
+use Rattle.std.proofs.Common.{◌≡◌, ◌-◌, sym, refl, ◌∙◌, arith}
+use Rattle.building.specs.Found.{first_from}
+use Rattle.building.proofs.OldestFirst.{first_here, first_next, first_end}
+use Rattle.compiler_laws.specs.IncludeSteps.{is_pair}
+use Rattle.book_compiler.proofs.pairs.find_pair.Given as goal
+
+abbrev pub invariant-loop-i : goal.invariant-loop-i
+invariant-loop-i l = first_from (is_pair l.width l.a l.b l.area) (l.count - l.i) l.i ≡ first_from (is_pair l.width l.a l.b l.area) (l.count - l.from) l.from
+
+abbrev pub decreases-loop-i : goal.decreases-loop-i
+decreases-loop-i l = l.count - l.i
