@@ -1,20 +1,21 @@
 //! Links the static library of this repository: the one that CLOVER_BACK_END_LIB names, or that of
-//! `rt staticlib clover_back_end`, which is asked whenever a crate of the repository has changed since the
-//! last build. Crates beneath that have not changed are not proved again, so that this takes a minute or
-//! less; the first time takes some ten. The variable RT names another `rt`.
+//! `tools/staticlib`, which is asked whenever a crate of the repository has changed since the last build.
+//! Crates beneath that have not changed are not proved again, so that this takes a minute or less; the
+//! first time takes some ten and more. The variable RT names another `rt`.
 
 use std::env;
-use std::fs::OpenOptions;
+use std::fs::{read_dir, OpenOptions};
 use std::io::Write;
 use std::path::{Path, PathBuf};
 use std::process::Command;
 
 const VARIABLE: &str = "CLOVER_BACK_END_LIB";
-const CRATE: &str = "clover_back_end";
+/// Writes the library; from the repository's root.
+const TOOL: &str = "tools/staticlib";
 /// From the repository's root.
 const LIBRARY: &str = "target/staticlib/libclover_back_end.a";
-/// What the library is made of, from the repository's root.
-const SOURCES: [&str; 2] = ["crates", "crates.txt"];
+/// What a crate is made of, in its folder. `out/`, beside these, is written at each asking.
+const SOURCES: [&str; 3] = ["src", "specs", "proofs"];
 
 /// Cargo shows a build script's output only when it fails, and a first proof takes minutes: where there
 /// is a terminal, it is told.
@@ -26,18 +27,25 @@ fn tell(what: &str) {
     }
 }
 
+/// Names what the library is made of to cargo.
+fn watch(root: &Path) {
+    println!("cargo:rerun-if-changed={}", root.join("crates.txt").display());
+    for entry in read_dir(root.join("crates")).expect("the repository's crates") {
+        let folder = entry.expect("an entry of a folder").path();
+        for source in SOURCES.map(|name| folder.join(name)).iter().filter(|source| source.is_dir()) {
+            println!("cargo:rerun-if-changed={}", source.display());
+        }
+    }
+}
+
 fn built() -> PathBuf {
     let here = PathBuf::from(env::var_os("CARGO_MANIFEST_DIR").expect("cargo sets it"));
     let root = here.parent().expect("the crate is a folder of the repository");
-    for source in SOURCES {
-        println!("cargo:rerun-if-changed={}", root.join(source).display());
-    }
-    let rt = env::var("RT").unwrap_or_else(|_| "rt".to_string());
-    let first = if root.join(LIBRARY).is_file() { "" } else { "; the first time takes about ten minutes" };
-    tell(&format!("asking `{rt} staticlib {CRATE}`: what has changed is proved{first}"));
-    let status = Command::new(&rt).args(["staticlib", CRATE]).current_dir(root).status();
-    let status = status.unwrap_or_else(|e| panic!("{rt}: {e}; have the kit on the PATH or set {VARIABLE}"));
-    assert!(status.success(), "{rt} staticlib {CRATE} fails");
+    watch(root);
+    let first = if root.join(LIBRARY).is_file() { "" } else { "; the first time takes ten minutes and more" };
+    tell(&format!("asking `{TOOL}`: what has changed is proved{first}"));
+    let status = Command::new(root.join(TOOL)).status().unwrap_or_else(|e| panic!("{TOOL}: {e}"));
+    assert!(status.success(), "{TOOL} fails; have the kit's `rt` on the PATH, or set RT or {VARIABLE}");
     root.join(LIBRARY)
 }
 

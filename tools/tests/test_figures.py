@@ -12,13 +12,17 @@ marked = module("marked", ROOT / "tools" / "marked.py")
 
 LOG = """\
 gate: commit abc1234, 2026-11-16, 2 processors
-rt: words proved (21 s)
-fn words::kind_at: proved
-rt: listing proved (23 s)
-rt: must-fail words/shift_55: refused, as it must be (first at proofs/opcode/Proof.antt:18:13; 20 s)
-rt: must-fail words/stores_swapped: refused, as it must be (22 s)
-rt: listing ran as nobody, and wrote what its file 'stdout' has (1 s)
-5 passed, 0 failed
+21 s  fn words::kind_at: proved
+21 s  rt: words proved
+21 s  rt: words: trying its must-fail edits (2)
+23 s  rt: tree is kept: an earlier run on this machine proved the same files over the same libraries
+44 s  rt: listing proved
+50 s  rt: must-fail words/shift_55.edit: refused, as it must be: ./proofs/opcode/Answers.antt:18:13: error: no
+51 s  rt: must-fail words/stores_swapped.edit: refused, as it must be: note: src/lib.rt:11:1: it is not proved
+60 s  rt: listing ran, and wrote what its file stdout has
+61 s  rt: listing ran (built by Rattle's own compiler), and wrote what its file stdout has
+61 s  rt: ok; handles allowed: none; must-fail edits: 2 refused; every proof and must-fail edit was done in this run
+61 s  5 passed, 0 failed
 gate: 1938 s
 """
 
@@ -60,10 +64,14 @@ KEPT = {
 
 
 class CheckTimes(unittest.TestCase):
-    def test_a_row_for_each_crate_and_one_for_all(self):
+    def test_a_row_for_each_crate(self):
         lines = check_times.table(LOG).splitlines()
-        self.assertEqual(lines[0], "`bash .ci/run` on commit abc1234, 2026-11-16, from nothing, on 2 processors: '5 passed, 0 failed' after 32.3 minutes.")
-        self.assertEqual(lines[4:], ["| `words` | 21 | 2 in 42 |  |", "| `listing` | 23 |  | 1 |", "| all | 44 | 2 in 42 | 1 |"])
+        self.assertEqual(
+            lines[0],
+            "`bash .ci/run` on commit abc1234, 2026-11-16, on 2 processors: '5 passed, 0 failed' after 32.3 minutes; "
+            "every proof and must-fail edit was done in this run.",
+        )
+        self.assertEqual(lines[4:], ["| `words` | 21 | 2 |  |", "| `tree` | kept |  |  |", "| `listing` | 44 |  | 60 |"])
 
     def test_a_log_of_a_gate_that_failed_is_refused(self):
         for log in ("", LOG.replace("0 failed", "1 failed"), LOG.replace("gate: 1938 s\n", "")):
