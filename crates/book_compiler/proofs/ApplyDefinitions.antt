@@ -9,7 +9,7 @@ use Rattle.words.specs.Record.{token_at, value_at}
 use Rattle.tree.specs.At.{DefinitionAt}
 use Rattle.definition.specs.FunctionState.{Entry, find_name}
 use Rattle.definition.specs.Uses.{Limits}
-use Rattle.definition.specs.Book.{Book, Context, push_book_error, add_methods, methods_in, methods_of, model_of, get_local_value, find_model_by}
+use Rattle.definition.specs.Book.{Book, Context, add_methods, methods_in, methods_of, model_of, get_local_value, find_model_by}
 use Rattle.definition.specs.Book.{find_model_in, find_model_index_by_local_name, compile_apply_definition}
 use Rattle.definition_laws.proofs.StepPreserves.{same, more}
 use Rattle.building.specs.declared.scopes.Found.{Found}

@@ -1,7 +1,7 @@
 -- A routine that is lent one part of the memory does to the book what it does to its area. One law over the part's number. Assumes nothing.
-use Rattle.std.proofs.Common.{◌≡◌, ℕ, suc, ◌*◌, ◌<◌, ◌≤◌, Bool, true, false, cond, not, ◌&&◌, eqb, List, length, get_or, sym, refl, ap, ◌∙◌, subst, arith, ne_eqb, eqb-true}
+use Rattle.std.proofs.Common.{◌≡◌, ℕ, suc, ◌*◌, ◌<◌, Bool, true, false, cond, not, ◌&&◌, eqb, List, length, get_or, sym, refl, ap, ◌∙◌, subst, arith, ne_eqb, eqb-true}
 use borrow.Author.Tests.{eqb-false}
-use Rattle.memory.specs.Layout.{part, with_part, part_count, Fits}
+use Rattle.memory.specs.Layout.{part, with_part, Fits}
 use Rattle.memory.proofs.Parts.{put_part, put_fits, ends_within}
 use Rattle.definition.specs.Uses.{Limits}
 use Rattle.definition.specs.Book.{Book, BookStep, MaybePlaced}
@@ -9,12 +9,12 @@ use Rattle.definition_laws.proofs.StepPreserves.{NotesGrow}
 use Rattle.building.specs.declared.scopes.Found.{Found}
 use Rattle.compiler_laws.specs.declared.book.Book as struct
 use Rattle.compiler_laws.specs.BookAreas.{BookAreas, book_areas, RepresentsAreas, SimulatesAreas, Seeks}
-use Rattle.compiler_laws.proofs.UnchangedByBooks.{BookUnchanged, Unchanged}
+use Rattle.compiler_laws.proofs.UnchangedByBooks.{Unchanged}
 use Rattle.compiler_laws.proofs.BookStepsInOrder.{keeping_longer, unfilled}
 use Rattle.constant_slots.specs.Plain.{pool_of}
 use Rattle.undo.specs.Notes.{plain_marks, plain_methods}
 use Rattle.undo.specs.Stood.{Stood}
-use Rattle.book_compiler.specs.Represents.{SlotsFilled, Replaced}
+use Rattle.book_compiler.specs.Represents.{SlotsFilled}
 use Rattle.book_compiler.specs.RepresentsBook.{BookMemory, book_laid, area_of, book_view, is_book_area, BehindContext, PreservesParts, RepresentsBook}
 use Rattle.book_compiler.specs.RepresentsBook.{OnArea, SimulatesBook, SimulatesSought}
 use Rattle.book_compiler.specs.BookLeaves.{SameCounts, ReadsAreas}

@@ -1,22 +1,21 @@
 -- The books of a bundle one after the other over one memory: one lemma for each way through a round of `drive`, and through its end. With the mark set the
 -- notes are only added, so what is left to do changes nothing. On every way what stood is in place: no step writes it, and in area 12 only the words from
 -- `done` on move. Assumes nothing.
-use Rattle.std.proofs.Common.{◌≡◌, ℕ, zero, suc, ◌+◌, ◌-◌, ◌*◌, ◌/◌, ◌%◌, ◌<◌, ◌≤◌, Bool, true, cond, List, [], ◌∷◌, ◌++◌, length, get_or, sym, refl, ap, ◌∙◌, subst, append_assoc, arith, length-append}
+use Rattle.std.proofs.Common.{◌≡◌, ℕ, suc, ◌+◌, ◌*◌, ◌/◌, ◌%◌, ◌<◌, ◌≤◌, Bool, true, cond, List, [], ◌∷◌, ◌++◌, length, get_or, sym, refl, ap, ◌∙◌, subst, append_assoc, arith, length-append}
 use native.Mathlib.Decide.{dec_le, ℕ_discrete}
-use mathlib.Core.Option.{Option, none, some}
+use mathlib.Core.Option.{none, some}
 use lib.ListN.{get_or-append}
 use Rattle.memory.specs.Layout.{part, part_count, Fits}
 use Rattle.words.specs.Ast.{Definition, Document}
 use Rattle.words.specs.Areas.{entries_in, entry_word, entry_field, errors_area, books_area}
 use Rattle.tree.specs.At.{DocumentAt, size_doc}
-use Rattle.definition.specs.Prior.{Entries, file_numbers}
+use Rattle.definition.specs.Prior.{file_numbers}
 use Rattle.definition.specs.Uses.{Use, using', Limits, limit_of, first_over}
 use Rattle.definition.specs.Compiler.{Error}
 use Rattle.definition.specs.Program.{entries_from, error_entry}
 use Rattle.definition.specs.Within.{All, nil, ◌&◌}
-use Rattle.definition.specs.Book.{Context, Book, opened, compile_definition, compile_definitions, compile_document}
-use Rattle.definition.specs.DependencySolver.{Ending, Delivered, Faulty, Ring, Worked, after_book, drive_by, drive, ready, without, files_of, loaded_of}
-use Rattle.definition.specs.Answer.{ring_errors}
+use Rattle.definition.specs.Book.{Context, opened, compile_definition, compile_definitions, compile_document}
+use Rattle.definition.specs.DependencySolver.{Ring, Worked, after_book, drive, ready, without, files_of, loaded_of}
 use Rattle.definition_laws.proofs.Counts.{loaded_length}
 use Rattle.building.specs.declared.taking.Taken.{Taken}
 use Rattle.building.specs.Taking.{Took, taken}
@@ -29,20 +28,20 @@ use Rattle.compiler_laws.specs.declared.book.Book as struct
 use Rattle.compiler_laws.specs.BookAreas.{NamesBooks}
 use Rattle.compiler_laws.proofs.UnchangedByBooks.{Unchanged}
 use Rattle.compiler_laws.proofs.BooksPutAway.{put_away, put_away_lem}
-use Rattle.compiler_laws.specs.FileSets.{add_bit, SetIs, Ascends}
-use Rattle.compiler_laws.specs.SolverSteps.{InSets, book_unit, place_unit, AllWait, Stands, FindsReady, Brings}
+use Rattle.compiler_laws.specs.FileSets.{add_bit, Ascends}
+use Rattle.compiler_laws.specs.SolverSteps.{InSets, book_unit, place_unit, AllWait, FindsReady, Brings}
 use Rattle.compiler_laws.specs.BooksInOrder.{Leaves, Rung, PushesRingErrors}
 use Rattle.compiler_laws.proofs.NotesOfDocuments.{unchanged_definitions, drive_longer, after_longer, loaded_more}
 use Rattle.compiler_laws.proofs.BooksLeft.{all_ready, stood_at, added_at, leaves_are}
-use Rattle.compiler_laws.proofs.BooksNeeded.{without_length, without_ascends, without_missing, WaitSplit, wait_split, waits_grow, none_waits}
+use Rattle.compiler_laws.proofs.BooksNeeded.{without_length, without_ascends, without_missing, wait_split, waits_grow, none_waits}
 use Rattle.compiler_laws.proofs.WaitingBooks.{apart}
 use Rattle.compiler_laws.proofs.RingErrors.{ring_end, ring_more}
 use Rattle.compiler_laws.proofs.FileLists.{add_bit_length, set_add, add_grows}
 use Rattle.book_compiler.specs.declared.order.Next.{Next}
 use Rattle.undo.specs.Stood.{Stood}
-use Rattle.book_compiler.specs.RepresentsBook.{BookMemory, book_laid, area_of, is_book_area, RepresentsBook, RepresentsContext, CompilesDocument}
-use Rattle.book_compiler.specs.BookOrder.{LentPart, ReadsPart, with_books, AtRest, Picked, PicksNext, PushesRingErrorsIn}
-use Rattle.book_compiler.specs.BookOrder.{Came, came_delivered, came_faulty, came_ring, Outcome, Driving, Drives}
+use Rattle.book_compiler.specs.RepresentsBook.{BookMemory, book_laid, area_of, is_book_area, RepresentsBook, CompilesDocument}
+use Rattle.book_compiler.specs.BookOrder.{LentPart, ReadsPart, with_books, PicksNext, PushesRingErrorsIn}
+use Rattle.book_compiler.specs.BookOrder.{came_delivered, came_faulty, came_ring, Outcome, Driving, Drives}
 use Rattle.book_compiler.proofs.Stood.{stood_nothing}
 use Rattle.book_compiler.proofs.StoodBooks.{behind_grown}
 use Rattle.book_compiler.proofs.LentParts.{lent_does, lent_other, lent_part, lent_fits, still_at_rest, stood_beside}

@@ -1,9 +1,9 @@
 -- The code and the breaks, lent one after the other: `emit_break` and `exit_break_scope` on one memory. Assumes nothing.
-use Rattle.std.proofs.Common.{◌≡◌, ℕ, suc, ◌+◌, ◌-◌, ◌<◌, ◌≤◌, min, Bool, true, false, cond, eqb, List, [], ◌∷◌, length, sym, refl, ap, ◌∙◌, subst, arith, ne_eqb, eqb-true}
+use Rattle.std.proofs.Common.{◌≡◌, ℕ, ◌+◌, ◌-◌, ◌<◌, ◌≤◌, min, Bool, true, false, cond, eqb, List, [], ◌∷◌, length, sym, refl, ap, ◌∙◌, subst, arith, ne_eqb, eqb-true}
 use borrow.Author.Tests.{eqb-false}
-use Rattle.memory.specs.Layout.{part, with_part, part_count, Fits}
+use Rattle.memory.specs.Layout.{part, Fits}
 use Rattle.memory.proofs.Parts.{put_part, put_fits}
-use Rattle.words.specs.Areas.{code_area, breaks_area, entry_field}
+use Rattle.words.specs.Areas.{breaks_area, entry_field}
 use Rattle.words.specs.Opcode.{to_instruction, word, Jump}
 use Rattle.definition.specs.FunctionState as method
 use Rattle.definition.specs.FunctionState.{tail}
@@ -11,20 +11,19 @@ use Rattle.definition.specs.Uses.{Limits, total}
 use Rattle.definition.specs.Compiler.{Work, doing}
 use Rattle.definition.specs.Program.{Entries}
 use Rattle.building.specs.declared.function_state.FunctionState.{FunctionState}
-use Rattle.building.specs.declared.taking.Taken.{Taken}
 use Rattle.building.specs.State.{with_breaks, with_loop}
 use Rattle.building.specs.Taking.{taken_of, took_words, Took, given_up}
-use Rattle.building.specs.Emission.{Coded, coded, Breaking, breaking, next_c, emit_c, replace_c, patch_c, emit_break_c, exit_break_c}
-use Rattle.building.specs.RepresentsMachine.{Machine, machine, RepresentsMachine, is_open}
+use Rattle.building.specs.Emission.{coded, Breaking, breaking, next_c, emit_c, replace_c, patch_c, emit_break_c, exit_break_c}
+use Rattle.building.specs.RepresentsMachine.{RepresentsMachine, is_open}
 use Rattle.building.proofs.Emitting.{patch_turn, patch_end, exit_full, exit_more, break_in_lem, break_out}
 use Rattle.building.proofs.BreakLaws.{held_breaking, breaking_machine, break_law, exit_break_law}
 use Rattle.constant_slots.specs.Plain.{pool_of}
 use Rattle.undo.specs.Notes.{plain_marks}
 use Rattle.undo.specs.Stood.{Stood}
-use Rattle.book_compiler.specs.Represents.{Memory, laid, part_of, Represents, Replaced, On, Simulates}
+use Rattle.book_compiler.specs.Represents.{Memory, laid, part_of, Represents, On, Simulates}
 use Rattle.book_compiler.proofs.Parts.{unbuilt, slots_same}
 use Rattle.book_compiler.proofs.ConstantCount.{break_count, exit_break_count}
-use Rattle.book_compiler.specs.Leaves.{OnCode, OnBreaks, GivesUpBreaks, WaitingBreak, PushesBreak, Both, OnBoth, patched}
+use Rattle.book_compiler.specs.Leaves.{OnCode, OnBreaks, GivesUpBreaks, WaitingBreak, OnBoth, patched}
 use Rattle.book_compiler.proofs.Stood.{stood_spared, stood_nothing}
 use Rattle.book_compiler.proofs.StoodFunctions.{Ordered, behind_onward, SparesBreaking, break_spares, exit_break_spares}
 use Rattle.book_compiler.proofs.Laws.{is_ordered}

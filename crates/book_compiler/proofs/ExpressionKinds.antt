@@ -1,24 +1,23 @@
 -- One lemma for each way through a member of the cycle that compiles expressions, over what its calls ensure. Assumes nothing.
-use Rattle.std.proofs.Common.{◌≡◌, ℕ, ◌+◌, ◌-◌, ◌<◌, ◌≤◌, List, sym, refl, ap, ◌∙◌, subst, arith}
+use Rattle.std.proofs.Common.{◌≡◌, ℕ, ◌+◌, ◌-◌, ◌<◌, ◌≤◌, List, sym, ap, ◌∙◌, arith}
 use Rattle.words.specs.Ast.{Token, Expression, Expressions, Identifier, This, Null, Integer, Float, Text, Boolean, Array, Prefix, Infix, If, IfElse}
 use Rattle.words.specs.Ast.{Call, InstanceGet, IndexGet, ∅ₑ, ◌∷ₑ◌}
-use Rattle.words.specs.Opcode.{to_instruction, word, InstanceGetOp, IndexGetOp, ArrayOp, CallOp}
 use Rattle.words.specs.Record.{token_at, kind_at, position_at, value_at}
 use Rattle.definition.specs.Compiler.{and_then, skip, compile_pair, compile_prefix_expression, compile_expression, compile_expressions}
 use Rattle.definition.specs.Compiler.{compile_array_expression, compile_call_expression}
 use Rattle.definition.specs.Compiler as definition
 use Rattle.definition_laws.proofs.StepPreserves.{preserves_expression}
-use Rattle.tree.specs.At.{Head, Headed, ExpressionAt, ExpressionsAt, size_e, size_es}
+use Rattle.tree.specs.At.{ExpressionAt, ExpressionsAt, size_e, size_es}
 use Rattle.tree.proofs.View.{ViewE, see_e, head_e, size_e_pos}
-use Rattle.tree.proofs.View.ViewE.{v_Array, v_Prefix, v_Infix, v_If, v_If_else, v_Call, v_Instance_get, v_Index_get}
-use Rattle.compiler_laws.specs.InsideFunction.{Counted, skip_c}
+use Rattle.tree.proofs.View.ViewE.{v_Infix, v_If, v_If_else}
+use Rattle.compiler_laws.specs.InsideFunction.{skip_c}
 use Rattle.compiler_laws.proofs.ScopesBalanced.{scopes_expression}
 use Rattle.compiler_laws.proofs.ChildCounts.{count_end, count_more}
 use Rattle.compiler_laws.proofs.Tokens.{skip_law}
-use Rattle.book_compiler.specs.Represents.{Memory, Simulates, SimulatesInside}
+use Rattle.book_compiler.specs.Represents.{Memory, SimulatesInside}
 use Rattle.book_compiler.specs.Members.{token, CompilesLeaf, Finishes, CompilesExpression, CompilesExpressions, CompilesList, CompilesInfixExpression}
 use Rattle.book_compiler.specs.Members.{CompilesIfExpression}
-use Rattle.book_compiler.proofs.Steps.{acts_does, does_then, full_does}
+use Rattle.book_compiler.proofs.Steps.{does_then, full_does}
 
 module _ {tree : List ℕ} {at end start count : ℕ} where
   pub full_meets : {m : Memory} → (m.state.full ≡ 0 → ⊥) → CompilesExpression tree at end start count m m

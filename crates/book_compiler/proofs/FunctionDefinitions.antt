@@ -1,9 +1,9 @@
 -- A function definition on one memory: one lemma for each way. By the function made to its end, which is dropped or added. Assumes nothing.
-use Rattle.std.proofs.Common.{◌≡◌, ℕ, ◌+◌, Bool, true, false, cond, eqb, List, sym, refl, ap, ◌∙◌, subst}
+use Rattle.std.proofs.Common.{◌≡◌, ℕ, ◌+◌, true, false, cond, eqb, List, sym, refl, ap, ◌∙◌, subst}
 use mathlib.Core.Option.{Option}
 use Rattle.words.specs.Ast.{Token, FunctionDefinition}
 use Rattle.words.specs.Object.{constant_of, function_kind}
-use Rattle.words.specs.Record.{token_at, value_at}
+use Rattle.words.specs.Record.{value_at}
 use Rattle.tree.specs.At.{FunctionAt, size_f}
 use Rattle.definition.specs.Uses.{Limits}
 use Rattle.definition.specs.Book.{Book, Placed, MaybePlaced, Made, function_count, push_book_error, add_book_constant, set_local_value, define_context_local}

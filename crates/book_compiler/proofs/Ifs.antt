@@ -1,16 +1,16 @@
 -- One lemma for each way through `compile_if_expression`, over what its calls ensure. The two jumps are remembered as indices, and are the definition's
 -- where nothing is full, by the notes. Assumes nothing.
-use Rattle.std.proofs.Common.{◌≡◌, ℕ, ◌+◌, ◌<◌, ◌≤◌, List, sym, refl, ap, ◌∙◌, subst, arith}
-use Rattle.words.specs.Ast.{Expression, Statements}
+use Rattle.std.proofs.Common.{◌≡◌, ℕ, ◌+◌, ◌≤◌, List, sym, refl, ap, ◌∙◌, arith}
+use Rattle.words.specs.Ast.{Expression}
 use Rattle.words.specs.Areas.{context_locals_area}
 use Rattle.words.specs.Opcode.{to_instruction, word, Jump, JumpIf}
 use Rattle.definition.specs.Uses.{Limits}
-use Rattle.definition.specs.Compiler.{Work, Step, emit_opcode_without_position, replace_instruction, next, compile_expression}
-use Rattle.definition.specs.Compiler.{compile_no_part, compile_part, compile_statements, compile_if_expression}
+use Rattle.definition.specs.Compiler.{Work, Step, emit_opcode_without_position, replace_instruction, next}
+use Rattle.definition.specs.Compiler.{compile_if_expression}
 use Rattle.definition.specs.Program.{Entries}
 use Rattle.definition_laws.proofs.StepPreserves.{Steadily, preserves_function, preserves_trans, preserves_expression, preserves_statements, preserves_part}
 use Rattle.definition_laws.proofs.StepPreserves.{preserves_no_part}
-use Rattle.tree.specs.At.{Head, ExpressionAt, StatementsAt, size_e, size_ss}
+use Rattle.tree.specs.At.{Head, ExpressionAt, size_e, size_ss}
 use Rattle.tree.proofs.View.{head_e, size_e_pos}
 use Rattle.building.specs.declared.function_state.FunctionState.{FunctionState}
 use Rattle.building.specs.Emission.{next_c, emit_last_c, replace_c}

@@ -21,7 +21,7 @@ use Rattle.compiler_laws.proofs.ChildCounts.{eighteen, kind_plain}
 use Rattle.book_compiler.specs.Represents.{Memory, Simulates, SimulatesInside}
 use Rattle.book_compiler.specs.Leaves.{OnCode, PushesError}
 use Rattle.book_compiler.specs.Members.{token, Operates, CompilesExpression, CompilesExpressions, CompilesInfixExpression, CompilesAssignLeftPart}
-use Rattle.book_compiler.proofs.Steps.{acts_does, full_does}
+use Rattle.book_compiler.proofs.Steps.{full_does}
 use Rattle.book_compiler.proofs.Laws.{emitted, pushed}
 use Rattle.book_compiler.proofs.ExpressionKinds.{two_does}
 

@@ -1,6 +1,5 @@
 -- The laws of `building`'s routines on one memory: each is lent its part. Assumes nothing.
-use Rattle.std.proofs.Common.{◌≡◌, ℕ, ◌+◌, ◌*◌, ◌%◌, ◌^◌, ◌<◌, ◌≤◌, min, Bool, true, List, length, sym, refl, ap, ◌∙◌, subst, arith, length-append}
-use mathlib.Core.Option.{Option}
+use Rattle.std.proofs.Common.{◌≡◌, ℕ, ◌+◌, ◌*◌, ◌%◌, ◌^◌, ◌<◌, min, true, List, length, sym, refl, ap, ◌∙◌, subst, arith, length-append}
 use Rattle.words.specs.Ast.{Token}
 use Rattle.words.specs.Areas.{code_area, constants_area, scope_names_area, errors_area}
 use Rattle.words.specs.Object.{constant_of, NULL}
@@ -10,11 +9,10 @@ use Rattle.definition.specs.FunctionState.{find_local, tail, get_last_position, 
 use Rattle.definition.specs.FunctionState as method
 use Rattle.definition.specs.Uses.{Limits, total}
 use Rattle.definition.specs.Compiler.{Work, emit, emit_opcode_without_position, replace_instruction, next, doing, with_function, push_error, add_constant, mark_global}
-use Rattle.definition.specs.Compiler.{compile_no_part}
 use Rattle.definition.specs.Program.{Entries, code_entries}
 use Rattle.building.specs.declared.function_state.FunctionState.{FunctionState}
 use Rattle.building.specs.declared.scopes.Found.{Found}
-use Rattle.building.specs.Emission.{Coded, coded, next_c, emit_c, emit_last_c, emit_null_c, remove_pop_c, emit_return_c, replace_c, enter_break_c, deeper_c, depth_c, rescue_c}
+use Rattle.building.specs.Emission.{Coded, coded, next_c, emit_c, emit_last_c, emit_null_c, remove_pop_c, emit_return_c, replace_c, enter_break_c, deeper_c, depth_c}
 use Rattle.building.specs.Emission.{unless_full}
 use Rattle.building.specs.State.{most_depth, with_scope, with_loop, with_depth, with_local_count}
 use Rattle.building.specs.Found.{found_of, wrapped}
@@ -27,7 +25,7 @@ use Rattle.building.proofs.BreakLaws.{replace_law}
 use Rattle.building.proofs.StateLaws as state
 use Rattle.building.proofs.ScopeLaws as scopes
 use Rattle.building.proofs.PoolLaws as pool
-use Rattle.book_compiler.specs.Represents.{Memory, laid, part_of, view, Represents, Simulates}
+use Rattle.book_compiler.specs.Represents.{Memory, laid, part_of, view, Represents}
 use Rattle.book_compiler.specs.Leaves.{OnCode, OnNames, DefinesLocal, AddsConstant, MarksGlobal, PushesError, LastPosition, FindsLocal}
 use Rattle.book_compiler.proofs.Stood.{stood_spared, stood_nothing, stood_added}
 use Rattle.book_compiler.proofs.StoodFunctions.{Ordered, Onward, onward_refl, onward_unless, behind_onward, SparesCode, emit_spares, emit_last_spares}

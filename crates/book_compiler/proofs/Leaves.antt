@@ -1,20 +1,19 @@
 -- One lemma for each way through a routine that compiles no part: what its calls ensure is the definition's step. Assumes nothing.
-use Rattle.std.proofs.Common.{◌≡◌, ℕ, ◌-◌, ◌%◌, ◌^◌, ◌<◌, ◌≤◌, Bool, true, false, cond, eqb, ltb, List, [], ◌∷◌, ◌++◌, sym, refl, ap, ◌∙◌, subst, arith, le-ltb, lt-ltb, eq-eqb, ne_eqb}
+use Rattle.std.proofs.Common.{◌≡◌, ℕ, ◌-◌, ◌%◌, ◌^◌, ◌<◌, cond, eqb, List, [], ◌∷◌, ◌++◌, sym, refl, ap, ◌∙◌, arith, eq-eqb, ne_eqb}
 use mathlib.Core.Option.{Option, none, some}
 use Rattle.words.specs.Ast.{Token, Expression, Identifier, This, Null, Integer, Float, Text, Boolean, Array, Prefix, Infix, If, IfElse, Call}
 use Rattle.words.specs.Ast.{InstanceGet, IndexGet}
 use Rattle.words.specs.Object.{constant_of, text_kind, NULL, TRUE, FALSE}
 use Rattle.words.specs.Opcode.{to_instruction, word, PushConstant, LocalGet, ContextGet, GlobalGet, Not, Negative}
-use Rattle.words.specs.Opcode.{ArrayOp, CallOp, InstanceGetOp, IndexGetOp, Operation}
+use Rattle.words.specs.Opcode.{ArrayOp, CallOp, InstanceGetOp, IndexGetOp}
 use Rattle.words.specs.Record.{token_at, kind_at, position_at, value_at}
 use Rattle.words.specs.Areas.{context_locals_area}
 use Rattle.definition.specs.FunctionState.{find_local, find_name, get_next_instruction_index}
-use Rattle.definition.specs.FunctionState as method
 use Rattle.definition.specs.Uses.{Limits}
-use Rattle.definition.specs.Compiler.{Work, Step, emit, emit_opcode, push_error, add_constant, emit_constant, emit_global, emit_name, emit_name_by}
+use Rattle.definition.specs.Compiler.{Work, emit, push_error, add_constant, emit_constant, emit_global, emit_name, emit_name_by}
 use Rattle.definition.specs.Compiler.{emit_name_in_context, compile_expression, compile_prefix_expression, skip, compile_identifier_expression, compile_this_expression}
 use Rattle.definition.specs.Compiler.{compile_null_expression, compile_integer_expression, compile_float_expression, compile_string_expression}
-use Rattle.definition.specs.Compiler.{compile_boolean_expression, doing}
+use Rattle.definition.specs.Compiler.{compile_boolean_expression}
 use Rattle.definition.specs.Program.{Entries}
 use Rattle.definition_laws.proofs.StepPreserves.{preserves_name}
 use Rattle.tree.specs.At.{ExpressionAt}
@@ -29,7 +28,7 @@ use Rattle.building.proofs.ContextLaws.{find_context_law}
 use Rattle.building.proofs.StateLaws.{put_reads}
 use Rattle.compiler_laws.specs.InsideFunction.{Inside, standing_of}
 use Rattle.compiler_laws.proofs.ConstantLeaves.{low_bits}
-use Rattle.book_compiler.specs.Represents.{Memory, view, Represents, Simulates, SimulatesInside}
+use Rattle.book_compiler.specs.Represents.{Memory, Represents, Simulates, SimulatesInside}
 use Rattle.book_compiler.specs.Leaves.{OnCode, AddsConstant, MarksGlobal, PushesError, FindsLocal, FindsContextLocal}
 use Rattle.book_compiler.specs.Members.{token, CompilesLeaf, Finishes}
 use Rattle.book_compiler.proofs.Steps.{acts_does, full_does}

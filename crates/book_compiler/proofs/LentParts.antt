@@ -1,22 +1,19 @@
 -- A routine that is lent one part of a memory: that part is what it left, every other is as it was; the memory between two books stands for the same context
 -- after a routine that is lent area 12. By the law of parts. Assumes nothing.
-use Rattle.std.proofs.Common.{◌≡◌, ℕ, zero, suc, ◌+◌, ◌-◌, ◌<◌, ◌≤◌, Bool, true, false, cond, eqb, List, [], ◌∷◌, length, get_or, take, drop, replicate, sym, refl, ap, ◌∙◌, subst, arith, ltb-false, ltb-true, eqb-true}
-use native.Mathlib.Nat.{sub-zero}
-use lib.ListN.{length-replicate}
+use Rattle.std.proofs.Common.{◌≡◌, ℕ, zero, suc, ◌-◌, ◌<◌, Bool, true, false, cond, eqb, List, [], ◌∷◌, length, get_or, take, drop, replicate, sym, refl, ap, ◌∙◌, subst, arith, eqb-true}
 use borrow.Author.Tests.{eqb-false}
 use Rattle.memory.specs.Layout.{part, with_part, part_count, Fits}
-use Rattle.memory.proofs.Parts.{put_part, put_same, put_other, put_length, put_fits, ends_within, part_length}
-use Rattle.words.specs.Areas.{books_area, cleared_from}
+use Rattle.memory.proofs.Parts.{put_part, put_same, put_other, put_length, ends_within, part_length}
+use Rattle.words.specs.Areas.{books_area}
 use Rattle.definition.specs.Uses.{Use, Limits}
 use Rattle.definition.specs.Book.{Context, book_count, opened}
 use Rattle.building.proofs.Filling.{drop_zeros}
 use Rattle.compiler_laws.specs.declared.book.Book as struct
-use Rattle.compiler_laws.specs.BookAreas.{BookAreas, book_areas, RepresentsAreas}
+use Rattle.compiler_laws.specs.BookAreas.{BookAreas, RepresentsAreas}
 use Rattle.compiler_laws.specs.OpenedBooks.{opened_book, nobody}
 use Rattle.compiler_laws.specs.BooksInOrder.{Zero}
 use Rattle.constant_slots.specs.Plain.{pool_of}
 use Rattle.undo.specs.Stood.{Stood}
-use Rattle.book_compiler.specs.Represents.{Replaced}
 use Rattle.book_compiler.specs.RepresentsBook.{book_laid, book_view, is_book_area, RepresentsBook}
 use Rattle.book_compiler.specs.BookOrder.{LentPart, ReadsPart, AtRest, with_books}
 use Rattle.book_compiler.proofs.Parts.{slots_same}

@@ -1,12 +1,12 @@
 -- One lemma for each way through the routines of a local definition: what its calls ensure is the definition's. Assumes nothing.
-use Rattle.std.proofs.Common.{◌≡◌, ℕ, ◌+◌, ◌-◌, ◌<◌, ◌≤◌, List, [], ◌∷◌, length, sym, refl, ap, ◌∙◌, arith, ne_eqb}
+use Rattle.std.proofs.Common.{◌≡◌, ℕ, ◌+◌, ◌-◌, ◌<◌, ◌≤◌, List, [], ◌∷◌, sym, refl, ap, ◌∙◌, arith, ne_eqb}
 use mathlib.Core.Option.{Option, none, some}
 use Rattle.words.specs.Ast.{Token, Binding}
 use Rattle.words.specs.Object.{constant_of, integer_kind, float_kind}
 use Rattle.words.specs.Record.{token_at, kind_at, value_at}
 use Rattle.tree.specs.At.{ValueAt, BindingAt, RunAt, run_size, double}
 use Rattle.definition.specs.Uses.{Limits}
-use Rattle.definition.specs.Book.{Book, push_book_error, add_book_constant, define_context_local, set_local_value, value_of, compile_value, compile_binding_by}
+use Rattle.definition.specs.Book.{Book, add_book_constant, define_context_local, set_local_value, value_of, compile_value, compile_binding_by}
 use Rattle.definition.specs.Book.{compile_binding, compile_local_definition, NoConstant}
 use Rattle.building.specs.declared.scopes.Found.{Found}
 use Rattle.building.specs.declared.scopes.Found.TheVariants.{At, Nothing}

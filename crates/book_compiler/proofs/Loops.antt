@@ -1,23 +1,22 @@
 -- The pieces of a for statement, and the statement itself: what their calls ensure is the definition's step. The start is one step of the definition and
 -- four routines: their notes repeat. A local's number counts by its low bits; what was remembered stands where nothing is full, by the notes. Assumes nothing.
-use Rattle.std.proofs.Common.{◌≡◌, ℕ, ◌+◌, ◌%◌, ◌^◌, ◌<◌, ◌≤◌, Bool, List, length, sym, refl, ap, ◌∙◌, subst, arith}
+use Rattle.std.proofs.Common.{◌≡◌, ℕ, ◌+◌, ◌%◌, ◌^◌, ◌≤◌, List, length, sym, refl, ap, ◌∙◌, arith}
 use native.Mathlib.Nat.{mod-add-mod}
 use mathlib.Core.Option.{Option, none, some}
 use Rattle.memory.specs.Layout.{Fits}
-use Rattle.words.specs.Ast.{Token, Expression, Statements}
+use Rattle.words.specs.Ast.{Token}
 use Rattle.words.specs.Areas.{context_locals_area}
 use Rattle.words.specs.Object.{constant_of, integer_kind}
 use Rattle.words.specs.Opcode.{to_instruction, word, Pop, PushConstant, LocalSet, Jump, JumpIf, ForNext, Iterate}
-use Rattle.words.specs.Record.{token_at, position_at, value_at}
+use Rattle.words.specs.Record.{position_at, value_at}
 use Rattle.definition.specs.FunctionState as method
 use Rattle.definition.specs.FunctionState.{get_last_position, define_local, tail, Entry}
-use Rattle.definition.specs.Uses.{Limits, total}
-use Rattle.definition.specs.Compiler.{Work, with_function, doing, emit, emit_opcode_without_position, replace_instruction, next, emit_constant, found_or}
+use Rattle.definition.specs.Uses.{total}
+use Rattle.definition.specs.Compiler.{doing, emit, emit_opcode_without_position, replace_instruction, next, emit_constant, found_or}
 use Rattle.definition.specs.Compiler.{compile_expression, compile_statements, compile_for_statement}
-use Rattle.definition.specs.Program.{Entries}
 use Rattle.definition_laws.proofs.StepPreserves.{StepPreserves, Steadily, preserves_trans, preserves_function}
-use Rattle.definition_laws.proofs.StepPreserves.{preserves_emit_constant, preserves_define, preserves_expression, preserves_statements}
-use Rattle.tree.specs.At.{Leaf, ExpressionAt, StatementsAt, size_e, size_ss}
+use Rattle.definition_laws.proofs.StepPreserves.{preserves_emit_constant, preserves_expression, preserves_statements}
+use Rattle.tree.specs.At.{size_e}
 use Rattle.tree.proofs.View.{head_e, size_e_pos}
 use Rattle.building.specs.declared.function_state.FunctionState.{FunctionState}
 use Rattle.building.specs.declared.scopes.Found.{Found}
@@ -28,16 +27,16 @@ use Rattle.building.specs.RepresentsMachine.{is_open}
 use Rattle.building.proofs.ScopeLaws.{define_mark}
 use Rattle.building.proofs.Notes.{held_renoted}
 use Rattle.compiler_laws.specs.InsideFunction.{Inside, skip_c}
-use Rattle.compiler_laws.specs.ForStatements.{loop_start, loop_head, loop_defined, loop_next, loop_name, loop_end, found_or_zero, Around}
+use Rattle.compiler_laws.specs.ForStatements.{loop_start, loop_head, loop_defined, loop_next, loop_name, found_or_zero, Around}
 use Rattle.compiler_laws.proofs.ScopesBalanced.{scopes_trans, scopes_expression, scopes_statements}
 use Rattle.compiler_laws.proofs.StepsInOrder.{inside_after}
 use Rattle.compiler_laws.proofs.Tokens.{skip_law}
 use Rattle.compiler_laws.proofs.ConstantLeaves.{low_bits}
 use Rattle.compiler_laws.proofs.ForStatements.{preserves_start, preserves_head, preserves_name, scopes_head, scopes_name}
 use Rattle.book_compiler.specs.declared.statements.LoopEntry.{LoopEntry}
-use Rattle.book_compiler.specs.Represents.{Memory, laid, Represents, Simulates, SimulatesInside}
+use Rattle.book_compiler.specs.Represents.{Memory, laid, Simulates}
 use Rattle.book_compiler.specs.Leaves.{OnCode, OnNames, OnBoth, DefinesLocal, LastPosition}
-use Rattle.book_compiler.specs.Members.{LoopStarts, LoopHead, LoopName, LoopNamed, LoopEnd, CompilesExpression, CompilesStatements, CompilesForStatement}
+use Rattle.book_compiler.specs.Members.{LoopStarts, LoopHead, LoopName, LoopEnd, CompilesExpression, CompilesStatements, CompilesForStatement}
 use Rattle.book_compiler.proofs.Steps.{back}
 use Rattle.book_compiler.proofs.Laws.{emitted, last_emitted, replaced, next_is, last_is, left, defined, defined_found, anonymous, entered, loop_entered}
 use Rattle.book_compiler.proofs.BothParts.{exited}

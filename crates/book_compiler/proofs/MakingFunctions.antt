@@ -1,6 +1,6 @@
 -- A function of a book made to its end on one memory, and added to the book or dropped: one lemma for each way. By the laws of a function's begin and
 -- end, and by what a function leaves as it was. Assumes nothing.
-use Rattle.std.proofs.Common.{◌≡◌, ℕ, ◌+◌, ◌*◌, ◌<◌, ◌≤◌, Bool, true, false, cond, ◌||◌, eqb, List, [], ◌∷◌, length, sym, refl, ap, ◌∙◌, subst, arith, eq-eqb, ne_eqb, eqb-true}
+use Rattle.std.proofs.Common.{◌≡◌, ℕ, ◌*◌, ◌<◌, ◌≤◌, Bool, true, false, cond, ◌||◌, eqb, List, [], ◌∷◌, length, sym, refl, ap, ◌∙◌, subst, arith, eq-eqb, ne_eqb, eqb-true}
 use mathlib.Core.Option.{Option}
 use lib.Seq.{length-sets}
 use Rattle.memory.specs.Layout.{part}
@@ -15,7 +15,7 @@ use Rattle.definition.specs.Prior.{Prior}
 use Rattle.definition.specs.Book.{Context, has_text}
 use Rattle.definition.specs.Program.{bit, constant_entry, entries_from}
 use Rattle.definition_laws.proofs.Cells.{single_length}
-use Rattle.definition.specs.Book.{Book, Placed, function_count, with_context, with_entry_point, push_book_error, add_book_constant, set_local_value}
+use Rattle.definition.specs.Book.{Book, Placed, function_count, with_context, with_entry_point, add_book_constant, set_local_value}
 use Rattle.definition.specs.Book.{working, compile_base, add_function, add_plain_function}
 use Rattle.definition_laws.proofs.Good.{function_moves}
 use Rattle.definition_laws.proofs.StepPreserves.{preserves_base}
@@ -44,7 +44,7 @@ use Rattle.undo.specs.Notes.{plain_marks, plain_methods}
 use Rattle.undo.specs.Stood.{Stood}
 use Rattle.book_compiler.specs.Represents.{Memory, laid, view, is_built, Represents, On}
 use Rattle.book_compiler.specs.Leaves.{OnCode, OnNames}
-use Rattle.book_compiler.specs.RepresentsBook.{BookMemory, book_laid, area_of, is_book_area, BehindContext, PreservesParts, RepresentsBook}
+use Rattle.book_compiler.specs.RepresentsBook.{BookMemory, book_laid, is_book_area, BehindContext, PreservesParts, RepresentsBook}
 use Rattle.book_compiler.specs.RepresentsBook.{OnArea}
 use Rattle.book_compiler.specs.BookLeaves.{PushesBookError, AddsBookConstant, SetsLocalValue}
 use Rattle.book_compiler.specs.FunctionSteps.{beside, CompilesBase, Built, MakesFunction, AddsBookFunction, DropsBookFunction, AddsPlainFunction}

@@ -1,5 +1,5 @@
 -- The areas in a memory are the parts by the table of starts, and the memory is its areas one after the other. By the definition of `areas_of`. Assumes nothing.
-use Rattle.std.proofs.Common.{◌≡◌, ℕ, zero, suc, ◌+◌, ◌<◌, ◌≤◌, List, [], ◌∷◌, ◌++◌, length, get_or, take, drop, sym, refl, ap, ◌∙◌, subst, append_assoc, append-nil, arith, take-append-drop, drop_of_length-le, drop-cons}
+use Rattle.std.proofs.Common.{◌≡◌, ℕ, zero, suc, ◌<◌, List, [], ◌∷◌, ◌++◌, length, get_or, take, drop, sym, refl, ap, ◌∙◌, append_assoc, append-nil, arith, take-append-drop, drop_of_length-le, drop-cons}
 use Rattle.memory.specs.Layout.{areas_of, starts_of, part}
 use Rattle.memory.proofs.Starts.{part_is_area}
 use Rattle.definition.specs.Program.{flat}

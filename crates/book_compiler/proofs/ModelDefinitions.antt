@@ -1,6 +1,5 @@
 -- One lemma for each way through the routines of a model definition: what its calls ensure is the definition's. Assumes nothing.
 use Rattle.std.proofs.Common.{◌≡◌, ℕ, suc, ◌+◌, ◌*◌, ◌<◌, ◌≤◌, Bool, true, false, cond, List, [], ◌∷◌, ◌++◌, length, sym, refl, ap, ◌∙◌, subst, append_assoc, append-nil, arith, length-append}
-use Rattle.memory.specs.Layout.{Fits}
 use Rattle.words.specs.Ast.{Token}
 use Rattle.words.specs.Areas.{code_area, constants_area, functions_area, models_area, properties_area, methods_area, context_locals_area, public_names_area}
 use Rattle.words.specs.Areas.{scope_names_area, breaks_area, errors_area}
@@ -19,7 +18,7 @@ use Rattle.building.specs.Taking.{Took}
 use Rattle.building.proofs.ContextLaws.{took_law}
 use Rattle.building.proofs.PoolLaws.{entries_more}
 use Rattle.compiler_laws.specs.declared.book.Book as struct
-use Rattle.compiler_laws.specs.BookAreas.{BookAreas, book_areas, RepresentsAreas}
+use Rattle.compiler_laws.specs.BookAreas.{book_areas, RepresentsAreas}
 use Rattle.compiler_laws.specs.BookSteps.{Valuable}
 use Rattle.compiler_laws.specs.ModelSteps as area
 use Rattle.compiler_laws.specs.ModelSteps.{place_model}
@@ -28,8 +27,8 @@ use Rattle.compiler_laws.proofs.UnchangedByBooks.{unchanged_local}
 use Rattle.compiler_laws.proofs.UnchangedByModels.{unchanged_property, unchanged_place_model}
 use Rattle.compiler_laws.proofs.BookLeaves.{defined_added}
 use Rattle.compiler_laws.proofs.AreaEntries.{keeping_grown, contents_models, fitted_models}
-use Rattle.compiler_laws.proofs.AddedProperties.{models_count, property_full, property_there, property_new}
-use Rattle.book_compiler.specs.RepresentsBook.{BookMemory, area_of, said_by, book_view, RepresentsBook, OnArea}
+use Rattle.compiler_laws.proofs.AddedProperties.{models_count, property_there, property_new}
+use Rattle.book_compiler.specs.RepresentsBook.{BookMemory, area_of, said_by, RepresentsBook}
 use Rattle.book_compiler.specs.BookLeaves.{PushesBookError, AddsBookConstant, DefinesContextLocal, SetsLocalValue, FindsProperty}
 use Rattle.book_compiler.specs.DefinitionSteps.{TakesProperty, TakesModel, AddsModelProperty, AddsModelProperties, AddsModel, CompilesModelDefinition}
 use Rattle.undo.specs.Stood.{Spares}

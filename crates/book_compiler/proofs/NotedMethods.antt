@@ -1,8 +1,8 @@
 -- The methods of a book where some stood before the bundle: a routine does to what area 6 says what the law of `compiler_laws` says of it, whatever is noted
 -- in the words. By the laws of `undo`. Assumes nothing.
-use Rattle.std.proofs.Common.{◌≡◌, ℕ, ◌^◌, ◌<◌, ◌≤◌, Bool, true, List, [], ◌∷◌, length, sym, refl, ap, ◌∙◌, subst, arith}
+use Rattle.std.proofs.Common.{◌≡◌, ℕ, ◌^◌, ◌<◌, ◌≤◌, List, [], ◌∷◌, sym, refl, ap, ◌∙◌, subst, arith}
 use native.Mathlib.Decide.{ℕ_discrete}
-use Rattle.words.specs.Areas.{methods_area, entry_field, write_word, Patched}
+use Rattle.words.specs.Areas.{methods_area, entry_field, write_word}
 use Rattle.building.specs.declared.scopes.Found.{Found}
 use Rattle.building.specs.declared.scopes.Found.TheVariants.{At, Nothing}
 use Rattle.building.specs.declared.taking.Taken.{Taken}
@@ -10,13 +10,12 @@ use Rattle.building.specs.Taking.{Took, taken_of, took_words}
 use Rattle.building.specs.Found.{found_of}
 use Rattle.compiler_laws.specs.declared.book.Book as struct
 use Rattle.compiler_laws.specs.IncludeSteps.{find_pair_c}
-use Rattle.compiler_laws.specs.ModelSteps.{InsertsMethod, CopiesMethod, CopiesMethods}
 use Rattle.compiler_laws.proofs.BookCounts.{with_method_count}
 use Rattle.compiler_laws.proofs.InsertedMethods.{insert_full, insert_there, insert_new}
 use Rattle.compiler_laws.proofs.CopiedMethods.{copy_full, copy_other, copy_one}
 use Rattle.undo.specs.Notes.{plain_methods, with_function_word}
-use Rattle.undo.proofs.PlainMethods.{plain_methods_none, plain_methods_length, plain_methods_took, plain_methods_function, plain_methods_fields}
-use Rattle.book_compiler.specs.BookLeaves.{methods_said, StoodFirst, FunctionFits, InsertsNoted, CopiesNoted}
+use Rattle.undo.proofs.PlainMethods.{plain_methods_length, plain_methods_took, plain_methods_function, plain_methods_fields}
+use Rattle.book_compiler.specs.BookLeaves.{methods_said, InsertsNoted, CopiesNoted}
 use Rattle.book_compiler.proofs.StoodBooks.{methods_stay, method_replaced, method_more, same_counts}
 
 -- another function and an entry more, of what the area says; where none stood its words are what it says

@@ -1,12 +1,12 @@
 -- The ways to the end of laying on, a trial and a commit over one memory: refused before the work, an area too short, a book with errors or a ring, other
 -- totals than a trial's, a trial, and a delivery that is kept. What stood is given back at each refusal and at a trial, word for word; where a delivery is
 -- kept what is noted goes, and the areas are what they said. By the lemmas over areas. Assumes nothing.
-use Rattle.std.proofs.Common.{◌≡◌, ℕ, zero, suc, ◌+◌, ◌*◌, ◌<◌, Bool, true, false, cond, ◌&&◌, eqb, ltb, leb, List, [], length, get_or, take, drop, set, sym, refl, ap, ◌∙◌, subst, zero-mul, arith, eqb→eq, length-take, get_or-take, set-set, lt-ltb, leb-true}
+use Rattle.std.proofs.Common.{◌≡◌, ℕ, zero, suc, ◌+◌, ◌*◌, ◌<◌, Bool, true, false, cond, ◌&&◌, ltb, leb, List, [], length, get_or, take, drop, set, sym, refl, ap, ◌∙◌, subst, zero-mul, arith, eqb→eq, length-take, get_or-take, set-set, lt-ltb, leb-true}
 use native.Mathlib.Decide.{dec_lt, ℕ_discrete}
 use mathlib.Core.Option.{none, some}
 use Rattle.memory.specs.Layout.{part, part_count, Fits}
 use Rattle.words.specs.Ast.{Document}
-use Rattle.words.specs.Areas.{constants_area, methods_area, scope_names_area, breaks_area, errors_area, books_area, width_of, cleared_from}
+use Rattle.words.specs.Areas.{constants_area, methods_area, scope_names_area, breaks_area, errors_area, books_area, width_of}
 use Rattle.words.specs.declared.reply.Totals.{Totals}
 use Rattle.words.specs.declared.reply.Reply.{Reply}
 use Rattle.undo.specs.Notes.{plain_marks}
@@ -19,8 +19,8 @@ use Rattle.definition.specs.Answer.{limits_of}
 use Rattle.definition.specs.Within.{Areas, Program, total, lengths_of}
 use Rattle.definition.specs.ProgramCheck.{program_fault}
 use Rattle.definition.specs.Onto.{context_of}
-use Rattle.definition.specs.Trial.{Order, count_fault, counted_fault, is_stale}
-use Rattle.definition.specs.Promise.{lent, lent_counted, Answers}
+use Rattle.definition.specs.Trial.{Order, count_fault, counted_fault}
+use Rattle.definition.specs.Promise.{lent, lent_counted}
 use Rattle.definition_laws.proofs.Orders.{counted_passes}
 use Rattle.definition_laws.proofs.PassingAreas.{Passing, ProgramPasses, check_passes, passing_at}
 use Rattle.compiler_laws.specs.declared.book.Book as struct
@@ -34,7 +34,7 @@ use Rattle.compiler_laws.proofs.OntoEnd.{work_onto, answer_row, answer_over_lem,
 use Rattle.compiler_laws.proofs.StandingProgram.{standing_uses, words_in, lent_inside, lent_behind, marks_small}
 use Rattle.book_compiler.specs.Represents.{slots_part}
 use Rattle.book_compiler.specs.RepresentsBook.{BookMemory, book_laid, said_by, is_book_area}
-use Rattle.book_compiler.specs.BookOrder.{LentPart, ReadsPart, Outcome, needed_work, CompilesNeeded}
+use Rattle.book_compiler.specs.BookOrder.{LentPart, ReadsPart, needed_work, CompilesNeeded}
 use Rattle.book_compiler.specs.BookOrder.{Settles, parts_of}
 use Rattle.book_compiler.specs.Onto.{is_noted, Ready, MakesReady, GivenBack, GivesBack, Undoes, next_count, EndsBy, FinishesOnto, RunsOnto}
 use Rattle.book_compiler.proofs.LentParts.{lent_does, lent_other, lent_length, part_lengths}

@@ -1,6 +1,6 @@
 -- Calls on a program over one memory: the set of the books that stand has room for their file numbers, and what is promised of the parts is promised of the
 -- areas in the memory; a program that fails the check is left as it is, and a stale commit leaves no errors. By the laws of the layout. Assumes nothing.
-use Rattle.std.proofs.Common.{◌≡◌, ℕ, zero, suc, ◌+◌, ◌*◌, ◌<◌, ◌≤◌, Bool, true, false, ◌&&◌, T, ltb, leb, List, [], ◌∷◌, ◌++◌, length, get_or, take, replicate, sym, refl, ap, ◌∙◌, subst, arith, leb-true}
+use Rattle.std.proofs.Common.{◌≡◌, ℕ, zero, suc, ◌+◌, ◌*◌, ◌<◌, Bool, true, false, ◌&&◌, T, ltb, leb, List, [], ◌∷◌, ◌++◌, length, get_or, take, replicate, sym, refl, ap, ◌∙◌, subst, arith, leb-true}
 use mathlib.Core.Option.{Option, none, some}
 use Rattle.memory.specs.Layout.{part, starts_of, Fits}
 use Rattle.memory.proofs.Starts.{starts_fit}
@@ -8,15 +8,14 @@ use Rattle.words.specs.Areas.{errors_area, books_area}
 use Rattle.words.specs.Record.{most_text}
 use Rattle.words.specs.declared.reply.Totals.{Totals}
 use Rattle.words.specs.declared.reply.Reply as struct
-use Rattle.tree.specs.declared.Shape.{Shape}
 use Rattle.tree.specs.declared.Shape.TheVariants.{Fine, Refused}
 use Rattle.program_check.specs.Answer.{answer_of}
 use Rattle.program_check.specs.OneMemory as check
 use Rattle.definition.specs.Program.{flat}
-use Rattle.definition.specs.Within.{Areas, Program, total}
+use Rattle.definition.specs.Within.{Areas}
 use Rattle.definition.specs.ProgramCheck.{is_text, program_fault}
-use Rattle.definition.specs.Onto.{OntoAnswer, Unfit, Checked, reply_onto, areas_onto}
-use Rattle.definition.specs.Trial.{Order, Lay, Trial, counted_fault, is_stale, ordered_by, ordered, reply_ordered, areas_ordered}
+use Rattle.definition.specs.Onto.{Unfit, reply_onto, areas_onto}
+use Rattle.definition.specs.Trial.{Order, Lay, Trial, counted_fault, is_stale, ordered, reply_ordered, areas_ordered}
 use Rattle.definition.specs.Promise.{lent, counted, lent_counted, Answers, commit_of}
 use Rattle.definition_laws.proofs.PassingAreas.{check_passes}
 use Rattle.definition_laws.proofs.Orders.{ordered_unfit}

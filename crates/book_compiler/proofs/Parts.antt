@@ -1,8 +1,8 @@
 -- A routine that is lent one part of the memory does to the machine that the memory is what it does to its area. One law over the part's number.
 -- Assumes nothing.
-use Rattle.std.proofs.Common.{◌≡◌, ℕ, suc, ◌<◌, ◌≤◌, Bool, true, false, cond, eqb, List, length, get_or, sym, refl, ap, ◌∙◌, subst, arith, ne_eqb, eqb-true}
+use Rattle.std.proofs.Common.{◌≡◌, ℕ, suc, ◌<◌, Bool, true, false, cond, eqb, List, length, get_or, sym, refl, ap, ◌∙◌, subst, arith, ne_eqb, eqb-true}
 use borrow.Author.Tests.{eqb-false}
-use Rattle.memory.specs.Layout.{part, with_part, part_count, Fits}
+use Rattle.memory.specs.Layout.{part, with_part, Fits}
 use Rattle.memory.proofs.Parts.{put_part, put_fits, ends_within}
 use Rattle.constant_slots.specs.Plain.{pool_of}
 use Rattle.constant_slots.specs.Slots.{slots_of}
@@ -13,7 +13,7 @@ use Rattle.building.specs.declared.function_state.FunctionState.{FunctionState}
 use Rattle.building.specs.RepresentsMachine.{Machine, machine, RepresentsMachine}
 use Rattle.undo.specs.Notes.{plain_marks}
 use Rattle.undo.specs.Stood.{Stood}
-use Rattle.book_compiler.specs.Represents.{Memory, laid, part_of, view, is_built, Behind, Preserves, SlotsFilled, Represents, Replaced, On}
+use Rattle.book_compiler.specs.Represents.{Memory, laid, part_of, view, is_built, Behind, Preserves, SlotsFilled, Represents, On}
 use Rattle.book_compiler.specs.Leaves.{Reads}
 use Rattle.book_compiler.proofs.Stood.{stood_put}
 

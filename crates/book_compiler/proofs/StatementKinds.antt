@@ -1,46 +1,37 @@
 -- One lemma for each way through a member of the cycle that compiles statements, over what its calls ensure. What is remembered of the scope around
 -- stands where nothing is full, by the notes; the scopes are balanced. Assumes nothing.
-use Rattle.std.proofs.Common.{◌≡◌, ℕ, ◌+◌, ◌-◌, ◌%◌, ◌^◌, ◌<◌, ◌≤◌, min, Bool, true, false, eqb, ltb, List, sym, refl, ap, ◌∙◌, subst, arith, le-ltb, lt-ltb, eqb-true}
-use mathlib.Core.Option.{Option, none, some}
-use borrow.Author.Tests.{eqb-false}
-use Rattle.words.specs.Ast.{Token, Expression, Variables, Statement, Statements, Local, Return, For, Break, Rescue, Expr, ∅ₛ, ◌∷ₛ◌, ∅ᵥ, Bare, Valued}
+use Rattle.std.proofs.Common.{◌≡◌, ℕ, ◌+◌, ◌-◌, ◌<◌, ◌≤◌, min, List, sym, refl, ap, ◌∙◌, arith, le-ltb, lt-ltb}
+use Rattle.words.specs.Ast.{Token, Statement, Statements, Local, Return, For, Break, Rescue, Expr, ∅ₛ, ◌∷ₛ◌}
 use Rattle.words.specs.Areas.{context_locals_area}
-use Rattle.words.specs.Opcode.{to_instruction, word, Pop, LocalInit}
-use Rattle.words.specs.Record.{token_at, kind_at, position_at, value_at}
+use Rattle.words.specs.Opcode.{to_instruction, word, Pop}
+use Rattle.words.specs.Record.{kind_at, position_at, value_at}
 use Rattle.definition.specs.FunctionState.{enter_scope, tail, Entry, with_depth, define_local}
 use Rattle.definition.specs.FunctionState as method
-use Rattle.definition.specs.Uses.{Limits, total}
-use Rattle.definition.specs.Compiler.{Work, Step, doing, with_function, push_error, compile_part, compile_statement, compile_statements, compile_expression}
-use Rattle.definition.specs.Compiler.{compile_expression_statement, compile_rescue, compile_variables, compile_bare, compile_valued, deeper, skip, compile_no_part}
-use Rattle.definition.specs.Program.{Entries}
+use Rattle.definition.specs.Uses.{total}
+use Rattle.definition.specs.Compiler.{doing, compile_part, compile_statement, compile_statements}
+use Rattle.definition.specs.Compiler.{compile_expression_statement, compile_rescue, deeper, skip, compile_no_part}
 use Rattle.definition_laws.proofs.StepPreserves.{Steadily, longer_trans, preserves_function, preserves_trans, preserves_statement, preserves_statements}
 use Rattle.definition_laws.proofs.StepPreserves.{preserves_expression}
 use Rattle.definition_laws.proofs.StepPreserves.{preserves_variables, preserves_return, preserves_break, preserves_rescue, preserves_for}
 use Rattle.definition_laws.proofs.StepPreserves.{preserves_expression_statement, same, more}
-use Rattle.definition_laws.proofs.StepPreserves.{preserves_define, preserves_error, preserves_bare, preserves_valued}
-use Rattle.tree.specs.At.{Head, Leaf, ExpressionAt, StatementAt, StatementsAt, VariablesAt, size_e, size_s, size_ss, size_vs}
-use Rattle.tree.proofs.View.{ViewS, see_s, head_s, size_s_pos, head_e, size_e_pos, value_there}
+use Rattle.tree.specs.At.{StatementAt, StatementsAt, size_s, size_ss}
+use Rattle.tree.proofs.View.{ViewS, see_s, head_s, size_s_pos}
 use Rattle.tree.proofs.View.ViewS.{v_Local, v_Break, v_Rescue, v_For, v_Expr}
 use Rattle.building.specs.declared.function_state.FunctionState.{FunctionState}
-use Rattle.building.specs.declared.scopes.Found.{Found}
-use Rattle.building.specs.declared.scopes.Found.TheVariants.{At, Nothing}
 use Rattle.building.specs.State.{most_depth}
-use Rattle.building.specs.Found.{found_of, wrapped}
 use Rattle.building.specs.State.{with_rescue}
-use Rattle.building.specs.Emission.{next_c, emit_c, remove_pop_c, emit_last_c, emit_null_c, emit_return_c, deeper_c, depth_c, rescue_c}
-use Rattle.building.specs.Scopes.{enter_scope_c, exit_scope_c, define_c}
+use Rattle.building.specs.Emission.{next_c, remove_pop_c, emit_last_c, emit_null_c, emit_return_c, deeper_c, depth_c, rescue_c}
+use Rattle.building.specs.Scopes.{enter_scope_c, exit_scope_c}
 use Rattle.building.proofs.StateLaws.{put_rescue}
 use Rattle.compiler_laws.specs.InsideFunction.{Inside, skip_c}
 use Rattle.compiler_laws.specs.StatementParts.{inner}
-use Rattle.compiler_laws.proofs.ScopesBalanced.{scopes_statement, scopes_statements, scopes_define, scopes_bare, scopes_valued, scopes_expression}
-use Rattle.compiler_laws.proofs.StepsInOrder.{inside_after}
+use Rattle.compiler_laws.proofs.ScopesBalanced.{scopes_statement, scopes_statements}
 use Rattle.compiler_laws.proofs.Tokens.{skip_law}
-use Rattle.compiler_laws.proofs.ConstantLeaves.{low_bits}
-use Rattle.book_compiler.specs.Represents.{Memory, laid, Represents, Simulates, SimulatesInside}
-use Rattle.book_compiler.specs.Leaves.{OnCode, OnNames, DefinesLocal, PushesError}
+use Rattle.book_compiler.specs.Represents.{Memory, laid, Simulates, SimulatesInside}
+use Rattle.book_compiler.specs.Leaves.{OnCode, OnNames, PushesError}
 use Rattle.book_compiler.specs.Members.{token, CompilesExpression, CompilesStatement, CompilesStatements, CompilesBlock, CompilesForStatement}
-use Rattle.book_compiler.specs.Members.{CompilesVariable, CompilesVariables}
-use Rattle.book_compiler.proofs.Steps.{back, acts_does, does_then, full_does, full_acts, either}
+use Rattle.book_compiler.specs.Members.{CompilesVariables}
+use Rattle.book_compiler.proofs.Steps.{back, acts_does, does_then, full_does, full_acts}
 use Rattle.book_compiler.proofs.ConstantCount.{rescue_count}
 use Rattle.book_compiler.proofs.StoodFunctions.{onward_unless}
 use Rattle.book_compiler.proofs.Laws.{alone, last_emitted, null_emitted, removed, returned, left, pushed, entered, deepened, at_depth}

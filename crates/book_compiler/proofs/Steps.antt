@@ -1,6 +1,6 @@
 -- Steps one after the other: what acts and then acts does both, and with the mark set doing nothing is doing any step. By the notes, which are only added.
 -- Assumes nothing.
-use Rattle.std.proofs.Common.{◌≡◌, ℕ, List, ◌∙◌}
+use Rattle.std.proofs.Common.{◌≡◌, ℕ, List}
 use Rattle.definition.specs.Uses.{Limits}
 use Rattle.definition.specs.Compiler.{Work, Step, and_then}
 use Rattle.definition.specs.Program.{Entries}
@@ -9,7 +9,7 @@ use Rattle.building.proofs.Notes.{held_longer}
 use Rattle.building.proofs.Notes as notes
 use Rattle.compiler_laws.proofs.ScopesBalanced.{PreservesScopes}
 use Rattle.compiler_laws.proofs.StepsInOrder.{inside_after, held_either}
-use Rattle.book_compiler.specs.Represents.{Memory, view, Represents, Simulates, SimulatesInside}
+use Rattle.book_compiler.specs.Represents.{Memory, Represents, Simulates, SimulatesInside}
 
 -- the mark was not set before where it is not set after
 pub back : {κ : Limits} {E : Entries} {others : ℕ → List ℕ} {m m' : Memory} {w w' : Work} → NotesGrow w.uses w'.uses

@@ -1,6 +1,6 @@
 -- Each routine of a book's definitions leaves what stood before the call: it writes nothing with the mark set, and else behind a count, or to an entry of the
 -- book's own. By cases over each, and by what a step leaves of the context. Assumes nothing.
-use Rattle.std.proofs.Common.{◌≡◌, ℕ, zero, suc, ◌+◌, ◌-◌, ◌*◌, ◌^◌, ◌<◌, ◌≤◌, Bool, true, false, cond, eqb, ltb, List, [], ◌∷◌, ◌++◌, length, sym, refl, ap, ◌∙◌, subst, arith, length-append, eqb-true}
+use Rattle.std.proofs.Common.{◌≡◌, ℕ, zero, suc, ◌+◌, ◌-◌, ◌*◌, ◌^◌, ◌<◌, ◌≤◌, Bool, true, false, cond, eqb, ltb, List, [], ◌∷◌, ◌++◌, length, sym, refl, ap, ◌∙◌, subst, arith, length-append}
 use mathlib.Core.Option.{Option, none, some}
 use Rattle.words.specs.Ast.{Token}
 use Rattle.words.specs.Areas.{code_area, constants_area, functions_area, models_area, properties_area, methods_area, context_locals_area, public_names_area, write_word}
@@ -12,7 +12,7 @@ use Rattle.definition.specs.Uses.{Limits}
 use Rattle.definition.specs.Compiler.{Work, find_constant, add_constant_by, add_constant_no_check, add_constant}
 use Rattle.definition.specs.Book.{Context, Book, working, push_book_error, add_book_constant, define_context_local_by, define_context_local, set_local_value, add_methods}
 use Rattle.definition.specs.Book.{Method, Placed, Properties, has_text, noted, property_count, add_property, add_model, publish}
-use Rattle.definition.specs.Program.{Entries, function_code, function_entries, model_entry, model_properties, property_entries, local_entry, entries_from}
+use Rattle.definition.specs.Program.{function_code, function_entries, model_entry, model_properties, property_entries, local_entry, entries_from}
 use Rattle.definition.specs.Program.{bit, public_entries, assembly_publics, constant_table, property_table, method_table, public_table}
 use Rattle.definition_laws.proofs.Cells.{single_length}
 use Rattle.definition_laws.proofs.StepPreserves.{NotesGrow}
@@ -33,12 +33,12 @@ use Rattle.compiler_laws.proofs.UnchangedByModels.{unchanged_methods, unchanged_
 use Rattle.compiler_laws.proofs.MethodsTogether.{inserts_grow}
 use Rattle.undo.specs.Notes.{with_function_word}
 use Rattle.undo.proofs.PlainMethods as notes
-use Rattle.undo.specs.Stood.{Stood, Spares}
-use Rattle.book_compiler.specs.RepresentsBook.{BookMemory, area_of, BehindContext, RepresentsBook}
+use Rattle.undo.specs.Stood.{Spares}
+use Rattle.book_compiler.specs.RepresentsBook.{BookMemory, BehindContext, RepresentsBook}
 use Rattle.book_compiler.specs.BookLeaves.{SparesLocals, SparesMethods, SparesPublics, SameCounts, StoodFirst}
 use Rattle.book_compiler.specs.FunctionSteps.{SparesFunctions}
-use Rattle.book_compiler.proofs.Stood.{spares_refl, spares_then, spares_took, took_spares, taken_back, taken_on, spares_word, stood_spared}
-use Rattle.book_compiler.proofs.StoodFunctions.{SparesConstants, add_spares}
+use Rattle.book_compiler.proofs.Stood.{spares_refl, spares_then, spares_took, took_spares, taken_back, taken_on, spares_word}
+use Rattle.book_compiler.proofs.StoodFunctions.{add_spares}
 
 -- what a step leaves of a context: what stood before it, and as many constants and methods at least
 pub record Grows (b b' : Book) : Type 0 where

@@ -1,6 +1,6 @@
 -- Each routine of `building` leaves what stood before the function: it writes nothing with the mark set, and else behind the function's base or a count.
 -- By cases over each. Assumes nothing.
-use Rattle.std.proofs.Common.{◌≡◌, ℕ, zero, suc, ◌+◌, ◌-◌, ◌*◌, ◌/◌, ◌%◌, ◌^◌, ◌<◌, ◌≤◌, min, Bool, true, false, cond, not, eqb, ltb, List, [], ◌∷◌, length, sym, refl, ap, ◌∙◌, subst, arith, ltb-true, eqb-true}
+use Rattle.std.proofs.Common.{◌≡◌, ℕ, zero, suc, ◌+◌, ◌-◌, ◌*◌, ◌/◌, ◌^◌, ◌<◌, ◌≤◌, min, Bool, true, false, cond, eqb, ltb, List, [], ◌∷◌, length, refl, ◌∙◌, subst, arith, ltb-true, eqb-true}
 use mathlib.Core.Option.{Option, none, some}
 use Rattle.words.specs.Areas.{code_area, constants_area, breaks_area, errors_area, scope_names_area, entry_field, write_word}
 use Rattle.words.specs.Object.{constant_of, is_shared, NULL}
@@ -13,8 +13,8 @@ use Rattle.building.specs.Emission.{Coded, coded, Breaking, breaking, next_c, la
 use Rattle.building.specs.Emission.{last_opcode_c, emit_c, emit_last_c, emit_null_c, pop_c, remove_pop_c, emit_return_c}
 use Rattle.building.specs.Emission.{replace_c, drop_c, mark_break_c, patch_c, emit_break_c, exit_break_c, unless_full}
 use Rattle.building.specs.Scopes.{Naming, naming, exit_scope_c, end_function_c, insert_c, define_by, define_c, find_in_scope_c}
-use Rattle.building.specs.Pool.{Pooling, pooling, add_no_check_c, add_by, add_constant_c, mark_global_c, erring, push_error_c}
-use Rattle.undo.specs.Stood.{Stood, Spares}
+use Rattle.building.specs.Pool.{pooling, add_no_check_c, add_by, add_constant_c, push_error_c}
+use Rattle.undo.specs.Stood.{Spares}
 use Rattle.book_compiler.specs.Represents.{Behind}
 use Rattle.book_compiler.proofs.Stood.{spares_refl, spares_then, spares_took, taken_back, taken_on, spares_entry, spares_word, spares_given}
 

@@ -18,7 +18,6 @@ use Rattle.definition_laws.proofs.StepPreserves.{preserves_expression}
 use Rattle.tree.specs.At.{VariablesAt, size_e, size_vs}
 use Rattle.tree.proofs.View.{head_e, size_e_pos, value_there}
 use Rattle.building.specs.RepresentsMachine.{is_open}
-use Rattle.building.specs.declared.function_state.FunctionState.{FunctionState}
 use Rattle.building.specs.declared.scopes.Found.{Found}
 use Rattle.building.specs.declared.scopes.Found.TheVariants.{At, Nothing}
 use Rattle.building.specs.Emission.{emit_c}

@@ -1,6 +1,6 @@
 -- What a routine does to a book where it is lent one part of the memory
 -- Private contracts alone cite this file: whoever reads the promises need not believe it
-use Rattle.std.specs.Prelude.{◌≡◌, ℕ, ◌*◌, ◌^◌, ◌<◌, ◌≤◌, Bool, List, [], ◌∷◌, length, ◌≢◌}
+use Rattle.std.specs.Prelude.{◌≡◌, ℕ, ◌*◌, ◌^◌, ◌<◌, ◌≤◌, Bool, List, length, ◌≢◌}
 use Rattle.memory.specs.Layout.{Fits}
 use Rattle.words.specs.Ast.{Token}
 use Rattle.words.specs.Areas.{constants_area, properties_area, methods_area, context_locals_area, public_names_area, errors_area, books_area}

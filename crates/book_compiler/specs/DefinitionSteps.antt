@@ -9,7 +9,7 @@ use Rattle.words.specs.Record.{token_at}
 use Rattle.tree.specs.At.{Leaf, Headed, ValueAt, BindingAt, AliasAt, NameAt, FunctionAt, DefinitionAt, RunAt, run_size, size_f, size_d, single, double}
 use Rattle.definition.specs.Uses.{Limits}
 use Rattle.definition.specs.Book.{Book, BookStep, Placed, set_local_value, add_book_constant, value_of, compile_value, compile_binding, compile_local_definition}
-use Rattle.definition.specs.Book.{compile_alias, compile_include_definition, compile_include, publish, property_count, add_property, compile_properties}
+use Rattle.definition.specs.Book.{compile_alias, compile_include_definition, compile_include, property_count, add_property, compile_properties}
 use Rattle.definition.specs.Book.{compile_model_definition, find_model_index_by_local_name, compile_apply_definition, compile_function_definition}
 use Rattle.definition.specs.Book.{add_methods, compile_implement_definition}
 use Rattle.definition.specs.Within.{All}
@@ -18,7 +18,7 @@ use Rattle.building.specs.declared.taking.Taken.{Taken}
 use Rattle.building.specs.Taking.{Took}
 use Rattle.compiler_laws.specs.declared.book.Book as struct
 use Rattle.compiler_laws.specs.BookAreas.{NamesBooks}
-use Rattle.compiler_laws.specs.BookSteps.{Valuable, Located}
+use Rattle.compiler_laws.specs.BookSteps.{Located}
 use Rattle.compiler_laws.specs.AddingFunctions.{Bounded}
 use Rattle.compiler_laws.specs.ImplementSteps.{implementing, implementing_all, numbered}
 use Rattle.compiler_laws.specs.ModelSteps.{place_model}

@@ -1,6 +1,6 @@
 -- What the routines that compile functions over one memory promise: parameters, the base, a function made and added to the book or dropped
 -- Private contracts alone cite this file: whoever reads the promises need not believe it
-use Rattle.std.specs.Prelude.{◌≡◌, ℕ, ◌+◌, ◌*◌, ◌≤◌, true, cond, List, length}
+use Rattle.std.specs.Prelude.{◌≡◌, ℕ, ◌+◌, ◌*◌, true, cond, List, length}
 use Rattle.std.proofs.Math.Option.{Option}
 use Rattle.words.specs.Ast.{Token, FunctionDefinition}
 use Rattle.words.specs.Areas.{functions_area, context_locals_area}
@@ -9,7 +9,7 @@ use Rattle.tree.specs.At.{Leaf, ParametersAt, FunctionAt, size_f}
 use Rattle.definition.specs.FunctionState.{new_function_state}
 use Rattle.definition.specs.Uses.{Limits}
 use Rattle.definition.specs.Compiler.{Work, with_function, compile_parameter, compile_parameters, compile_function_definition_base}
-use Rattle.definition.specs.Book.{Book, push_book_error, compile_base, add_function, add_plain_function}
+use Rattle.definition.specs.Book.{Book, push_book_error, compile_base, add_plain_function}
 use Rattle.definition.specs.Program.{Entries, code_table}
 use Rattle.building.specs.declared.function_state.FunctionState.{FunctionState}
 use Rattle.building.specs.declared.scopes.Found.{Found}

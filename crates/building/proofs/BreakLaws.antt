@@ -1,20 +1,20 @@
 -- Instructions replaced, breaks, and code given back: what `replace_instruction`, `emit_break`, `exit_break_scope` and `drop_function` do to memory is
 -- what the definition's steps of the same names do. The breaks of the innermost loop are patched one by one, by induction over them. Assumes nothing.
-use Rattle.std.proofs.Common.{◌≡◌, ℕ, zero, suc, ◌+◌, ◌-◌, ◌*◌, ◌<◌, ◌≤◌, min, Bool, true, false, cond, eqb, ltb, List, [], ◌∷◌, ◌++◌, length, get_or, set, sym, refl, ap, ◌∙◌, subst, append_assoc, arith, length-append, length-set, get_or-append-add, ltb-false, ltb-true, lt-ltb, eq-eqb, ne_eqb, eqb-true}
+use Rattle.std.proofs.Common.{◌≡◌, ℕ, zero, suc, ◌+◌, ◌-◌, ◌*◌, ◌<◌, ◌≤◌, min, Bool, true, false, cond, eqb, ltb, List, [], ◌∷◌, ◌++◌, length, get_or, set, sym, refl, ap, ◌∙◌, subst, append_assoc, arith, length-append, length-set, get_or-append-add, ltb-false, ltb-true, lt-ltb, ne_eqb, eqb-true}
 use native.Mathlib.Decide.{dec_lt}
 use lib.Seq.{set_out, length-sets}
 use borrow.Author.Tests.{eqb-false}
-use Rattle.words.specs.Areas.{entries_in, set_entry, entry_field, word_fits, write_word, code_area, scope_names_area, breaks_area}
+use Rattle.words.specs.Areas.{entries_in, set_entry, entry_field, word_fits, write_word, breaks_area}
 use Rattle.words.specs.Opcode.{Instruction, to_instruction, word, Jump}
 use Rattle.definition.specs.FunctionState.{FunctionState, Event, Broke, tail, innermost, patch_all}
 use Rattle.definition.specs.FunctionState as method
-use Rattle.definition.specs.Uses.{Limits, limit_of, total}
+use Rattle.definition.specs.Uses.{Limits, total}
 use Rattle.definition.specs.Compiler.{Work, with_function, doing, next}
 use Rattle.definition.specs.Compiler as step
 use Rattle.definition.specs.Program.{Entries, code_entries}
 use Rattle.definition_laws.proofs.Lists.{length_patch}
 use Rattle.building.specs.declared.function_state.FunctionState as struct
-use Rattle.building.specs.State.{with_code_count, with_breaks, with_loop}
+use Rattle.building.specs.State.{with_breaks, with_loop}
 use Rattle.building.specs.Taking.{taken, given_up}
 use Rattle.building.specs.Emission.{Coded, coded, next_c, emit_c, replace_c, drop_c, Breaking, breaking, mark_break_c, emit_break_c, patch_c, exit_break_c}
 use Rattle.building.specs.RepresentsMachine.{Machine, machine, Filled, break_entry, break_entries, is_open, Contents, RepresentsMachine}

@@ -2,18 +2,18 @@
 -- With
 -- the mark set nothing changes and only notes come; where an area is full its note is the first beyond; else the areas hold the function after the
 -- step. By cases of the mark and of room, and by the laws of `Filling`. Assumes nothing.
-use Rattle.std.proofs.Common.{◌≡◌, ℕ, zero, suc, ◌+◌, ◌-◌, ◌*◌, ◌/◌, ◌%◌, ◌^◌, ◌<◌, ◌≤◌, min, Bool, true, false, cond, eqb, ltb, List, [], ◌∷◌, ◌++◌, length, get_or, take, sym, refl, ap, ◌∙◌, subst, append_assoc, arith, length-append, length-take, take-suc, get_or-append-add, ltb-false, ltb-true, le-ltb, lt-ltb, eq-eqb, ne_eqb, eqb-true, le-leb}
+use Rattle.std.proofs.Common.{◌≡◌, ℕ, zero, suc, ◌+◌, ◌-◌, ◌*◌, ◌/◌, ◌^◌, ◌<◌, ◌≤◌, Bool, true, false, cond, eqb, ltb, List, [], ◌∷◌, ◌++◌, length, get_or, take, sym, refl, ap, ◌∙◌, subst, append_assoc, arith, length-append, length-take, take-suc, get_or-append-add, ltb-false, ltb-true, le-ltb, lt-ltb, eq-eqb, ne_eqb, eqb-true, le-leb}
 use native.Mathlib.Decide.{dec_lt}
-use mathlib.Core.Option.{Option, none, some}
+use mathlib.Core.Option.{Option, none}
 use lib.ListN.{get_or-eq_default}
 use lib.Seq.{take-length}
 use borrow.Author.Tests.{eqb-false}
 use Rattle.words.specs.Areas.{entries_in, set_entry, code_area, scope_names_area, breaks_area}
-use Rattle.words.specs.Opcode.{Instruction, to_instruction, word, nothing, Pop, PushConstant, ReturnOp, Jump}
+use Rattle.words.specs.Opcode.{Instruction, to_instruction, word, nothing, Pop, PushConstant, ReturnOp}
 use Rattle.words.specs.Object.{NULL}
 use Rattle.definition.specs.FunctionState.{FunctionState, or_else, last, init, get_last_position, last_opcode}
 use Rattle.definition.specs.FunctionState as method
-use Rattle.definition.specs.Uses.{Use, using', Limits, limit_of, over_by, first_over, total}
+use Rattle.definition.specs.Uses.{using', Limits, limit_of, over_by, first_over, total}
 use Rattle.definition.specs.Compiler.{Work, with_function, doing, next}
 use Rattle.definition.specs.Compiler as step
 use Rattle.definition.specs.Program.{Entries, code_entries}

@@ -1,7 +1,7 @@
 -- The routines of `function_state.rt` that set fields of the state alone: depth, rescue position, parameters, a loop entered. Each law has the step
 -- that the definition takes with its notes; those on `put_function` are for steps of the definition that do several things under one note.
 -- By cases of the mark. Assumes nothing.
-use Rattle.std.proofs.Common.{◌≡◌, ℕ, ◌+◌, min, Bool, true, false, cond, eqb, List, [], ◌∷◌, length, sym, refl, ap, ◌∙◌, append-nil, zero-add, arith, eqb-true}
+use Rattle.std.proofs.Common.{◌≡◌, ℕ, ◌+◌, min, Bool, true, false, cond, eqb, List, [], ◌∷◌, refl, ◌∙◌, append-nil, zero-add, arith, eqb-true}
 use borrow.Author.Tests.{eqb-false}
 use Rattle.definition.specs.FunctionState.{FunctionState}
 use Rattle.definition.specs.FunctionState as method

@@ -2,7 +2,7 @@
 use Rattle.std.specs.Prelude.{◌≡◌, ℕ, ◌+◌, ◌%◌, ◌^◌, ◌<◌, ◌≤◌, min, Bool, true, false, List, [], ◌∷◌, ◌++◌, length, replicate, slice_index_or}
 use Rattle.std.proofs.Math.Option.{Option, none, some}
 use Rattle.words.specs.Areas.{entries_in, width_of, code_area, constants_area, scope_names_area, breaks_area, errors_area, entry_word}
-use Rattle.definition.specs.FunctionState.{Entry, FunctionState, tail}
+use Rattle.definition.specs.FunctionState.{Entry, tail}
 use Rattle.definition.specs.Uses.{Limits, limit_of, first_over, total}
 use Rattle.definition.specs.Compiler.{Work, CompilerState}
 use Rattle.definition.specs.Program.{Entries, flat, code_entries, constant_entry, error_entry, entries_from}

@@ -1,7 +1,6 @@
 -- The numbers of short texts, by computing. Assumes nothing.
-use Prim.Native.Nat.{ℕ}
 use mathlib.Core.Path.{◌≡◌, refl}
-use mathlib.Core.List.{List, [], ◌∷◌}
+use mathlib.Core.List.{[], ◌∷◌}
 use Rattle.case_numbers.specs.Numbers.{greatest, longer_by, numbers_from, numbers_in, overwritten}
 
 -- 'a: 10 203', a text that ends in a digit

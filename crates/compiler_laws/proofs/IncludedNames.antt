@@ -11,7 +11,6 @@ use Rattle.words.specs.Ast.{Token, Alias}
 use Rattle.words.specs.Areas.{entry_field}
 use Rattle.words.specs.Record.{value_at}
 use Rattle.tree.specs.At.{AliasAt, RunAt, run_size, double}
-use Rattle.definition.specs.Book.{Book}
 use Rattle.definition.specs.Book.{public_names}
 use Rattle.building.specs.declared.scopes.Found.{Found}
 use Rattle.building.specs.declared.scopes.Found.TheVariants.{At, Nothing}

@@ -1,6 +1,6 @@
 -- Methods inserted one by one are methods inserted together: the notes of one area, each at most the next, give the mark of the last; and an insert
 -- leaves what is still to be read of the source. By induction over the methods. Assumes nothing.
-use Prim.Native.Nat.{ℕ, zero, suc, ◌+◌, ◌-◌, ◌≤◌, ◌<◌}
+use Prim.Native.Nat.{ℕ, zero, suc, ◌+◌, ◌≤◌, ◌<◌}
 use native.Mathlib.Nat.{zero-add}
 use native.Mathlib.Omega.{arith}
 use native.Mathlib.Decide.{ℕ_discrete}

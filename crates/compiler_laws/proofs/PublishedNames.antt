@@ -11,7 +11,7 @@ use borrow.Author.Tests.{eqb-true, eq-eqb}
 use Rattle.words.specs.Areas.{public_names_area, Patched}
 use Rattle.definition.specs.FunctionState.{Entry}
 use Rattle.definition.specs.Uses.{Limits}
-use Rattle.definition.specs.Book.{Context, Book, Placed, insert_entry, public_count, publish}
+use Rattle.definition.specs.Book.{Context, Placed, insert_entry, public_count, publish}
 use Rattle.definition.specs.Program.{Entries, entries_from, public_entries, assembly_publics, public_table}
 use Rattle.definition_laws.proofs.Cells.{all_any, entries_length}
 use Rattle.building.specs.declared.scopes.Found.{Found}

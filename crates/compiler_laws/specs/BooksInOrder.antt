@@ -14,7 +14,7 @@ use Rattle.definition.specs.Answer.{Refusal, ring_errors, answer_worked, limits_
 use Rattle.tree.specs.Check.{shape_of}
 use Rattle.tree.specs.Reading.{documents_of}
 use Rattle.tree.specs.declared.Shape.TheVariants.{Fine}
-use Rattle.definition.specs.Book.{has_text, new_context, Context, Book, book_count}
+use Rattle.definition.specs.Book.{has_text, new_context, Context, book_count}
 use Rattle.building.specs.declared.taking.Taken.{Taken}
 use Rattle.building.specs.RepresentsMachine.{Filled, Marks, Sized}
 use Rattle.compiler_laws.specs.declared.book.Book as struct

@@ -6,7 +6,7 @@ use Rattle.words.specs.Ast.{Alias}
 use Rattle.words.specs.Areas.{entry_field}
 use Rattle.words.specs.Record.{value_at}
 use Rattle.tree.specs.At.{AliasAt, RunAt, run_size, double}
-use Rattle.definition.specs.Book.{Book, public_names}
+use Rattle.definition.specs.Book.{public_names}
 use Rattle.building.specs.Found.{first_from}
 use Rattle.compiler_laws.specs.declared.book.Book as struct
 

@@ -3,7 +3,7 @@
 use Rattle.std.specs.Prelude.{ℕ, List, []}
 use Rattle.words.specs.Ast.{Document}
 use Rattle.definition.specs.Uses.{Use, Limits}
-use Rattle.definition.specs.Book.{Context, Book, book_count, opened}
+use Rattle.definition.specs.Book.{Context, book_count, opened}
 use Rattle.compiler_laws.specs.declared.book.Book as struct
 use Rattle.compiler_laws.specs.BookAreas.{book_areas, RepresentsAreas}
 

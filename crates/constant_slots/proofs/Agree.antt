@@ -8,7 +8,7 @@ use mathlib.Core.Bool.{Bool, true, false, cond}
 use mathlib.Core.Option.{Option, none, some}
 use mathlib.Core.List.{List}
 use lib.ListN.{length, get_or, replicate, length-replicate}
-use lib.Dec.{T, eqb, ltb, leb, eqb→eq}
+use lib.Dec.{eqb, leb, eqb→eq}
 use borrow.Author.Tests.{lt-ltb, le-leb, lt-leb}
 use Rattle.words.specs.Object.{Constant, same_constant}
 use Rattle.constant_slots.specs.Home.{home}

@@ -5,8 +5,7 @@ use native.Mathlib.Decide.{dec_lt, ℕ_discrete}
 use native.Mathlib.Omega.{arith}
 use mathlib.Core.Path.{◌≡◌, refl, sym, ap, ◌∙◌}
 use mathlib.Core.Logic.{◌≢◌}
-use mathlib.Core.Bool.{Bool, true, false, cond, true≢false}
-use lib.Dec.{eqb}
+use mathlib.Core.Bool.{true, true≢false}
 use lib.Pow.{shl-shr}
 use borrow.Author.Tests.{eq-eqb, ne_eqb}
 use Rattle.words.specs.Object.{Constant, constant_of, integer_kind, float_kind, same_constant}

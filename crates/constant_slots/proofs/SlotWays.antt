@@ -1,8 +1,8 @@
 -- The ways through the routines of `slots.rt`: what a turn makes of `look` and of `first_empty`, and the arithmetic of a home. Assumes nothing.
-use Prim.Native.Nat.{ℕ, zero, suc, ◌+◌, ◌-◌, ◌*◌, ◌/◌, ◌%◌, ◌^◌, ◌≤◌, ◌<◌}
-use native.Mathlib.Nat.{mod-lt, mod-eq_of_lt, div-mul-le_self, lt_of_le_of_lt, mul-le-mul, mul-le-mul_left, mul-le-mul_right}
+use Prim.Native.Nat.{ℕ, suc, ◌+◌, ◌-◌, ◌*◌, ◌/◌, ◌%◌, ◌^◌, ◌≤◌, ◌<◌}
+use native.Mathlib.Nat.{mod-lt, mod-eq_of_lt, div-mul-le_self, lt_of_le_of_lt, mul-le-mul}
 use native.Mathlib.Omega.{arith}
-use mathlib.Core.Path.{◌≡◌, refl, sym, ap, subst, ◌∙◌}
+use mathlib.Core.Path.{◌≡◌, refl, sym, ap, ◌∙◌}
 use mathlib.Core.Logic.{◌≢◌}
 use mathlib.Core.Bool.{Bool, true, false, cond}
 use mathlib.Core.Option.{none, some}
@@ -12,7 +12,6 @@ use lib.Dec.{eqb, ltb}
 use borrow.Author.Tests.{eq-eqb, ne_eqb, lt-ltb, le-ltb}
 use Rattle.words.specs.Object.{Constant, constant_of, float_kind}
 use Rattle.constant_slots.specs.declared.plain.Found.TheVariants.{At, Nothing}
-use Rattle.constant_slots.specs.declared.slots.Looked.{Looked}
 use Rattle.constant_slots.specs.Home.{folded, round_zeros, grain, float_value, float_slots, spread_value, stride, home}
 use Rattle.constant_slots.proofs.Filling.{set_past}
 use Rattle.constant_slots.specs.Slots.{after, first_empty, put_slot, put_number, Search, searched, look, looked_of}

@@ -3,7 +3,7 @@ use Rattle.std.specs.Prelude.{ℕ, zero, suc, ◌+◌, ◌-◌, ◌^◌, Bool, c
 use Rattle.std.proofs.Math.Option.{Option, none, some}
 use Rattle.words.specs.Object.{Constant}
 use Rattle.constant_slots.specs.Home.{home}
-use Rattle.constant_slots.specs.Plain.{pool_of, is_constant, find_plain, found_of}
+use Rattle.constant_slots.specs.Plain.{is_constant, find_plain, found_of}
 use Rattle.constant_slots.specs.declared.slots.Looked.{Looked}
 
 -- the slot after slot p of n: 'round the end'

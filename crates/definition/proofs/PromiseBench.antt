@@ -1,7 +1,7 @@
 -- What each part of the compile call's promise rules out, on a book that is refused: `implement` on an unknown name, row 7 with error 10. The reply's number
 -- and place, and every word of every area, are said. Assumes nothing.
 use Prim.Native.Nat.{ℕ}
-use mathlib.Core.Path.{◌≡◌, refl, ap, ◌∙◌}
+use mathlib.Core.Path.{◌≡◌, ap}
 use mathlib.Core.Bool.{false}
 use mathlib.Core.List.{List, [], ◌∷◌}
 use lib.ListN.{get_or, replicate}

@@ -1,19 +1,18 @@
 -- What each clause of `KeepsWithin` refuses: the bench's small program with one of its words changed, with other numbers, with an area cut short, or with
 -- other logs. Assumes nothing.
-use Prim.Native.Nat.{ℕ, zero, suc, ◌+◌, ◌*◌, ◌≤◌, ◌<◌}
+use Prim.Native.Nat.{ℕ, ◌≤◌, ◌<◌}
 use native.Mathlib.Omega.{arith}
-use native.Mathlib.Nat.{zero-mul}
-use mathlib.Core.Path.{◌≡◌, refl, sym, ap, subst}
-use mathlib.Core.Bool.{Bool, true, false}
+use mathlib.Core.Path.{◌≡◌, refl, ap, subst}
+use mathlib.Core.Bool.{false}
 use mathlib.Core.List.{List, [], ◌∷◌}
 use lib.ListN.{length, get_or, take, set}
-use lib.Dec.{T, lit≤}
-use Rattle.words.specs.Areas.{width_of, books_area}
+use lib.Dec.{T}
+use Rattle.words.specs.Areas.{books_area}
 use Rattle.words.specs.Opcode.{Instruction, to_instruction, unword, word, Jump}
 use Rattle.definition.specs.FunctionState.{Event, Entered, Broke, Left, Log}
-use Rattle.definition.specs.Within.{All, nil, ◌&◌, Among, here, there, Program, total, length_of, locals_of, instruction_of, area_bound, InLoop, first}
+use Rattle.definition.specs.Within.{All, ◌&◌, Among, Program, instruction_of, area_bound, InLoop, first}
 use Rattle.definition.specs.Within.{later}
-use Rattle.definition.specs.Within.{Loop, Lands, FunctionLogged, KeepsWithin}
+use Rattle.definition.specs.Within.{Lands, KeepsWithin}
 use Rattle.definition.specs.WithinBench.{kept, noted, kept_logs}
 
 -- with a bound that fails there is no claim, whatever the logs: of each change in `broken`

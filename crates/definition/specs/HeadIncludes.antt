@@ -1,6 +1,6 @@
 -- The call before 2026-04, when only the includes ahead of the first other definition were dependencies. It is kept for one theorem: a bundle whose includes
 -- all come first is answered as before (`head_includes_as_before`). Nothing else cites this file
-use Rattle.std.specs.Prelude.{ℕ, zero, suc, ◌+◌, ◌≡◌, Bool, true, cond, List, [], ◌∷◌, length}
+use Rattle.std.specs.Prelude.{ℕ, zero, suc, ◌+◌, ◌≡◌, true, cond, List, [], ◌∷◌, length}
 use Rattle.std.proofs.Math.Option.{Option, none, some}
 use Rattle.words.specs.Ast.{Document, Definition}
 use Rattle.words.specs.Areas.{constants_area, books_area}

@@ -4,7 +4,7 @@
 -- Sums are of numbers, never modulo 2^64. Laying on begins with it (`lay_on` of `Onto`)
 use Rattle.std.specs.Prelude.{ℕ, ◌*◌, Bool, true, false, cond, ◌&&◌, ◌||◌, List, [], ◌∷◌, length, get_or, drop, eqb, ltb, leb}
 use Rattle.std.proofs.Math.Option.{Option, none, some}
-use Rattle.words.specs.Areas.{width_of, entries_in, code_area, constants_area, functions_area, models_area, properties_area, methods_area, context_locals_area}
+use Rattle.words.specs.Areas.{width_of, entries_in, code_area, constants_area, functions_area, methods_area, context_locals_area}
 use Rattle.words.specs.Areas.{public_names_area, scope_names_area, breaks_area, books_area, instance_word, function_name_word}
 use Rattle.words.specs.Object.{null_kind, boolean_kind, text_kind, function_kind}
 use Rattle.words.specs.Opcode.{Instruction, Operation}

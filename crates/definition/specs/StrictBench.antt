@@ -1,7 +1,7 @@
 -- The strict mode of 2026-07 on bundles whose root is book 2 and includes book 5, which has a public function 3, a private function 4 and a public model 8
 -- (`StrictRows`). A row has the words of a bundle and what the call comes to on them in strict mode; `run` is the present mode. All are proved by computing,
 -- in proofs/AllStrictRows.antt
-use Rattle.std.specs.Prelude.{ℕ, ◌+◌, ◌≡◌, true, false, List, [], ◌∷◌, ◌++◌, map, length, get_or, set, replicate}
+use Rattle.std.specs.Prelude.{ℕ, ◌+◌, ◌≡◌, true, List, [], ◌∷◌, ◌++◌, map, length, get_or, set, replicate}
 use Rattle.definition.specs.Book.{in_mode}
 use Rattle.definition.specs.Program.{Entries, tables_of}
 use Rattle.definition.specs.Answer.{Answer, Delivery, Refusal, answer_from, answer, reply_of, areas_of}

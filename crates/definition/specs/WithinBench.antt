@@ -1,7 +1,7 @@
 -- Facts that would notice if demand 3 said less (`Within`): a small program that keeps every bound, one word changed at a time, and each change breaks the
 -- bound of its own area and no other's; the logs of 01's pieces (g) and (h) and of a compound target that holds a loop. Computed; nothing rests on them
-use Rattle.std.specs.Prelude.{ℕ, ◌+◌, ◌*◌, ◌≡◌, refl, Bool, true, false, cond, ◌&&◌, List, [], ◌∷◌, ◌++◌, map, get_or, replicate, set, eqb}
-use Rattle.std.proofs.Math.Option.{Option, none, some}
+use Rattle.std.specs.Prelude.{ℕ, ◌+◌, ◌*◌, ◌≡◌, refl, Bool, true, false, cond, List, [], ◌∷◌, map, get_or, replicate, set, eqb}
+use Rattle.std.proofs.Math.Option.{none, some}
 use Rattle.words.specs.Areas.{width_of, code_area, constants_area, functions_area, models_area, properties_area, methods_area, context_locals_area}
 use Rattle.words.specs.Areas.{public_names_area, books_area, locals_word, rescue_word, start_word, length_word, function_file_word}
 use Rattle.words.specs.Object.{null_kind, boolean_kind, text_kind, model_kind, function_kind}
@@ -10,7 +10,7 @@ use Rattle.words.specs.Opcode.{to_instruction, word, unword, PushConstant, Retur
 use Rattle.words.specs.Opcode.{Jump, JumpIf, ForNext, Iterate}
 use Rattle.definition.specs.FunctionState.{Event, Entered, Broke, Left, Log}
 use Rattle.definition.specs.Answer.{answer}
-use Rattle.definition.specs.Within.{Program, Loop, all_below, area_bound, entry_point_bound, loops_of, breaks_of}
+use Rattle.definition.specs.Within.{Program, all_below, area_bound, entry_point_bound, loops_of}
 use Rattle.definition.specs.ProgramCheck.{area_fine, program_fault}
 use Rattle.definition.specs.Promise.{logs_in}
 use Rattle.definition.specs.Bench.{run}

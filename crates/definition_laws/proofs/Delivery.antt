@@ -2,13 +2,12 @@
 -- more entries in use than were lent (`areas_fit`); on a fresh context and onto one that stands (`Stands`), which a delivery is again. `Counts` bounds the
 -- counts by the notes, row 9 the notes by the areas, and each operand is below its count or small. Assumes nothing.
 use Prim.Native.Nat.{ℕ, zero, suc, ◌^◌, ◌≤◌, ◌<◌}
-use native.Mathlib.Nat.{le_refl}
 use native.Mathlib.Omega.{arith}
 use mathlib.Core.Path.{◌≡◌, refl, ap, subst}
 use mathlib.Core.Logic.{inl, inr}
 use mathlib.Core.Bool.{Bool}
 use mathlib.Core.Option.{none}
-use mathlib.Core.List.{List, [], ◌∷◌, ◌++◌, map}
+use mathlib.Core.List.{List, [], ◌∷◌}
 use lib.ListN.{length, get_or, get_or-map}
 use Rattle.words.specs.Areas.{widths, entries_in, code_area, constants_area, context_locals_area}
 use Rattle.words.specs.Opcode.{nothing}
@@ -21,7 +20,7 @@ use Rattle.definition.specs.Program.{Entries, tables_of}
 use Rattle.definition.specs.Answer.{Delivery, limits_by, limits_of, answer_from, answer}
 use Rattle.definition.specs.Within.{All, nil, ◌&◌, Class, Position, Slot, Read, Pool, ContextSlot, Other, class_of}
 use Rattle.definition.specs.Within.{logs_of, OnePositionEach, KeepsWithin}
-use Rattle.definition_laws.proofs.Safe.{at, Each, counts, Counts, Within, FunctionSafe, ProgramSafe}
+use Rattle.definition_laws.proofs.Safe.{at, Each, Counts, Within, FunctionSafe, ProgramSafe}
 use Rattle.definition_laws.proofs.Lists.{all_map}
 use Rattle.definition_laws.proofs.Cells.{all_at}
 use Rattle.definition_laws.proofs.FunctionCode.{OperandsFit}

@@ -1,16 +1,15 @@
 -- The code of functions in areas 1 and 3: function j's entry names the first entry of its code, and from there its code stands. By induction over the
 -- functions, each with one position for each instruction. Assumes nothing.
-use Prim.Native.Nat.{ℕ, zero, suc, ◌+◌, ◌*◌, ◌/◌, ◌%◌, ◌^◌, ◌≤◌, ◌<◌}
-use native.Mathlib.Nat.{zero-add, suc-add}
+use Prim.Native.Nat.{ℕ, zero, suc, ◌+◌, ◌^◌, ◌≤◌, ◌<◌}
 use native.Mathlib.Omega.{arith}
 use mathlib.Core.Path.{◌≡◌, refl, sym, ap, ◌∙◌, subst}
-use mathlib.Core.List.{List, [], ◌∷◌, ◌++◌, map}
+use mathlib.Core.List.{List, [], ◌∷◌}
 use lib.ListN.{length, get_or, take}
 use Rattle.words.specs.Opcode.{Instruction, word, unword}
 use Rattle.words.proofs.Codes.{unword_word}
 use Rattle.definition.specs.FunctionState.{new_function_state, no_log}
 use Rattle.definition.specs.Book.{Function, Context, code_of}
-use Rattle.definition.specs.Program.{Entries, entries_from, code_entries, function_code, function_entry, function_entries}
+use Rattle.definition.specs.Program.{entries_from, code_entries, function_code, function_entry, function_entries}
 use Rattle.definition.specs.Within.{All, nil, ◌&◌, logs_of, Class, Position, Slot, Read, Pool, ContextSlot, Other, class_of}
 use Rattle.definition_laws.proofs.Safe.{at, Each, Counts, counts, Within, LooseBy, Loose, FunctionSafe}
 use Rattle.definition_laws.proofs.Cells.{Wide, all_at, entries_all, entries_wide, entries_length, entries_at, sum_inside}

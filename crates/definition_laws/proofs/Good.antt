@@ -1,15 +1,15 @@
 -- The invariant of a whole compiling, and each piece of compiler.rs under it, where no error is left at its end
-use Prim.Native.Nat.{ℕ, zero, suc, ◌+◌, ◌-◌, ◌≤◌, ◌<◌}
+use Prim.Native.Nat.{ℕ, zero, suc, ◌+◌, ◌≤◌, ◌<◌}
 use native.Mathlib.Nat.{le_refl, le_trans}
 use native.Mathlib.Omega.{arith}
 use mathlib.Core.Path.{◌≡◌, refl, sym, ap, ◌∙◌, subst}
 use mathlib.Core.Logic.{◌≢◌, ◌⊎◌, inl, inr}
-use mathlib.Core.Bool.{Bool, true, false, cond, not, ◌||◌}
+use mathlib.Core.Bool.{Bool, true, false, cond}
 use mathlib.Core.Option.{Option, none, some}
-use mathlib.Core.List.{List, [], ◌∷◌, ◌++◌, append_assoc, append-nil}
-use lib.ListN.{length, set, get_or, length-append, length-set}
+use mathlib.Core.List.{List, [], ◌∷◌, ◌++◌}
+use lib.ListN.{length, length-append, length-set}
 use lib.Seq.{get_or-set_same, get_or-set_other, get_or-append_seam}
-use lib.Dec.{T, eqb, ltb, eqb→eq}
+use lib.Dec.{eqb, ltb}
 use Rattle.words.specs.Ast.{Token, Expression, Expressions, Variables, Statement, Statements}
 use Rattle.words.specs.Ast.{Identifier, This, Null, Integer, Float, Text, Boolean, Array, Prefix, Infix, If, IfElse, Call, InstanceGet, IndexGet}
 use Rattle.words.specs.Ast.{∅ₑ, ◌∷ₑ◌, ∅ᵥ, Bare, Valued, Local, Return, For, Break, Rescue, Expr, ∅ₛ, ◌∷ₛ◌}
@@ -18,7 +18,7 @@ use Rattle.definition.specs.FunctionState.{FunctionState, Entry, push_breaks, ta
 use Rattle.definition.specs.FunctionState.{emit_return, emit_break, exit_break_scope, define_local, Defined, find_name, get_next_instruction_index}
 use Rattle.definition.specs.FunctionState.{get_last_position, with_rescue, with_depth, with_parameters}
 use Rattle.definition.specs.Within.{Loop}
-use Rattle.words.specs.Opcode.{Pop, PushConstant, ReturnOp, LocalSet, LocalGet, LocalInit, ContextSet, ContextGet, GlobalSet, GlobalGet, InstanceSet}
+use Rattle.words.specs.Opcode.{Pop, PushConstant, LocalSet, LocalGet, LocalInit, ContextSet, ContextGet, GlobalSet, GlobalGet, InstanceSet}
 use Rattle.words.specs.Opcode.{InstanceGetOp, IndexSet, IndexGetOp, Operation, Not, Negative, CallOp, ArrayOp, Jump, JumpIf, ForNext, Iterate}
 use Rattle.definition.specs.FunctionState as Emission
 use Rattle.definition.specs.Compiler
@@ -34,16 +34,16 @@ use Rattle.definition.specs.Compiler.{compile_prefix_expression, compile_infix_e
 use Rattle.definition.specs.Compiler.{compile_pair, compile_assign_name}
 use Rattle.definition.specs.Compiler.{compile_this_expression, compile_identifier_expression, emit_name, compile_null_expression, compile_boolean_expression}
 use Rattle.definition.specs.Compiler.{compile_string_expression, compile_float_expression, compile_integer_expression, emit_global, emit_constant}
-use Rattle.definition.specs.Within.{All, nil, ◌&◌, loops_of, breaks_of, exits_of, read_trace, Among, here, there, InLoop, class_of}
-use Rattle.definition_laws.proofs.Safe.{at, Each, Landed, Safe, counts_of, Counts, Within, Fits}
-use Rattle.definition_laws.proofs.Lists.{all_map, all_append, Kept, Fresh, kept_refl, kept_trans, fresh_ge, fresh_trans, kept_append, kept_set}
-use Rattle.definition_laws.proofs.Lists.{kept_patch, kept_init, cond_case}
+use Rattle.definition.specs.Within.{All, nil, ◌&◌, loops_of, exits_of, Among, here, there, InLoop, class_of}
+use Rattle.definition_laws.proofs.Safe.{at, Safe, counts_of, Counts, Within}
+use Rattle.definition_laws.proofs.Lists.{all_map, Fresh, kept_refl, kept_append}
+use Rattle.definition_laws.proofs.Lists.{cond_case}
 use Rattle.definition.specs.Compiler.{compile_function_definition_base}
 use Rattle.definition_laws.proofs.Moves
 use Rattle.definition_laws.proofs.Moves.{code, errs, MovesBut, Moves, NoNext, Moving, moves_refl, moves_trans, moves_function, emit_moves, set_moves}
 use Rattle.definition_laws.proofs.Moves.{define_moves}
 use Rattle.definition_laws.proofs.Moves.{constant_moves, emit_constant_moves, operation_moves, if_moves, for_moves}
-use Rattle.definition_laws.proofs.Sound.{InSome, own, farther, Sound, Solid, SoundSolid, Pending, Wider, fits_mono, sound_more, sound_emit, solid_emit}
+use Rattle.definition_laws.proofs.Sound.{InSome, farther, Sound, Solid, SoundSolid, Pending, fits_mono, sound_more, sound_emit, solid_emit}
 use Rattle.definition_laws.proofs.Sound.{sound_null, sound_close, sound_return, sound_set, pending_apart, all_push, all_tail, sound_break, sound_exit}
 use Rattle.definition_laws.proofs.Sound.{find_name_lem, find_scopes_lem, sound_scopes, sound_define, define_found, pending_kept}
 

@@ -1,7 +1,7 @@
 -- A bundle whose includes all come first is answered as before 2026-04, whatever the areas' lengths and the context it is laid onto: reply and areas' words
 -- are of the answer. The books needed are the same after each round, and so is the next that is ready. Assumes nothing.
 use Prim.Native.Nat.{ℕ, zero, suc}
-use mathlib.Core.Path.{◌≡◌, refl, sym, ap, subst, ◌∙◌}
+use mathlib.Core.Path.{◌≡◌, refl, ap, subst, ◌∙◌}
 use mathlib.Core.Bool.{Bool, true, false, cond}
 use mathlib.Core.Option.{Option, none, some}
 use mathlib.Core.List.{List, [], ◌∷◌}
@@ -16,11 +16,11 @@ use Rattle.tree.specs.declared.Shape.TheVariants.{Fine, Refused}
 use Rattle.definition.specs.Uses.{Use, Limits}
 use Rattle.definition.specs.Compiler.{Error}
 use Rattle.definition.specs.Book.{Context, compile_document, has_text}
-use Rattle.definition.specs.DependencySolver.{dependencies, dependencies_of, find_document, insert_number, insert_numbers, reached_from, needed_in, needed}
-use Rattle.definition.specs.DependencySolver.{missing, all_in, ready, ready_by, without, Worked, after_book, drive_by, drive, loaded_of, compile_needed}
-use Rattle.definition.specs.Answer.{Answer, answer_worked, answer_needed, answer_bundle, answer_documents, answer_twice, answer_from, twice, document_places}
+use Rattle.definition.specs.DependencySolver.{dependencies_of, find_document, insert_number, insert_numbers, reached_from, needed_in, needed}
+use Rattle.definition.specs.DependencySolver.{missing, ready, ready_by, without, Worked, after_book, drive_by, drive, loaded_of, compile_needed}
+use Rattle.definition.specs.Answer.{answer_worked, answer_needed, answer_bundle, answer_documents, answer_twice, answer_from, twice, document_places}
 use Rattle.definition.specs.Answer.{answer_shape, limits_of}
-use Rattle.definition.specs.HeadIncludes.{head_includes, head_includes_of, reached_before, needed_in_before, needed_before, ready_before, ready_by_before}
+use Rattle.definition.specs.HeadIncludes.{head_includes_of, reached_before, needed_in_before, needed_before, ready_before, ready_by_before}
 use Rattle.definition.specs.HeadIncludes.{drive_before, compile_needed_before, answer_needed_before, answer_documents_before, answer_twice_before}
 use Rattle.definition.specs.HeadIncludes.{answer_shape_before, answer_from_before, ComeFirst, HeadIncludes}
 

@@ -26,12 +26,12 @@ use Rattle.definition.specs.Program.{global_dependencies, filled_all}
 use Rattle.definition.specs.Answer.{Delivery, reply_of, areas_of}
 use Rattle.definition.specs.Within.{All, nil, ◌&◌, Areas, Totals, Program, total_of, total, present, cell, field, instruction_at, start_of, length_of}
 use Rattle.definition.specs.Within.{locals_of, instruction_of, Class, Position, Slot, Read, Pool, ContextSlot, Other, class_of, bound_by_totals}
-use Rattle.definition.specs.Within.{bound_by_function, has_instruction, where', all_below, code_bound, constant_bound, function_bound, model_bound}
+use Rattle.definition.specs.Within.{bound_by_function, has_instruction, where', code_bound, constant_bound, function_bound, model_bound}
 use Rattle.definition.specs.Within.{property_bound, method_bound, local_bound, public_bound, entry_bound, area_bound, entry_point_bound, Among, Loop, Lands}
 use Rattle.definition.specs.Within.{logs_of, FunctionLogged, marked, KeepsWithin}
 use Rattle.definition_laws.proofs.Safe.{at, Landed, Counts, Within, Fits, counts}
 use Rattle.definition_laws.proofs.Safe.{EntryWithin, FunctionSafe, LooseBy, Loose, standing_counts, StandingSafe}
-use Rattle.definition_laws.proofs.Safe.{PriorSafe, PriorWide, below, ProgramSafe}
+use Rattle.definition_laws.proofs.Safe.{PriorWide, below, ProgramSafe}
 use Rattle.definition_laws.proofs.Tests.{Test, both, or_first, or_second, where_holds, less, at_most, equal, passes, all_below_lem, first_of, second_of}
 use Rattle.definition_laws.proofs.Lists.{all_map, all_append, cond_case}
 use Rattle.definition_laws.proofs.Sound.{find_name_lem}

@@ -1,14 +1,14 @@
 -- laws of lists: All, and what stays of a code
-use Prim.Native.Nat.{ℕ, zero, suc, ◌+◌, ◌-◌, ◌≤◌, ◌<◌}
+use Prim.Native.Nat.{ℕ, zero, suc, ◌-◌, ◌≤◌, ◌<◌}
 use native.Mathlib.Omega.{arith}
 use native.Mathlib.Decide.{dec_lt, ℕ_discrete}
 use mathlib.Core.Path.{◌≡◌, refl, sym, ap, ◌∙◌, subst}
 use mathlib.Core.Logic.{◌≢◌}
 use mathlib.Core.Bool.{Bool, true, false, cond, not}
 use mathlib.Core.List.{List, [], ◌∷◌, ◌++◌}
-use lib.ListN.{length, get_or, take, set, length-append, length-set, length-take, get_or-append}
+use lib.ListN.{length, take, set, length-append, length-set, length-take, get_or-append}
 use lib.Seq.{get_or-set_same, get_or-set_other, get_or-take, get_or-append_seam, set_out}
-use lib.Dec.{T, eqb, eqb→eq, eqb_refl}
+use lib.Dec.{T, eqb, eqb_refl}
 use Rattle.words.specs.Opcode.{Instruction, to_instruction, nothing, Jump}
 use Rattle.definition.specs.FunctionState.{patch_all, init, last}
 use Rattle.definition.specs.Within.{All, nil, ◌&◌}

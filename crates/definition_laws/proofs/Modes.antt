@@ -1,7 +1,7 @@
 -- What no step changes of a book, in either mode: what stood before, the books put away and the mode; and notes are only added (`Stays`). And what each step
 -- but an include does to a book in the present mode, it does in strict mode (`alike-…`): nothing else reads the mode. By cases over each step. Assumes nothing.
 use Prim.Native.Nat.{ℕ, ◌+◌}
-use mathlib.Core.Path.{◌≡◌, refl, sym, ap, ◌∙◌}
+use mathlib.Core.Path.{◌≡◌, refl, ap, ◌∙◌}
 use mathlib.Core.Bool.{Bool, true, false, cond}
 use mathlib.Core.Option.{Option, none, some}
 use mathlib.Core.List.{List, [], ◌∷◌, ◌++◌}

@@ -1,10 +1,10 @@
 -- What every piece of compiling does, errors or not: it keeps the code before it (but a Pop), adds fresh breaks to the innermost loop, and its counts grow
-use Prim.Native.Nat.{ℕ, zero, suc, ◌+◌, ◌-◌, ◌≤◌, ◌<◌}
+use Prim.Native.Nat.{ℕ, ◌+◌, ◌≤◌, ◌<◌}
 use native.Mathlib.Nat.{le_refl, le_trans}
 use native.Mathlib.Omega.{arith}
 use mathlib.Core.Path.{◌≡◌, refl, sym, ap, ◌∙◌, subst}
-use mathlib.Core.Logic.{◌≢◌, ◌⊎◌, inl, inr}
-use mathlib.Core.Bool.{Bool, true, false, cond, not, ◌||◌}
+use mathlib.Core.Logic.{◌⊎◌, inl, inr}
+use mathlib.Core.Bool.{not}
 use mathlib.Core.Option.{Option, none, some}
 use mathlib.Core.List.{List, [], ◌∷◌, ◌++◌, append_assoc, append-nil}
 use lib.ListN.{length, set, length-append}
@@ -12,12 +12,12 @@ use lib.Dec.{T, eqb, ltb, eqb→eq}
 use Rattle.words.specs.Ast.{Token, Expression, Expressions, Variables, Statement, Statements}
 use Rattle.words.specs.Ast.{Identifier, This, Null, Integer, Float, Text, Boolean, Array, Prefix, Infix, If, IfElse, Call, InstanceGet, IndexGet}
 use Rattle.words.specs.Ast.{∅ₑ, ◌∷ₑ◌, ∅ᵥ, Bare, Valued, Local, Return, For, Break, Rescue, Expr, ∅ₛ, ◌∷ₛ◌}
-use Rattle.words.specs.Opcode.{Instruction, to_instruction, nothing}
+use Rattle.words.specs.Opcode.{Instruction, to_instruction}
 use Rattle.definition.specs.FunctionState.{FunctionState, Entry, push_breaks, innermost, tail, last_opcode, init, pop_last, remove_pop_or_push_null}
 use Rattle.definition.specs.FunctionState.{emit_return, emit_break, exit_break_scope, define_local, Defined, find_name, get_next_instruction_index}
 use Rattle.definition.specs.FunctionState.{get_last_position, with_rescue, with_depth, with_parameters}
-use Rattle.words.specs.Opcode.{Pop, PushConstant, ReturnOp, LocalSet, LocalGet, LocalInit, ContextSet, ContextGet, GlobalSet, GlobalGet, InstanceSet}
-use Rattle.words.specs.Opcode.{InstanceGetOp, IndexSet, IndexGetOp, Operation, Not, Negative, CallOp, ArrayOp, Jump, JumpIf, ForNext, Iterate}
+use Rattle.words.specs.Opcode.{Pop, PushConstant, ReturnOp, LocalSet, LocalGet}
+use Rattle.words.specs.Opcode.{Jump, JumpIf, ForNext, Iterate}
 use Rattle.definition.specs.FunctionState as Emission
 use Rattle.definition.specs.Compiler
 use Rattle.definition.specs.Compiler.{Work, Step, Error, doing, with_function, emit, next, Added, add_constant, add_constant_no_check, find_constant}

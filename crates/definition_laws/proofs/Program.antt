@@ -1,16 +1,16 @@
 -- Demand 3 of a whole program: every definition keeps the context within itself, where no error is left
-use Prim.Native.Nat.{ℕ, zero, suc, ◌+◌, ◌-◌, ◌≤◌, ◌<◌}
+use Prim.Native.Nat.{ℕ, zero, suc, ◌+◌, ◌≤◌, ◌<◌}
 use native.Mathlib.Nat.{le_refl, le_trans}
 use native.Mathlib.Omega.{arith}
 use native.Mathlib.Decide.{ℕ_discrete}
 use mathlib.Core.Path.{◌≡◌, refl, sym, ap, ◌∙◌, subst}
-use mathlib.Core.Logic.{◌≢◌, ◌⊎◌, inl, inr}
-use mathlib.Core.Bool.{Bool, true, false, cond, not, ◌||◌}
+use mathlib.Core.Logic.{inl, inr}
+use mathlib.Core.Bool.{Bool, true, false, cond}
 use mathlib.Core.Option.{Option, none, some}
 use mathlib.Core.List.{List, [], ◌∷◌, ◌++◌}
-use lib.ListN.{length, set, get_or, length-append, length-set}
-use lib.Dec.{T, eqb, ltb, eqb→eq}
-use Rattle.words.specs.Ast.{Token, Statements}
+use lib.ListN.{length, get_or, length-append}
+use lib.Dec.{T, eqb, eqb→eq}
+use Rattle.words.specs.Ast.{Token}
 use Rattle.definition.specs.FunctionState.{Entry, FunctionState, new_function_state, find_name}
 use Rattle.definition.specs.Compiler
 use Rattle.definition.specs.Uses.{Use}
@@ -37,10 +37,10 @@ use Rattle.definition.specs.Book.{compile_definitions, opened, compile_document,
 use Rattle.words.specs.Areas.{properties_area}
 use Rattle.definition.specs.DependencySolver.{Worked, Delivered, ready, without, after_book, drive_by, drive, compile_needed}
 use Rattle.definition.specs.Within.{All, nil, ◌&◌, Class, Position, Slot, Read, Pool, ContextSlot, Other, class_of}
-use Rattle.definition_laws.proofs.Safe.{EntryWithin, FunctionSafe, Named, LooseBy, Loose}
+use Rattle.definition_laws.proofs.Safe.{EntryWithin, FunctionSafe, Named, LooseBy}
 use Rattle.definition_laws.proofs.Safe.{standing_counts, StandingSafe, PriorSafe, PriorWide, Parts, PartsOf}
 use Rattle.definition_laws.proofs.Safe.{ProgramSafe}
-use Rattle.definition_laws.proofs.Lists.{all_map, all_append, all_set, cond_case}
+use Rattle.definition_laws.proofs.Lists.{all_map, all_append, cond_case}
 use Rattle.definition_laws.proofs.Sound.{Wider, fit_mono, fits_mono, find_name_lem}
 use Rattle.definition_laws.proofs.Moves.{Moves}
 use Rattle.definition_laws.proofs.Good.{Good, Ready, find_constant_lem, no_snoc, function_good, function_moves, function_safe}

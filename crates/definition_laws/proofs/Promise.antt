@@ -4,13 +4,13 @@ use Prim.Native.Nat.{ℕ}
 use native.Mathlib.Omega.{arith}
 use mathlib.Core.Path.{◌≡◌, refl, sym, ap, subst, ◌∙◌}
 use mathlib.Core.Bool.{Bool}
-use mathlib.Core.List.{List, [], ◌∷◌}
+use mathlib.Core.List.{List}
 use lib.ListN.{length}
 use Rattle.words.specs.declared.reply.Reply as struct
 use Rattle.definition.specs.Compiler.{Error}
-use Rattle.definition.specs.Book.{Context, new_context}
+use Rattle.definition.specs.Book.{new_context}
 use Rattle.definition.specs.Answer.{Answer, Delivery, Refusal, Reply, answer, reply_of, areas_of}
-use Rattle.definition.specs.Within.{Areas, Program, KeepsWithin}
+use Rattle.definition.specs.Within.{Areas, KeepsWithin}
 use Rattle.definition_laws.proofs.Answer.{refusals, Row, row_2, row_3, row_4, row_5, row_6, row_7, row_8, row_9, row_11}
 use Rattle.definition_laws.proofs.Delivery.{answer_keeps}
 use Rattle.definition.specs.Trial.{fresh_bundles}

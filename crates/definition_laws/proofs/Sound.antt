@@ -1,17 +1,17 @@
 -- The invariant of a function state, over K constants and C context locals, and the methods of function_state.rs under it
-use Prim.Native.Nat.{ℕ, zero, suc, ◌+◌, ◌-◌, ◌≤◌, ◌<◌}
+use Prim.Native.Nat.{ℕ, suc, ◌+◌, ◌-◌, ◌≤◌, ◌<◌}
 use native.Mathlib.Nat.{le_refl, le_trans}
 use native.Mathlib.Omega.{arith}
 use native.Mathlib.Decide.{ℕ_discrete}
 use mathlib.Core.Path.{◌≡◌, refl, sym, ap, ◌∙◌, subst}
 use mathlib.Core.Logic.{◌≢◌, ◌⊎◌, inl, inr}
-use mathlib.Core.Bool.{Bool, true, false, cond, not}
+use mathlib.Core.Bool.{Bool, true, false, cond}
 use mathlib.Core.Option.{Option, none, some}
 use mathlib.Core.List.{List, [], ◌∷◌, ◌++◌}
-use lib.ListN.{length, get_or, set, length-append, length-set, length-take, get_or-append}
-use lib.Seq.{get_or-set_same, get_or-set_other, get_or-take, get_or-append_seam}
-use lib.Dec.{T, eqb, eqb→eq}
-use Rattle.words.specs.Opcode.{Instruction, to_instruction, nothing, Pop, PushConstant, ReturnOp, Jump, JumpIf}
+use lib.ListN.{length, set, length-append, length-set, length-take, get_or-append}
+use lib.Seq.{get_or-set_other, get_or-take, get_or-append_seam}
+use lib.Dec.{eqb, eqb→eq}
+use Rattle.words.specs.Opcode.{Instruction, to_instruction, nothing, Pop, ReturnOp, Jump, JumpIf}
 use Rattle.definition.specs.FunctionState.{FunctionState, Entry, push_breaks, innermost, tail, last, init, last_opcode, patch_all, remove_pop_or_push_null}
 use Rattle.definition.specs.FunctionState.{emit_return, emit_break, exit_break_scope, define_local, find_name}
 use Rattle.definition.specs.Within.{Loop}
@@ -20,7 +20,7 @@ use Rattle.definition.specs.Within.{All, nil, ◌&◌, Loop, read_trace, loops_o
 use Rattle.definition.specs.Within.{Position, Slot, Read, Pool, ContextSlot, Other, class_of}
 use Rattle.definition_laws.proofs.Defining.{define_cases}
 use Rattle.definition_laws.proofs.Safe.{at, Each, counts, Landed, Counts, Within, Fits}
-use Rattle.definition_laws.proofs.Lists.{all_map, all_append, Kept, Fresh, kept_append, kept_init, kept_set, cond_case, ne_of_test, each_map, each_snoc}
+use Rattle.definition_laws.proofs.Lists.{all_map, all_append, Kept, kept_append, kept_init, cond_case, ne_of_test, each_map, each_snoc}
 use Rattle.definition_laws.proofs.Lists.{each_set, each_init, each_patch, last_snoc, opcode_set, opcode_patch, patch_other, patch_hits, length_patch}
 
 -- a break that waits for its loop's end

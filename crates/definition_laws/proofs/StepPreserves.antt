@@ -1,10 +1,10 @@
 -- What every piece of compiling leaves as it was: the depth, the book's names, the code before the function; notes are only added, and constants are added to
 -- the pool as `add_constant` does (`PoolGrows`), marks in front (`MarksGrow`). By one lemma for each combinator over arbitrary steps, and one induction on
 -- the tree. Assumes nothing.
-use Prim.Native.Nat.{ℕ, zero, suc, ◌+◌, ◌-◌}
+use Prim.Native.Nat.{ℕ, ◌+◌, ◌-◌}
 use native.Mathlib.Omega.{arith}
-use mathlib.Core.Path.{◌≡◌, refl, sym, ap, ◌∙◌}
-use mathlib.Core.Bool.{Bool, true, false, cond, not}
+use mathlib.Core.Path.{◌≡◌, refl, ap, ◌∙◌}
+use mathlib.Core.Bool.{not}
 use mathlib.Core.Option.{Option, none, some}
 use mathlib.Core.List.{List, [], ◌∷◌, ◌++◌}
 use lib.ListN.{length}

@@ -1,16 +1,15 @@
 -- The two modes of 2026-07. The strict work is the present one up to its first note of row 11 (`Beside`); so where strict is not refused by row 11 both answer
 -- the same (`strict_or_row_11`), a delivery too, word for word (`strict_equals_present`). Assumes nothing.
-use Prim.Native.Nat.{ℕ, zero, suc, ◌+◌, ◌-◌, ◌<◌, ◌≤◌}
+use Prim.Native.Nat.{ℕ, zero, suc, ◌-◌, ◌≤◌}
 use native.Mathlib.Omega.{arith}
 use mathlib.Core.Path.{◌≡◌, refl, sym, ap, subst, ◌∙◌}
-use mathlib.Core.Logic.{◌⊎◌, inl, inr}
 use mathlib.Core.Bool.{Bool, true, false, cond}
 use mathlib.Core.Option.{Option, none, some}
 use mathlib.Core.List.{List, [], ◌∷◌, ◌++◌}
-use lib.ListN.{length, get_or}
-use lib.Dec.{eqb, ltb}
+use lib.ListN.{length}
+use lib.Dec.{ltb}
 use borrow.Author.Tests.{lt-ltb, le-ltb}
-use Rattle.words.specs.Ast.{Token, Alias, Definition, LocalDefinition, IncludeDefinition, ModelDefinition}
+use Rattle.words.specs.Ast.{Definition, LocalDefinition, IncludeDefinition, ModelDefinition}
 use Rattle.words.specs.Ast.{PublicModelDefinition, PlainFunction, PublicFunction, ImplementDefinition, ApplyDefinition, Document}
 use Rattle.words.specs.Areas.{widths}
 use Rattle.tree.specs.Check.{shape_of}
@@ -28,7 +27,7 @@ use Rattle.definition.specs.DependencySolver.{Worked, Ending, Delivered, Faulty,
 use Rattle.definition.specs.DependencySolver.{missing, compile_needed}
 use Rattle.definition.specs.Program.{tables_of}
 use Rattle.definition.specs.Answer.{Answer, Delivery, Refusal, answer_over, answer_by}
-use Rattle.definition.specs.Answer.{answer_ending, answer_worked, answer_needed, answer_bundle, answer_documents}
+use Rattle.definition.specs.Answer.{answer_worked, answer_needed, answer_bundle, answer_documents}
 use Rattle.definition.specs.Answer.{answer_twice, answer_shape, answer_from, answer, twice, document_places, limits_by, limits_of, reply_of, areas_of}
 use Rattle.definition.specs.Strict.{in_present}
 use Rattle.definition_laws.proofs.StepPreserves.{NotesGrow, same, more, longer_trans}

@@ -1,6 +1,6 @@
 -- A strict delivery has no include in a compiled book with a name that is not public (`strict_refuses`): every include of a compiled book gave its values, for
 -- a note of row 11 would have been found; the books before it stay, so its names are public at the end too. Assumes nothing.
-use Prim.Native.Nat.{ℕ, zero, suc, ◌+◌, ◌-◌}
+use Prim.Native.Nat.{ℕ, zero, suc, ◌-◌}
 use native.Mathlib.Omega.{arith}
 use mathlib.Core.Path.{◌≡◌, refl, sym, ap, subst, ◌∙◌}
 use mathlib.Core.Bool.{Bool, true, false, cond}
@@ -15,7 +15,6 @@ use Rattle.tree.specs.Check.{shape_of}
 use Rattle.tree.specs.Reading.{documents_of}
 use Rattle.tree.specs.declared.Shape.{Shape}
 use Rattle.tree.specs.declared.Shape.TheVariants.{Fine, Refused}
-use Rattle.definition.specs.FunctionState.{find_name}
 use Rattle.definition.specs.Prior.{Prior, book_index, find_public}
 use Rattle.definition.specs.Uses.{Use, Limits, first_over, first_not_public, not_public_area}
 use Rattle.definition.specs.Compiler.{Error}
@@ -27,14 +26,13 @@ use Rattle.definition.specs.DependencySolver.{Worked, Ending, Delivered, Faulty,
 use Rattle.definition.specs.DependencySolver.{ready_by, without, after_book, drive_by, drive, loaded_of, needed}
 use Rattle.definition.specs.DependencySolver.{missing, compile_needed, find_document, all_in, dependencies}
 use Rattle.definition.specs.Answer.{Answer, Delivery, Refusal, answer_over, answer_by}
-use Rattle.definition.specs.Answer.{answer_ending, answer_worked, answer_needed, answer_bundle, answer_documents}
+use Rattle.definition.specs.Answer.{answer_ending, answer_needed, answer_bundle, answer_documents}
 use Rattle.definition.specs.Answer.{answer_twice, answer_shape, answer_from, twice, document_places, limits_of}
-use Rattle.definition.specs.Strict.{NamesPublic, BookPublic, BooksPublic, AllPublic}
+use Rattle.definition.specs.Strict.{NamesPublic, BookPublic, AllPublic}
 use Rattle.definition.specs.Within.{All, nil, ◌&◌}
 use Rattle.definition_laws.proofs.StepPreserves.{NotesGrow, same, more, longer_trans}
-use Rattle.definition_laws.proofs.Modes.{Stays}
-use Rattle.definition_laws.proofs.Strict.{stays_definition, stays_definitions, document_longer, drive_longer, first_longer, noted_first, refusing}
-use Rattle.definition_laws.proofs.Lists.{cond_case, all_map}
+use Rattle.definition_laws.proofs.Strict.{stays_definition, stays_definitions, drive_longer, first_longer, noted_first, refusing}
+use Rattle.definition_laws.proofs.Lists.{all_map}
 
 -- public names stay public: what stood stays, and books are put away behind others
 record Later (c c' : Context) : Type 0 where

@@ -1,6 +1,5 @@
 // `emit`, `emit_return` and `define_local` of `backend/function_state.rs` with the function's state lent, as the Rust has them. Each is thin over its
-// by-value form in `building` and promises what that promises. Whoever has a reference to a state is proved by a walk of its MIR, by hand;
-// `one_instruction`, above them, takes and returns the state by value, so that its callers need none.
+// by-value form in `building` and promises what that promises; `one_instruction`, above them, takes and returns the state by value.
 #![tactic(auto)]
 
 ghost use Rattle.std.specs.Prelude.{◌≡◌};

@@ -1,15 +1,16 @@
 -- A writer's steps in a row: a line of nine pieces, from the writer that `new` makes to the last.
 -- Assumes nothing.
-use mathlib.Core.Path.{◌≡◌, ap, ◌∙◌}
-use mathlib.Core.Bool.{Bool, false}
+use mathlib.Core.Path.{◌≡◌, sym, ap, ◌∙◌}
+use mathlib.Core.Bool.{false}
 use mathlib.Core.List.{List}
 use Prim.Native.Nat.{ℕ}
 use lib.ListN.{length}
 use base.Fml.{GName}
 use denote.Ref.{MutBor}
+use Rattle.line_writer.specs.declared.place.Place.{Place}
 use Rattle.line_writer.specs.declared.writer.Writer.{Writer}
 use Rattle.line_writer.specs.declared.writer.Fields.{Fields}
-use Rattle.line_writer.specs.Placed.{Placed, number_at, byte_at}
+use Rattle.line_writer.specs.Placed.{Placed, placed, number_at, byte_at}
 use Rattle.column_lines.specs.Form.{newline}
 use Rattle.line_writer.specs.Written.{held, onto, begun, start_at, field_at, section_width, field_width, last_width, line_at}
 use Rattle.line_writer.proofs.Placing.{number_length, byte_length}
@@ -46,6 +47,11 @@ module _ (x : MutBor (List ℕ)) (n : ℕ) (l : Fields) (r₀ r₁ r₂ r₃ r�
   line_name =
       then_name (then_name (then_name (then_name (then_name (then_name (then_name (then_name (then_name (ap (λ (w : Writer). w.buffer.ghost_name) e₀) e₁) e₂) e₃)
       e₄) e₅) e₆) e₇) e₈) e₉
+
+  -- where the writer's borrow ended as e says, and the buffer has what it ended with
+  pub line_back : {p : Place} {last bs : List ℕ} → (x.ghost_name ≡ r₉.buffer.ghost_name → last ≡ bs) → placed p bs ≡ held r₉
+      → placed p last ≡ line_at l (start_at n x.now)
+  line_back {p} tie e = ap (placed p) (tie (sym line_name)) ∙ (e ∙ line_held)
 
 -- the same of the column writer on slice and offset
 module _ (l : Fields) (m₀ m₁ m₂ m₃ m₄ m₅ m₆ m₇ m₈ m₉ : Placed) (e₁ : m₁ ≡ number_at section_width false l.section m₀) (e₂ : m₂ ≡ field_at l.first m₁)

@@ -1,4 +1,3 @@
-mod Carried
 pub mod InARow
 pub mod Placing
 pub mod WholeLine

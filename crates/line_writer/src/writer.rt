@@ -1,5 +1,6 @@
-// The writer that carries the buffer it fills. A function that takes, makes or returns one is proved by a walk of its MIR, by hand; each is thin: it takes
-// the writer apart and calls the column writer of `place`. `write_line`, above them, has plain parameters, so that its callers need no walk.
+// The writer that carries the buffer it fills. Each step is thin: it calls the column writer of `place` on the writer's buffer. A step takes the writer lent
+// (`put_number`, `put_byte`), or by value and gives it back (`number`, `byte`). `write_line` lends it: what became of a buffer whose writer was passed by
+// value and came back, its lender's proof does not know.
 ghost use Rattle.std.specs.Prelude.{◌≡◌};
 ghost use Rattle.line_writer.specs.Placed.{placed, number_at, byte_at};
 ghost use Rattle.line_writer.specs.Written.{begun, held, onto, start_at, line_at};
@@ -47,36 +48,48 @@ pub fn new<'a>(buffer: &'a mut [u8], offset: usize) -> Writer<'a>
     }
 }
 
-// A number, right-justified in a width.
-pub fn number<'a>(w: Writer<'a>, width: usize, word: u64, signed: bool) -> Writer<'a>
-    ensures { result ≡ onto w.entry (number_at width signed word (held w.entry)) }
+// Writes a number, right-justified in a width.
+fn put_number<'a>(w: &mut Writer<'a>, width: usize, word: u64, signed: bool)
+    ensures { w.new ≡ onto w.old (number_at width signed word (held w.old)) }
 {
     let place = Place {
         offset: w.offset,
         fits: w.fits,
     };
     let next = number_at(&mut *w.buffer, place, width, word, signed);
-    Writer {
-        buffer: w.buffer,
-        offset: next.offset,
-        fits: next.fits,
-    }
+    w.offset = next.offset;
+    w.fits = next.fits;
 }
 
-// One byte.
-pub fn byte<'a>(w: Writer<'a>, b: u8) -> Writer<'a>
-    ensures { result ≡ onto w.entry (byte_at b (held w.entry)) }
+// Writes one byte.
+fn put_byte<'a>(w: &mut Writer<'a>, b: u8)
+    ensures { w.new ≡ onto w.old (byte_at b (held w.old)) }
 {
     let place = Place {
         offset: w.offset,
         fits: w.fits,
     };
     let next = byte_at(&mut *w.buffer, place, b);
-    Writer {
-        buffer: w.buffer,
-        offset: next.offset,
-        fits: next.fits,
-    }
+    w.offset = next.offset;
+    w.fits = next.fits;
+}
+
+// A number, right-justified in a width.
+pub fn number<'a>(w: Writer<'a>, width: usize, word: u64, signed: bool) -> Writer<'a>
+    ensures { result ≡ onto w.entry (number_at width signed word (held w.entry)) }
+{
+    let mut next = w;
+    put_number(&mut next, width, word, signed);
+    next
+}
+
+// One byte.
+pub fn byte<'a>(w: Writer<'a>, b: u8) -> Writer<'a>
+    ensures { result ≡ onto w.entry (byte_at b (held w.entry)) }
+{
+    let mut next = w;
+    put_byte(&mut next, b);
+    next
 }
 
 // The borrow ends: where the next byte goes, and whether all fits.
@@ -93,14 +106,15 @@ pub fn end<'a>(w: Writer<'a>) -> Place
 pub fn write_line(buffer: &mut [u8], offset: usize, line: Fields) -> Place
     ensures { placed result buffer.new ≡ line_at line (start_at offset buffer.old) }
 {
-    let begun = new(buffer, offset);
-    let section = number(begun, SECTION_WIDTH, line.section, false);
-    let first = number(section, FIELD_WIDTH, line.first, false);
-    let second = number(first, FIELD_WIDTH, line.second, false);
-    let third = number(second, FIELD_WIDTH, line.third, false);
-    let fourth = number(third, FIELD_WIDTH, line.fourth, false);
-    let fifth = number(fourth, FIELD_WIDTH, line.fifth, false);
-    let sixth = number(fifth, FIELD_WIDTH, line.sixth, false);
-    let last = number(sixth, LAST_WIDTH, line.last, line.signed);
-    end(byte(last, NEWLINE))
+    let mut w = new(buffer, offset);
+    put_number(&mut w, SECTION_WIDTH, line.section, false);
+    put_number(&mut w, FIELD_WIDTH, line.first, false);
+    put_number(&mut w, FIELD_WIDTH, line.second, false);
+    put_number(&mut w, FIELD_WIDTH, line.third, false);
+    put_number(&mut w, FIELD_WIDTH, line.fourth, false);
+    put_number(&mut w, FIELD_WIDTH, line.fifth, false);
+    put_number(&mut w, FIELD_WIDTH, line.sixth, false);
+    put_number(&mut w, LAST_WIDTH, line.last, line.signed);
+    put_byte(&mut w, NEWLINE);
+    end(w)
 }

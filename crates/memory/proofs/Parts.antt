@@ -1,15 +1,15 @@
 -- What replacing one part of a memory does to the others: nothing. One law over the part's number. And the parts by the table of starts are the areas.
 -- Assumes nothing.
 use mathlib.Core.Path.{◌≡◌, refl, sym, ap, subst, ◌∙◌}
-use mathlib.Core.List.{List, [], ◌∷◌, ◌++◌, append_assoc}
+use mathlib.Core.List.{List, ◌++◌, append_assoc}
 use mathlib.Core.Bool.{Bool, true, false, cond}
-use Prim.Native.Nat.{ℕ, zero, suc, ◌+◌, ◌-◌, ◌≤◌, ◌<◌, min}
+use Prim.Native.Nat.{ℕ, zero, suc, ◌+◌, ◌-◌, ◌≤◌, ◌<◌}
 use native.Mathlib.Omega.{arith}
 use lib.ListN.{length, take, drop, get_or, length-append, length-take, length-drop, take-append-drop}
 use lib.Dec.{eqb, ltb}
 use lib.Seq.{length-take-le, take-append-le, drop-append-le, take_at, drop_at, drop-drop}
 use borrow.Author.Tests.{ltb-true, ltb-false, eqb-true, eqb-false}
-use Rattle.memory.specs.Layout.{areas_of, starts_from, starts_of, part, with_part, part_count, Fits}
+use Rattle.memory.specs.Layout.{part, with_part, Fits}
 
 -- a list's front alone says what stands in its front
 front : (u q : List ℕ) (i j : ℕ) → i ≤ j → j ≤ length u → take (j - i) (drop i (u ++ q)) ≡ take (j - i) (drop i u)

@@ -1,6 +1,6 @@
 -- The table of starts: step by step as `starts_of` makes it; it suits its memory; and the parts that it gives are the areas. Assumes nothing.
-use mathlib.Core.Path.{◌≡◌, refl, sym, ap, subst, ◌∙◌}
-use mathlib.Core.List.{List, [], ◌∷◌, ◌++◌}
+use mathlib.Core.Path.{◌≡◌, refl, sym, ap, ◌∙◌}
+use mathlib.Core.List.{List, [], ◌∷◌}
 use mathlib.Core.Bool.{Bool, true, false}
 use Prim.Native.Nat.{ℕ, zero, suc, ◌+◌, ◌-◌, ◌≤◌, ◌<◌, min}
 use native.Mathlib.Omega.{arith}
@@ -8,7 +8,7 @@ use lib.ListN.{length, take, drop, get_or, length-drop, drop_of_length-le}
 use lib.Seq.{take_all, drop-cons, drop-drop}
 use lib.Dec.{leb}
 use borrow.Author.Tests.{leb-true, leb-false}
-use Rattle.memory.specs.Layout.{areas_of, starts_from, starts_of, part, with_part, part_count, Fits}
+use Rattle.memory.specs.Layout.{areas_of, starts_from, starts_of, part, Fits}
 
 -- one start more, and the end
 start : (l : List ℕ) (size i : ℕ) {at end : ℕ} {xs : List ℕ} → i < length l → end ≡ min size (at + get_or l i 0)

@@ -1,7 +1,7 @@
 -- One lent memory: where areas 1 to 12 of 01 lie in it, and what is left over as part 13 (the slot table of 2026-12).
 -- The parts follow each other by number. A length that passes the memory's end is cut there, and what is left over belongs to the last part,
 -- so that any lengths and any memory have a reading
-use Rattle.std.specs.Prelude.{ℕ, zero, suc, ◌+◌, ◌-◌, ◌≤◌, ◌<◌, min, ◌≡◌, List, [], ◌∷◌, ◌++◌, length, take, drop, get_or}
+use Rattle.std.specs.Prelude.{ℕ, suc, ◌+◌, ◌-◌, ◌≤◌, ◌<◌, min, List, [], ◌∷◌, ◌++◌, take, drop, get_or}
 
 -- the parts: one for each length, and what is left over
 unfoldable pub areas_of : List ℕ → List ℕ → List (List ℕ)

@@ -1,21 +1,21 @@
 -- The entries of an area one after the other, and the zeros behind them. Assumes nothing.
-use Prim.Native.Nat.{ℕ, zero, suc, ◌+◌, ◌*◌, ◌/◌, ◌≤◌, ◌<◌, min}
+use Prim.Native.Nat.{ℕ, suc, ◌+◌, ◌*◌, ◌/◌, ◌≤◌, ◌<◌}
 use native.Mathlib.Omega.{arith}
 use native.Mathlib.Nat.{mul-le-mul_right, div-mul-le_self}
 use native.Mathlib.Numerals.{add-one}
-use mathlib.Core.Path.{◌≡◌, refl, sym, ap, subst, ◌∙◌}
-use mathlib.Core.Bool.{Bool, true, false, cond, not, ◌&&◌}
-use mathlib.Core.List.{List, [], ◌∷◌, ◌++◌}
+use mathlib.Core.Path.{◌≡◌, sym, ap, subst, ◌∙◌}
+use mathlib.Core.Bool.{Bool, true, false, not, ◌&&◌}
+use mathlib.Core.List.{List, []}
 use lib.ListN.{length, get_or, drop, replicate, length-replicate, drop_of_length-le}
 use lib.Seq.{drop-cons, get_or_at}
-use lib.Dec.{T, eqb, leb}
-use borrow.Author.Tests.{eq-eqb, ne_eqb, le-leb, lt-leb, not-true, not-false}
-use Rattle.words.specs.Areas.{width_of, entries_in, most_entries}
+use lib.Dec.{T, leb}
+use borrow.Author.Tests.{ne_eqb, le-leb, lt-leb, not-true, not-false}
+use Rattle.words.specs.Areas.{width_of, entries_in}
 use Rattle.words.specs.Reply.{total_of}
 use Rattle.words.specs.declared.reply.Totals.{Totals}
-use Rattle.definition.specs.Within.{Program, all_below}
+use Rattle.definition.specs.Within.{all_below}
 use Rattle.definition.specs.ProgramCheck.{zeros}
-use Rattle.definition_laws.proofs.Tests.{first_of, second_of, below_at}
+use Rattle.definition_laws.proofs.Tests.{second_of, below_at}
 use Rattle.program_check.proofs.Below.{true_by, false_by, holds, fails, and_holds, below_turn}
 use Rattle.program_check.specs.HasEntries.{HasEntries}
 use Rattle.program_check.specs.Parts.{alone, entry_fine, entries_fine}

@@ -1,8 +1,8 @@
 -- What the program check answers, computed: the totals, the tails, keys, functions over each other's code, sums past 2^64. The words of entries, one by one,
 -- stand in `WithinBench` of the crate `definition`. Assumes nothing.
-use Prim.Native.Nat.{ℕ, ◌+◌, ◌-◌, ◌^◌}
+use Prim.Native.Nat.{ℕ, ◌-◌, ◌^◌}
 use mathlib.Core.Path.{◌≡◌, refl}
-use mathlib.Core.Option.{Option, none, some}
+use mathlib.Core.Option.{none, some}
 use mathlib.Core.List.{List, [], ◌∷◌, ◌++◌, map}
 use lib.ListN.{get_or, set}
 use Rattle.words.specs.Opcode.{word, unword}

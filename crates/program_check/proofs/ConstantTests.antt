@@ -1,15 +1,15 @@
 -- Area 2 as a whole: the first three constants and the marks. Assumes nothing.
-use Prim.Native.Nat.{ℕ, zero, suc, ◌+◌, ◌*◌, ◌≤◌, ◌<◌, min}
+use Prim.Native.Nat.{ℕ, ◌+◌, ◌*◌, ◌≤◌, ◌<◌}
 use native.Mathlib.Omega.{arith}
 use native.Mathlib.Numerals.{add-one}
-use mathlib.Core.Path.{◌≡◌, refl, sym, ap, subst, ◌∙◌}
-use mathlib.Core.Bool.{Bool, true, false, cond, ◌&&◌}
+use mathlib.Core.Path.{◌≡◌, sym, ap, subst}
+use mathlib.Core.Bool.{Bool, true, ◌&&◌}
 use mathlib.Core.List.{List, [], ◌∷◌}
 use lib.ListN.{length, drop}
-use lib.Dec.{T, eqb, ltb, leb, ltb→lt, leb→le}
+use lib.Dec.{T, eqb, ltb, leb, ltb→lt}
 use Rattle.words.specs.Areas.{entries_in, entry_field}
 use Rattle.words.specs.declared.reply.Totals.{Totals}
-use Rattle.definition.specs.Within.{Program, all_below, marked, present, where', constant_bound}
+use Rattle.definition.specs.Within.{all_below, marked, present, where', constant_bound}
 use Rattle.definition.specs.ProgramCheck.{zeros, value_known, whole_known}
 use Rattle.definition_laws.proofs.Tests.{first_of, second_of, below_at}
 use Rattle.program_check.specs.Parts.{alone, entry_fine, entries_fine}

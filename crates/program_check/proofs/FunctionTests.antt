@@ -1,19 +1,19 @@
 -- Functions over their instructions: what is left of a function inside area 1, one instruction after the other, is what the definition asks of each
 -- instruction that the function has. Assumes nothing.
-use Prim.Native.Nat.{ℕ, zero, suc, ◌+◌, ◌-◌, ◌*◌, ◌/◌, ◌≤◌, ◌<◌, min}
+use Prim.Native.Nat.{ℕ, ◌+◌, ◌-◌, ◌≤◌, ◌<◌, min}
 use native.Mathlib.Omega.{arith}
 use native.Mathlib.Numerals.{add-one}
 use mathlib.Core.Path.{◌≡◌, refl, sym, ap, subst, ◌∙◌}
 use mathlib.Core.Bool.{Bool, true, false, cond, not, ◌&&◌, ◌||◌}
-use mathlib.Core.List.{List, [], ◌∷◌}
-use lib.ListN.{length, get_or}
+use mathlib.Core.List.{List}
+use lib.ListN.{length}
 use lib.Dec.{T, eqb, ltb, leb, leb-zero, leb→le, ltb→lt, le→leb, lt→ltb}
 use borrow.Author.Tests.{not-true, not-false}
 use Rattle.words.specs.Areas.{width_of, entries_in, entry_field}
 use Rattle.words.specs.Opcode.{unword}
 use Rattle.words.specs.declared.reply.Totals.{Totals}
 use Rattle.definition.specs.Within.{Program, Class, Position, Slot, Read, Pool, ContextSlot, Other, class_of, instruction_at}
-use Rattle.definition.specs.Within.{start_of, length_of, locals_of, has_instruction, all_below, where', bound_by_function}
+use Rattle.definition.specs.Within.{start_of, length_of, locals_of, has_instruction, all_below, bound_by_function}
 use Rattle.definition_laws.proofs.Tests.{first_of, second_of, below_at}
 use Rattle.program_check.specs.Instructions.{jump_by, locals_by, jump_of, locals_needed}
 use Rattle.program_check.specs.Functions.{code_and, keeps_at, range_keeps, keeps_in, function_keeps, functions_keep}

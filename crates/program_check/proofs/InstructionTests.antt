@@ -1,18 +1,18 @@
 -- Instructions by themselves: the tables are the definition's lists, and what the code reads off a word is what the definition does. Assumes nothing.
-use Prim.Native.Nat.{ℕ, zero, suc, ◌+◌, ◌/◌, ◌%◌, ◌^◌, ◌≤◌, ◌<◌}
+use Prim.Native.Nat.{ℕ, ◌+◌, ◌/◌, ◌%◌, ◌^◌, ◌≤◌, ◌<◌}
 use native.Mathlib.Omega.{arith}
-use mathlib.Core.Path.{◌≡◌, refl, sym, ap, subst, ◌∙◌}
+use mathlib.Core.Path.{◌≡◌, refl, ap, ◌∙◌}
 use mathlib.Core.Bool.{Bool, true, false, cond, ◌&&◌}
 use mathlib.Core.List.{List, [], ◌∷◌}
 use lib.ListN.{get_or}
-use lib.Dec.{T, eqb, ltb, leb, eqb→eq, ltb→lt}
+use lib.Dec.{T, eqb, ltb, eqb→eq, ltb→lt}
 use borrow.Author.Tests.{eq-eqb, ne_eqb}
 use Rattle.words.specs.Areas.{entry_field}
 use Rattle.words.specs.Opcode.{unword}
 use Rattle.words.specs.Record.{in_place}
 use Rattle.words.specs.declared.reply.Totals.{Totals}
 use Rattle.definition.specs.Book.{has_text}
-use Rattle.definition.specs.Within.{Program, Class, Position, Slot, Read, Pool, ContextSlot, Other, class_of, all_below, where', bound_by_totals}
+use Rattle.definition.specs.Within.{Program, Class, Position, Slot, Read, Pool, ContextSlot, Other, class_of, where', bound_by_totals}
 use Rattle.definition.specs.ProgramCheck.{opcodes, is_operation}
 use Rattle.definition_laws.proofs.Tests.{first_of, second_of, below_at}
 use Rattle.program_check.specs.Instructions.{class_number, jump_by, locals_by, jump_of, locals_needed}

@@ -5,7 +5,7 @@ use native.Mathlib.Omega.{arith}
 use native.Mathlib.Decide.{ℕ_discrete}
 use native.Mathlib.Nat.{div_self, mod-lt, one-mul}
 use mathlib.Core.Path.{◌≡◌, refl, sym, ap, subst, ◌∙◌}
-use mathlib.Core.Bool.{Bool, true, false, cond, not, ◌&&◌}
+use mathlib.Core.Bool.{Bool, true, false, cond, not}
 use mathlib.Core.List.{List}
 use lib.ListN.{length, get_or, set}
 use lib.Seq.{get_or-set_same, get_or-set_other}
@@ -18,7 +18,7 @@ use Rattle.definition.specs.Within.{all_below, where'}
 use Rattle.definition_laws.proofs.Tests.{first_of, second_of, below_at}
 use Rattle.program_check.specs.Keys.{same_by, differs_from, fresh_by, keys_by, set_size, set_words, hash_of, hash_at, place_at, share_at, fresh_in, share_fresh}
 use Rattle.program_check.specs.KeySets.{has_bit, Notes, HasPlaces, Looked}
-use Rattle.program_check.proofs.Below.{true_by, false_by, holds, fails, every, where_in, where_out, below_turn, below_no, below_done, same_truth}
+use Rattle.program_check.proofs.Below.{true_by, false_by, holds, fails, every, where_in, where_out, below_turn, below_no, below_done}
 
 -- the bits of `x | y`
 or_left : (a b : ℕ) → a ≡ 1 → b < 2 → bit_or a b ≡ 1

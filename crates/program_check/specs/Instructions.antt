@@ -1,10 +1,8 @@
 -- What an instruction asks of each function that has it, as two numbers: the length that its jump needs and the locals that it needs. Also the tables by
 -- which the code knows opcodes
-use Rattle.std.specs.Prelude.{ℕ, ◌+◌, suc, Bool, true, false, cond, List, [], ◌∷◌, get_or, eqb}
-use Rattle.words.specs.Opcode.{Instruction, unword, Operation}
-use Rattle.definition.specs.Book.{has_text}
+use Rattle.std.specs.Prelude.{ℕ, ◌+◌, cond, eqb}
+use Rattle.words.specs.Opcode.{unword}
 use Rattle.definition.specs.Within.{Class, Position, Slot, Read, Pool, ContextSlot, Other, class_of}
-use Rattle.definition.specs.ProgramCheck.{opcodes}
 
 -- "every jump lands in its function or just behind it"
 abbrev pub jump_by : Class → ℕ → ℕ

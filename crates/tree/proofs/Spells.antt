@@ -16,7 +16,7 @@ use Rattle.tree.specs.At.{ExpressionsAt, VariablesAt, StatementAt, StatementsAt}
 use Rattle.tree.specs.Reading.{next, form_of, expression_by, act_of, statement_by, variable_by, expression_of, expressions_of, variables_of}
 use Rattle.tree.specs.Reading.{statement_of, statements_of}
 use Rattle.tree.proofs.Children.{headed, takes, First, first, first_if, only_one, alone, leaf, leaf_first, children_as, Children, no_child}
-use Rattle.tree.proofs.Children.{any, no_more, ◌&◌, Node, node, node_as}
+use Rattle.tree.proofs.Children.{any, no_more, ◌&◌, Node, node_as}
 
 -- what is read at a place is what stands there, it fills the record's span, and no level of it is past 64
 pub record ReadsE (w : List ℕ) (l i : ℕ) (x : Expression) : Type 0 where

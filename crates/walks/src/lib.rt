@@ -1,2 +1,2 @@
-// No code: what the proofs by hand of `emitters` and `line_writer` share.
+// No code: what the proofs by hand of `emitters` share.
 #![tactic(auto)]

@@ -1,10 +1,10 @@
 -- Opcodes, their numbers and the instruction word: reading a word gives back what was written, and a word fits 64 bits. Assumes nothing.
-use Prim.Native.Nat.{ℕ, ◌+◌, ◌*◌, ◌/◌, ◌%◌, ◌^◌, ◌<◌}
+use Prim.Native.Nat.{ℕ, ◌/◌, ◌%◌, ◌^◌, ◌<◌}
 use native.Mathlib.Omega.{arith}
 use mathlib.Core.Path.{◌≡◌, refl, sym, ap, ◌∙◌}
 use mathlib.Core.Bool.{Bool, true, false, cond}
 use mathlib.Core.List.{List, [], ◌∷◌}
-use lib.Dec.{T, ltb, eqb, lit<}
+use lib.Dec.{eqb, lit<}
 use borrow.Author.Tests.{ne_eqb, eqb-true}
 use Rattle.words.specs.Opcode.{Instruction, to_instruction, word, unword}
 use Rattle.words.specs.Codes.{number_of, opcodes, opcode_in, opcode_of, read_word}

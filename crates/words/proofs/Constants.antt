@@ -1,7 +1,7 @@
 -- Constants and the pool's words: the kind and the value of a constant are decoded to it again. A NaN stays a NaN. Assumes nothing.
-use Prim.Native.Nat.{ℕ, ◌^◌, ◌<◌}
+use Prim.Native.Nat.{◌^◌, ◌<◌}
 use mathlib.Core.Path.{◌≡◌, refl, ap}
-use mathlib.Core.Bool.{Bool, true, false}
+use mathlib.Core.Bool.{true, false}
 use lib.IntN.{ℤ}
 use lib.Dec.{T}
 use lib.Ieee as Ieee

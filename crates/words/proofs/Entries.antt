@@ -6,25 +6,11 @@ use native.Mathlib.Omega.{arith}
 use mathlib.Core.Path.{◌≡◌, refl, sym, ap, ◌∙◌}
 use mathlib.Core.Bool.{Bool, true, false, cond}
 use mathlib.Core.List.{List, [], ◌∷◌, ◌++◌, append_assoc, append-nil}
-use lib.ListN.{length, take, drop, get_or, set, replicate, length-set, get_or-eq_default, get_or-append}
-use lib.Seq.{
-  sets,
-  sets-eq,
-  paste,
-  paste-zero,
-  paste-suc,
-  length-paste,
-  take_all,
-  take-suc-set,
-  append_snoc,
-  length-take-le,
-  get_or-append-add,
-  get_or-take,
-  get_or-drop,
-}
+use lib.ListN.{length, take, drop, get_or, set, length-set, get_or-eq_default, get_or-append}
+use lib.Seq.{sets, sets-eq, paste, paste-suc, take_all, take-suc-set, append_snoc, length-take-le, get_or-append-add, get_or-take, get_or-drop}
 use lib.Dec.{leb, ltb}
 use borrow.Author.Tests.{lt-ltb, le-ltb, le-leb, lt-leb}
-use Rattle.words.specs.Areas.{entry_word, entry_field, entry_fits, set_entry, write_entry, Written, word_fits, Patched, cleared_from, entries_in, most_entries}
+use Rattle.words.specs.Areas.{entry_word, entry_field, entry_fits, set_entry, Written, word_fits, Patched, cleared_from, entries_in, most_entries}
 
 -- where entry i of a width lies: no farther than at the greatest width, and no nearer than at width 1
 pub at_most : (i width : ℕ) → width ≤ 8 → i * width ≤ i * 8

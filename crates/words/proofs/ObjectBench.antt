@@ -1,7 +1,6 @@
 -- Which constants share an entry (2026-05), by computing: one fact for each clause of the request. Assumes nothing.
-use Prim.Native.Nat.{ℕ}
 use mathlib.Core.Path.{◌≡◌, refl}
-use mathlib.Core.Bool.{Bool, true, false}
+use mathlib.Core.Bool.{true, false}
 use Rattle.words.specs.Object.{Constant, constant_of, is_shared, same_constant}
 use Rattle.words.specs.Object.{null_kind, boolean_kind, integer_kind, float_kind, text_kind, model_kind, function_kind}
 

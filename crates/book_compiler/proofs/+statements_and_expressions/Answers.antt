@@ -1,10 +1,7 @@
 -- The cycle of `compile_statement`: each member does what the definition does to what stands at its place. The measure is the unread span.
 -- A loop's invariant: whatever finishes from here finishes the whole. Assumes nothing.
-use Rattle.std.proofs.Common.{◌≡◌, ℕ, ◌+◌, ◌-◌, ◌<◌, ◌≤◌, length, sym, refl, ◌∙◌, arith, rules}
-use Rattle.compiler_laws.specs.Cells.{state_of}
+use Rattle.std.proofs.Common.{◌+◌, refl, ◌∙◌, arith}
 use Rattle.compiler_laws.proofs.Tokens.{skip_more, skip_inside}
-use Rattle.book_compiler.specs.Represents.{Memory, laid}
-use Rattle.book_compiler.specs.Members.{CompilesExpressions, CompilesList, CompilesStatements, CompilesVariables}
 use Rattle.book_compiler.proofs.ExpressionKinds as e
 use Rattle.book_compiler.proofs.Infix as i
 use Rattle.book_compiler.proofs.Ifs as f

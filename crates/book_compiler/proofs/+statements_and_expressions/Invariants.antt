@@ -1,17 +1,9 @@
 -- The cycle of `compile_statement`: each member does what the definition does to what stands at its place. The measure is the unread span.
 -- A loop's invariant: whatever finishes from here finishes the whole. Assumes nothing.
-use Rattle.std.proofs.Common.{◌≡◌, ℕ, ◌+◌, ◌-◌, ◌<◌, ◌≤◌, length, sym, refl, ◌∙◌, arith, rules}
+use Rattle.std.proofs.Common.{◌≡◌, ℕ, ◌+◌, ◌-◌, ◌<◌, length}
 use Rattle.compiler_laws.specs.Cells.{state_of}
-use Rattle.compiler_laws.proofs.Tokens.{skip_more, skip_inside}
 use Rattle.book_compiler.specs.Represents.{Memory, laid}
 use Rattle.book_compiler.specs.Members.{CompilesExpressions, CompilesList, CompilesStatements, CompilesVariables}
-use Rattle.book_compiler.proofs.ExpressionKinds as e
-use Rattle.book_compiler.proofs.Infix as i
-use Rattle.book_compiler.proofs.Ifs as f
-use Rattle.book_compiler.proofs.StatementKinds as s
-use Rattle.book_compiler.proofs.Variables as v
-use Rattle.book_compiler.proofs.BothParts.{break_acts}
-use Rattle.book_compiler.proofs.Loops.{for_meets, for_past}
 use Rattle.book_compiler.proofs.+statements_and_expressions.Given as goal
 
 abbrev pub decreases-statements::compile_for_statement : goal.decreases-statements::compile_for_statement

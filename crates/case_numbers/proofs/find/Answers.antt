@@ -1,11 +1,7 @@
 -- `find` answers the first place of its byte. The invariant: the place from here on is the place from the start on. The measure: the bytes left.
 -- Assumes nothing.
-use Prim.Native.Nat.{◌-◌}
-use mathlib.Core.Path.{◌≡◌, refl, sym, ◌∙◌}
-use lib.ListN.{length}
-use Rattle.case_numbers.specs.Places.{place_from}
+use mathlib.Core.Path.{refl, sym, ◌∙◌}
 use Rattle.case_numbers.proofs.Places as p
-use borrow.Author.Rules.{rules}
 use native.Mathlib.Omega.{arith}
 use Rattle.case_numbers.proofs.find.Goals as goal
 

@@ -1,12 +1,9 @@
 -- `find` answers the first place of its byte. The invariant: the place from here on is the place from the start on. The measure: the bytes left.
 -- Assumes nothing.
 use Prim.Native.Nat.{◌-◌}
-use mathlib.Core.Path.{◌≡◌, refl, sym, ◌∙◌}
+use mathlib.Core.Path.{◌≡◌}
 use lib.ListN.{length}
 use Rattle.case_numbers.specs.Places.{place_from}
-use Rattle.case_numbers.proofs.Places as p
-use borrow.Author.Rules.{rules}
-use native.Mathlib.Omega.{arith}
 use Rattle.case_numbers.proofs.find.Given as goal
 
 abbrev pub invariant-loop-i : goal.invariant-loop-i

@@ -1,12 +1,9 @@
 -- `parse` reads the numbers of its text. The invariant: the numbers to come give the answer and the words of the whole text. The measure: the bytes left.
 -- Assumes nothing.
-use Prim.Native.Nat.{◌≤◌, ◌-◌}
-use mathlib.Core.Path.{sym, ◌∙◌}
-use lib.ListN.{length, drop, get_or}
+use Prim.Native.Nat.{◌-◌}
+use lib.ListN.{length, drop}
 use Rattle.case_numbers.specs.Numbers.{numbers_from}
 use Rattle.case_numbers.proofs.Progress as p
-use borrow.Author.Rules.{rules}
-use native.Mathlib.Omega.{arith}
 use Rattle.case_numbers.proofs.parse.Given as goal
 
 abbrev pub invariant-loop-i : goal.invariant-loop-i

@@ -1,11 +1,8 @@
 -- `same` answers whether its texts are the same. The invariant: they are if they are from here on. The measure: the bytes left. Assumes nothing.
 use Prim.Native.Nat.{◌≤◌, ◌-◌}
-use mathlib.Core.Path.{◌≡◌, refl, sym, ◌∙◌}
+use mathlib.Core.Path.{◌≡◌}
 use lib.ListN.{length, drop}
 use Rattle.case_numbers.specs.Texts.{is_same}
-use Rattle.case_numbers.proofs.Texts as p
-use borrow.Author.Rules.{rules}
-use native.Mathlib.Omega.{arith}
 use Rattle.case_numbers.proofs.same.Given as goal
 
 abbrev pub invariant-loop-i : goal.invariant-loop-i

@@ -1,6 +1,5 @@
 -- `check` meets its contract: the first area that fails, in their order. Assumes nothing.
 use Rattle.program_check.proofs.WholeTests.{fault_1, fault_2, fault_3, fault_4, fault_5, fault_6, fault_7, fault_8, fault_9, fault_10, fault_12, fault_none}
-use borrow.Author.Rules.{rules}
 use native.Mathlib.Omega.{arith}
 use mathlib.Core.Path.{ap}
 use mathlib.Core.Bool.{not}

@@ -1,6 +1,5 @@
 -- `program_check::count_too` meets its contract: what the areas answer comes first, then a count that is too small or too great. Assumes nothing.
 use Rattle.program_check.proofs.OneMemory.{areas_refused, count_small, count_great, count_fine}
-use borrow.Author.Rules.{rules}
 use Rattle.program_check.proofs.count_too.Goals as goal
 
 pub returns-in-Refused : goal.returns-in-Refused

@@ -1,7 +1,6 @@
 -- `part_of` meets its contract: nothing from the end on, nothing backwards, cut at the end. Assumes nothing.
 use mathlib.Core.Path.{refl}
 use Rattle.program_check.proofs.OneMemory.{part_past, part_none, part_cut}
-use borrow.Author.Rules.{rules}
 use native.Mathlib.Omega.{arith}
 use Rattle.program_check.proofs.part_of.Goals as goal
 

@@ -1,11 +1,8 @@
 -- `inside` and `walk` meet their contracts. The invariant: what the pass gives from the entry is what it gives from here on. The measure, of the loop and
 -- of the calls: the records left; `walk` counts one more than `inside`. Assumes nothing.
-use mathlib.Core.Path.{◌≡◌, refl, sym, ◌∙◌}
-use Prim.Native.Nat.{◌≤◌, ◌-◌, ◌+◌, ◌*◌, ℕ, ◌<◌}
-use Rattle.tree.specs.Check.{walk_of}
-use Rattle.tree.specs.Children.{blamed}
+use mathlib.Core.Path.{refl, sym, ◌∙◌}
+use Prim.Native.Nat.{◌+◌}
 use Rattle.tree.proofs.Lacking.{blame_done, inside_low, inside_on, walk_fails, walk_span, walk_found, walk_past}
-use borrow.Author.Rules.{rules}
 use native.Mathlib.Omega.{arith}
 use mathlib.Core.Path.{ap}
 use mathlib.Core.Bool.{not}
@@ -53,13 +50,24 @@ walk-overflow_add-i t c =
 
 pub walk-inside-inner-requires : goal.walk-inside-inner-requires
 walk-inside-inner-requires t c = (
-  omega (arith, walk_span c.args.tree.now c.loop-i.s c.args.level c.loop-i.t c.loop-i.i c.args.end c.loop-i-test.true
-      c.slot_row-row.ensures c.rule_row-rule.ensures c.stands.ensures (ap not c.if-not-stands.false), c.loop-i.invariant.0),
+  omega (
+    arith,
+    walk_span c.args.tree.now c.loop-i.s c.args.level c.loop-i.t c.loop-i.i c.args.end c.loop-i-test.true
+        c.slot_row-row.ensures c.rule_row-rule.ensures c.stands.ensures (ap not c.if-not-stands.false),
+    c.loop-i.invariant.0,
+  ),
   (
-    omega (arith, walk_span c.args.tree.now c.loop-i.s c.args.level c.loop-i.t c.loop-i.i c.args.end c.loop-i-test.true
-      c.slot_row-row.ensures c.rule_row-rule.ensures c.stands.ensures (ap not c.if-not-stands.false)),
-    omega (arith, walk_span c.args.tree.now c.loop-i.s c.args.level c.loop-i.t c.loop-i.i c.args.end c.loop-i-test.true
-      c.slot_row-row.ensures c.rule_row-rule.ensures c.stands.ensures (ap not c.if-not-stands.false), c.requires),
+    omega (
+      arith,
+      walk_span c.args.tree.now c.loop-i.s c.args.level c.loop-i.t c.loop-i.i c.args.end c.loop-i-test.true
+          c.slot_row-row.ensures c.rule_row-rule.ensures c.stands.ensures (ap not c.if-not-stands.false),
+    ),
+    omega (
+      arith,
+      walk_span c.args.tree.now c.loop-i.s c.args.level c.loop-i.t c.loop-i.i c.args.end c.loop-i-test.true
+          c.slot_row-row.ensures c.rule_row-rule.ensures c.stands.ensures (ap not c.if-not-stands.false),
+      c.requires,
+    ),
   ),
 )
 
@@ -92,21 +100,20 @@ walk-loop-i-smaller t c =
     )
 
 pub walk-loop-i-preserved : goal.walk-loop-i-preserved
-walk-loop-i-preserved t c =
-    (
-      omega (
-        arith,
-        walk_span c.args.tree.now c.loop-i.s c.args.level c.loop-i.t c.loop-i.i c.args.end
-            c.loop-i-test.true c.slot_row-row.ensures c.rule_row-rule.ensures
-            c.stands.ensures (ap not c.if-not-stands.false),
-        c.loop-i.invariant.0,
-      ),
-      c.loop-i.invariant.1
-          ∙ walk_past c.args.tree.now c.loop-i.s c.args.level c.loop-i.t c.loop-i.i c.args.end
-          c.loop-i-test.true c.slot_row-row.ensures c.rule_row-rule.ensures
-          c.stands.ensures (ap not c.if-not-stands.false) c.this_after-met.ensures c.row_first-first.ensures c.inside-inner.ensures
-          c.args.parent c.in-Went.is c.row_after-s.ensures,
-    )
+walk-loop-i-preserved t c = (
+  omega (
+    arith,
+    walk_span c.args.tree.now c.loop-i.s c.args.level c.loop-i.t c.loop-i.i c.args.end
+        c.loop-i-test.true c.slot_row-row.ensures c.rule_row-rule.ensures
+        c.stands.ensures (ap not c.if-not-stands.false),
+    c.loop-i.invariant.0,
+  ),
+  c.loop-i.invariant.1
+      ∙ walk_past c.args.tree.now c.loop-i.s c.args.level c.loop-i.t c.loop-i.i c.args.end
+      c.loop-i-test.true c.slot_row-row.ensures c.rule_row-rule.ensures
+      c.stands.ensures (ap not c.if-not-stands.false) c.this_after-met.ensures c.row_first-first.ensures c.inside-inner.ensures
+      c.args.parent c.in-Went.is c.row_after-s.ensures,
+)
 
 pub walk-returns : goal.walk-returns
 walk-returns t c = c.settle.ensures

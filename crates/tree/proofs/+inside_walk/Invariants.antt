@@ -1,14 +1,9 @@
 -- `inside` and `walk` meet their contracts. The invariant: what the pass gives from the entry is what it gives from here on. The measure, of the loop and
 -- of the calls: the records left; `walk` counts one more than `inside`. Assumes nothing.
-use mathlib.Core.Path.{◌≡◌, refl, sym, ◌∙◌}
-use Prim.Native.Nat.{◌≤◌, ◌-◌, ◌+◌, ◌*◌, ℕ, ◌<◌}
+use mathlib.Core.Path.{◌≡◌}
+use Prim.Native.Nat.{◌≤◌, ◌-◌, ◌+◌, ◌*◌}
 use Rattle.tree.specs.Check.{walk_of}
 use Rattle.tree.specs.Children.{blamed}
-use Rattle.tree.proofs.Lacking.{blame_done, inside_low, inside_on, walk_fails, walk_span, walk_found, walk_past}
-use borrow.Author.Rules.{rules}
-use native.Mathlib.Omega.{arith}
-use mathlib.Core.Path.{ap}
-use mathlib.Core.Bool.{not}
 use Rattle.tree.proofs.+inside_walk.Given as goal
 
 abbrev pub decreases-walk : goal.decreases-walk

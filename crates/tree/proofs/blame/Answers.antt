@@ -1,7 +1,6 @@
 -- `blame` meets its contract: what is lacking decides. Assumes nothing.
 use mathlib.Core.Path.{sym, ◌∙◌}
 use Rattle.tree.proofs.Lacking.{blame_parent, blame_found}
-use borrow.Author.Rules.{rules}
 use Rattle.tree.proofs.blame.Goals as goal
 
 pub returns-then-lacks : goal.returns-then-lacks

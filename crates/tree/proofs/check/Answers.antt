@@ -3,7 +3,6 @@ use mathlib.Core.Path.{sym, ap, ◌∙◌}
 use Rattle.tree.specs.Check.{shape_by, records_of}
 use Rattle.tree.proofs.Lacking.{blame_documents}
 use Rattle.tree.proofs.Ways.{shape_length, shape_long, shape_none, shape_walked}
-use borrow.Author.Rules.{rules}
 use Rattle.tree.proofs.check.Goals as goal
 
 pub returns-then-words-ne0 : goal.returns-then-words-ne0

@@ -1,7 +1,6 @@
 -- `first_slot` meets its contract: the kind's row says it. Assumes nothing.
 use mathlib.Core.Path.{◌∙◌}
 use Rattle.tree.proofs.Tables.{first_row}
-use borrow.Author.Rules.{rules}
 use Rattle.tree.proofs.first_slot.Goals as goal
 
 pub returns : goal.returns

@@ -1,7 +1,6 @@
 -- `in_range` meets its contract: the kind's row says it. Assumes nothing.
 use mathlib.Core.Path.{◌∙◌}
 use Rattle.tree.proofs.Tables.{range_row}
-use borrow.Author.Rules.{rules}
 use Rattle.tree.proofs.in_range.Goals as goal
 
 pub returns : goal.returns

@@ -1,6 +1,5 @@
 -- `is_due` meets its contract: the slot's row says it. Assumes nothing.
 use Rattle.tree.proofs.Tables.{due_row}
-use borrow.Author.Rules.{rules}
 use Rattle.tree.proofs.is_due.Goals as goal
 
 pub returns : goal.returns

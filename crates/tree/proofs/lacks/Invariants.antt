@@ -1,15 +1,8 @@
 -- `lacks` meets its contract. The invariant: what is lacking from the entry is what is lacking from here on. The measure: the records left.
 -- Assumes nothing.
-use mathlib.Core.Path.{◌≡◌, refl, sym, ◌∙◌}
+use mathlib.Core.Path.{◌≡◌}
 use Prim.Native.Nat.{◌-◌}
 use Rattle.tree.specs.Check.{lacks_of}
-use Rattle.tree.proofs.Spans.{span_in_lem}
-use Rattle.tree.proofs.Walks.{lacks_done}
-use Rattle.tree.proofs.Ways.{lacks_out, lacks_more}
-use borrow.Author.Rules.{rules}
-use native.Mathlib.Omega.{arith}
-use mathlib.Core.Path.{ap}
-use mathlib.Core.Bool.{not}
 use Rattle.tree.proofs.lacks.Given as goal
 
 abbrev pub invariant-loop-j : goal.invariant-loop-j

@@ -1,7 +1,6 @@
 -- `may_stand` meets its contract: a bit of the slot's number says whether the kind is one of the slot's. Assumes nothing.
 use mathlib.Core.Path.{◌∙◌}
 use Rattle.tree.proofs.Tables.{hold_row}
-use borrow.Author.Rules.{rules}
 use Rattle.tree.proofs.may_stand.Goals as goal
 
 pub returns : goal.returns

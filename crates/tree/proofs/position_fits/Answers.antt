@@ -3,7 +3,6 @@ use borrow.Author.Tests.{eq-eqb, ne_eqb}
 use mathlib.Core.Path.{◌∙◌}
 use Rattle.tree.specs.Rules.{may_be_at}
 use Rattle.tree.specs.Rows.{placed_in}
-use borrow.Author.Rules.{rules}
 use Rattle.tree.proofs.position_fits.Goals as goal
 
 pub returns-then-row-eq1 : goal.returns-then-row-eq1

@@ -1,6 +1,5 @@
 -- `row_after` meets its contract: parameters go on, else the slot's row says. Assumes nothing.
 use Rattle.tree.proofs.Tables.{after_same, after_next}
-use borrow.Author.Rules.{rules}
 use Rattle.tree.proofs.row_after.Goals as goal
 
 pub returns-then-goes_on : goal.returns-then-goes_on

@@ -1,7 +1,6 @@
 -- `row_holds` meets its contract: each way through its test computes. Assumes nothing.
 use borrow.Author.Tests.{lt-ltb, le-ltb}
 use Rattle.tree.specs.Rows.{holds_in}
-use borrow.Author.Rules.{rules}
 use Rattle.tree.proofs.row_holds.Goals as goal
 
 pub returns-then-kind-lt50 : goal.returns-then-kind-lt50

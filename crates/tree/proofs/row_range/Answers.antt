@@ -1,6 +1,5 @@
 -- `row_range` meets its contract: each way through its three tests computes. Assumes nothing.
 use Rattle.tree.proofs.Tables.{range_off, range_low, range_most}
-use borrow.Author.Rules.{rules}
 use mathlib.Core.Path.{ap}
 use mathlib.Core.Bool.{not}
 use Rattle.tree.proofs.row_range.Goals as goal

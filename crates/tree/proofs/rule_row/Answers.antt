@@ -1,7 +1,6 @@
 -- `rule_row` gives the row at a number by its key, and 0 where no key is: each row is that of the table. Assumes nothing.
 use mathlib.Core.Path.{sym, ap}
 use Rattle.tree.proofs.Tables.{rule_at, no_rule}
-use borrow.Author.Rules.{rules}
 use Rattle.tree.proofs.rule_row.Goals as goal
 
 pub returns-in-1 : goal.returns-in-1

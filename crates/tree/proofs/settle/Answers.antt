@@ -1,7 +1,6 @@
 -- `settle` meets its contract: each way through its test computes. Assumes nothing.
-use mathlib.Core.Path.{◌≡◌, sym, ◌∙◌}
+use mathlib.Core.Path.{sym, ◌∙◌}
 use Rattle.tree.proofs.Lacking.{settle_due, settle_went}
-use borrow.Author.Rules.{rules}
 use Rattle.tree.proofs.settle.Goals as goal
 
 pub returns-then-is_due : goal.returns-then-is_due

@@ -1,7 +1,6 @@
 -- `slot_row` gives the row at a number by its key, and 0 where no key is: each row is that of the table. Assumes nothing.
 use mathlib.Core.Path.{sym, ap}
 use Rattle.tree.proofs.Tables.{slot_at, no_slot}
-use borrow.Author.Rules.{rules}
 use Rattle.tree.proofs.slot_row.Goals as goal
 
 pub returns-in-1 : goal.returns-in-1

@@ -1,6 +1,5 @@
 -- `stands` meets its contract: each way through its tests computes. Assumes nothing.
 use Rattle.tree.proofs.Lacking.{and_none, and_some}
-use borrow.Author.Rules.{rules}
 use mathlib.Core.Path.{ap}
 use mathlib.Core.Bool.{not}
 use Rattle.tree.proofs.stands.Goals as goal

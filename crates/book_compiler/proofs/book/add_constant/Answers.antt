@@ -1,5 +1,4 @@
 -- `book_compiler::book::add_constant` meets its contract: the constant is that of a function that begins. Assumes nothing.
-use Rattle.std.proofs.Common.{◌∙◌, rules}
 use Rattle.compiler_laws.proofs.StateWords.{stored}
 use Rattle.book_compiler.proofs.BookLeaves.{adds_constant}
 use Rattle.book_compiler.proofs.book.add_constant.Goals as goal

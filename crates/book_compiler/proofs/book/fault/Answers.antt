@@ -1,6 +1,5 @@
 -- `book_compiler::book::fault` meets its contract: the token is the record's. Assumes nothing.
 use Rattle.compiler_laws.proofs.ConstantLeaves.{fault_words}
-use Rattle.std.proofs.Common.{rules}
 use Rattle.book_compiler.proofs.book.fault.Goals as goal
 
 pub returns : goal.returns

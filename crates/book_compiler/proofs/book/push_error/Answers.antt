@@ -1,5 +1,5 @@
 -- `book_compiler::book::push_error` meets its contract: it lends part 11. Assumes nothing.
-use Rattle.std.proofs.Common.{refl, ap, arith, rules}
+use Rattle.std.proofs.Common.{refl, ap, arith}
 use Rattle.compiler_laws.specs.declared.book.Book.{Book}
 use Rattle.memory.specs.Layout.{part, with_part}
 use Rattle.book_compiler.proofs.BookParts.{area_part, area_wide, area_back}

@@ -1,7 +1,6 @@
 -- `book_compiler::cells::add_constant_no_check` meets its contract: two words are new. Assumes nothing.
 use Rattle.compiler_laws.specs.Cells.{state_of}
 use Rattle.book_compiler.proofs.SlotSteps.{no_check_words}
-use Rattle.std.proofs.Common.{rules}
 use Rattle.book_compiler.proofs.cells.add_constant_no_check.Goals as goal
 
 pub returns : goal.returns

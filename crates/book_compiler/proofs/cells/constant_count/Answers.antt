@@ -1,5 +1,5 @@
 -- `book_compiler::cells::constant_count` meets its contract: of the state as loaded. Assumes nothing.
-use Rattle.std.proofs.Common.{ap, rules}
+use Rattle.std.proofs.Common.{ap}
 use Rattle.building.specs.declared.function_state.FunctionState.{FunctionState}
 use Rattle.book_compiler.proofs.cells.constant_count.Goals as goal
 

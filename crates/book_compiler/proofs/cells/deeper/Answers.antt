@@ -1,5 +1,5 @@
 -- `book_compiler::cells::deeper` meets its contract: one word is new. Assumes nothing.
-use Rattle.std.proofs.Common.{◌+◌, min, ap, ◌∙◌, rules}
+use Rattle.std.proofs.Common.{◌+◌, min, ap, ◌∙◌}
 use Rattle.building.specs.State.{with_depth, most_depth}
 use Rattle.building.specs.declared.function_state.FunctionState.{FunctionState}
 use Rattle.compiler_laws.specs.Cells.{state_of}

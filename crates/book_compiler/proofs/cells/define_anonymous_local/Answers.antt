@@ -1,6 +1,5 @@
 -- `book_compiler::cells::define_anonymous_local` meets its contract: the state is loaded and stored. Assumes nothing.
 use Rattle.compiler_laws.proofs.StateWords.{stored}
-use Rattle.std.proofs.Common.{rules}
 use Rattle.book_compiler.proofs.cells.define_anonymous_local.Goals as goal
 
 pub returns : goal.returns

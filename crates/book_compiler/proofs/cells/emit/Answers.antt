@@ -3,7 +3,6 @@ use Rattle.words.specs.Codes.{code_word}
 use Rattle.building.specs.Emission.{coded, emit_c}
 use Rattle.compiler_laws.specs.Cells.{state_of}
 use Rattle.compiler_laws.proofs.StateWords.{kept_code, emit_keeps}
-use Rattle.std.proofs.Common.{rules}
 use Rattle.book_compiler.proofs.cells.emit.Goals as goal
 
 pub returns : goal.returns

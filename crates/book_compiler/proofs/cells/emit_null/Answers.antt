@@ -4,7 +4,6 @@ use Rattle.words.specs.Opcode.{word, to_instruction, PushConstant}
 use Rattle.building.specs.Emission.{coded, last_position_c, emit_null_c}
 use Rattle.compiler_laws.specs.Cells.{state_of}
 use Rattle.compiler_laws.proofs.StateWords.{kept_code, emit_keeps}
-use Rattle.std.proofs.Common.{rules}
 use Rattle.book_compiler.proofs.cells.emit_null.Goals as goal
 
 pub returns : goal.returns

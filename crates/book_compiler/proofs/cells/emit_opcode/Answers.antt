@@ -1,5 +1,4 @@
 -- `book_compiler::cells::emit_opcode` meets its contract: by `emit`. Assumes nothing.
-use Rattle.std.proofs.Common.{rules}
 use Rattle.book_compiler.proofs.cells.emit_opcode.Goals as goal
 
 pub returns : goal.returns

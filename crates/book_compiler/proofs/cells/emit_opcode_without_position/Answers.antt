@@ -1,5 +1,4 @@
 -- `book_compiler::cells::emit_opcode_without_position` meets its contract: by `emit_opcode`. Assumes nothing.
-use Rattle.std.proofs.Common.{rules}
 use Rattle.book_compiler.proofs.cells.emit_opcode_without_position.Goals as goal
 
 pub returns : goal.returns

@@ -2,7 +2,6 @@
 use Rattle.building.specs.Emission.{coded, emit_return_c}
 use Rattle.compiler_laws.specs.Cells.{state_of}
 use Rattle.compiler_laws.proofs.StateWords.{kept_code, return_keeps}
-use Rattle.std.proofs.Common.{rules}
 use Rattle.book_compiler.proofs.cells.emit_return.Goals as goal
 
 pub returns : goal.returns

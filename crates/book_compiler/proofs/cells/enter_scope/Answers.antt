@@ -1,5 +1,5 @@
 -- `book_compiler::cells::enter_scope` meets its contract: two words are new. Assumes nothing.
-use Rattle.std.proofs.Common.{ap, ◌∙◌, rules}
+use Rattle.std.proofs.Common.{ap, ◌∙◌}
 use Rattle.building.specs.State.{with_scope}
 use Rattle.building.specs.declared.function_state.FunctionState.{FunctionState}
 use Rattle.compiler_laws.specs.Cells.{state_of}

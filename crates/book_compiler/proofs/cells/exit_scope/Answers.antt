@@ -1,7 +1,6 @@
 -- `book_compiler::cells::exit_scope` meets its contract: two words are new. Assumes nothing.
 use Rattle.compiler_laws.specs.Cells.{state_of}
 use Rattle.compiler_laws.proofs.StateWords.{kept_scope}
-use Rattle.std.proofs.Common.{rules}
 use Rattle.book_compiler.proofs.cells.exit_scope.Goals as goal
 
 pub returns : goal.returns

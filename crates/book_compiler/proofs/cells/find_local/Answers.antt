@@ -1,5 +1,4 @@
 -- `book_compiler::cells::find_local` meets its contract: of the state as loaded. Assumes nothing.
-use Rattle.std.proofs.Common.{rules}
 use Rattle.book_compiler.proofs.cells.find_local.Goals as goal
 
 pub returns : goal.returns

@@ -1,5 +1,4 @@
 -- `book_compiler::cells::get_last_position` meets its contract: of the state as loaded. Assumes nothing.
-use Rattle.std.proofs.Common.{rules}
 use Rattle.book_compiler.proofs.cells.get_last_position.Goals as goal
 
 pub returns : goal.returns

@@ -1,5 +1,4 @@
 -- `book_compiler::cells::get_next_instruction_index` meets its contract: of the state as loaded. Assumes nothing.
-use Rattle.std.proofs.Common.{rules}
 use Rattle.book_compiler.proofs.cells.get_next_instruction_index.Goals as goal
 
 pub returns : goal.returns

@@ -1,5 +1,4 @@
 -- `book_compiler::cells::give_up_breaks` meets its contract. Assumes nothing.
-use Rattle.std.proofs.Common.{rules}
 use Rattle.book_compiler.proofs.cells.give_up_breaks.Goals as goal
 
 pub returns : goal.returns

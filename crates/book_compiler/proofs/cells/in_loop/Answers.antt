@@ -1,5 +1,5 @@
 -- `book_compiler::cells::in_loop` meets its contract. Assumes nothing.
-use Rattle.std.proofs.Common.{ap, rules}
+use Rattle.std.proofs.Common.{ap}
 use Rattle.building.specs.declared.function_state.FunctionState.{FunctionState}
 use Rattle.book_compiler.proofs.cells.in_loop.Goals as goal
 

@@ -1,5 +1,5 @@
 -- `book_compiler::cells::leave_break_scope` meets its contract: by which count is less. Assumes nothing.
-use Rattle.std.proofs.Common.{◌∙◌, rules}
+use Rattle.std.proofs.Common.{◌∙◌}
 use Rattle.compiler_laws.proofs.StateWords.{stored}
 use Rattle.book_compiler.proofs.Breaks.{left_few, left_none}
 use Rattle.book_compiler.proofs.cells.leave_break_scope.Goals as goal

@@ -1,5 +1,5 @@
 -- `book_compiler::cells::mark_global` meets its contract: a mark that is set stays; else of the state as loaded. Assumes nothing.
-use Rattle.std.proofs.Common.{sym, ◌∙◌, rules, eq-eqb, ne_eqb}
+use Rattle.std.proofs.Common.{sym, ◌∙◌, eq-eqb, ne_eqb}
 use Rattle.words.specs.Areas.{entry_field}
 use Rattle.building.specs.Pool.{mark_global_c}
 use Rattle.book_compiler.proofs.cells.mark_global.Goals as goal

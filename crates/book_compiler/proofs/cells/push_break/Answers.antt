@@ -1,7 +1,6 @@
 -- `book_compiler::cells::push_break` meets its contract: an entry more. Assumes nothing.
 use Rattle.compiler_laws.proofs.StateWords.{stored}
 use Rattle.book_compiler.proofs.Breaks.{pushed}
-use Rattle.std.proofs.Common.{rules}
 use Rattle.book_compiler.proofs.cells.push_break.Goals as goal
 
 pub returns : goal.returns

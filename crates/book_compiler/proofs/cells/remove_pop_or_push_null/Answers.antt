@@ -2,7 +2,6 @@
 use Rattle.building.specs.Emission.{coded, remove_pop_c}
 use Rattle.compiler_laws.specs.Cells.{state_of}
 use Rattle.compiler_laws.proofs.StateWords.{kept_code, remove_keeps}
-use Rattle.std.proofs.Common.{rules}
 use Rattle.book_compiler.proofs.cells.remove_pop_or_push_null.Goals as goal
 
 pub returns : goal.returns

@@ -1,6 +1,5 @@
 -- `book_compiler::cells::store` meets its contract: field by field. Assumes nothing.
 use Rattle.compiler_laws.proofs.StateWords.{words_are}
-use Rattle.std.proofs.Common.{rules}
 use Rattle.book_compiler.proofs.cells.store.Goals as goal
 
 pub returns : goal.returns

@@ -1,5 +1,5 @@
 -- `book_compiler::cells::with_depth` meets its contract: one word is new. Assumes nothing.
-use Rattle.std.proofs.Common.{ap, ◌∙◌, rules}
+use Rattle.std.proofs.Common.{ap, ◌∙◌}
 use Rattle.building.specs.State.{with_depth}
 use Rattle.building.specs.declared.function_state.FunctionState.{FunctionState}
 use Rattle.compiler_laws.specs.Cells.{state_of}

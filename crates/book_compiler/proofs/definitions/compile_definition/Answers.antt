@@ -1,6 +1,5 @@
 -- `book_compiler::definitions::compile_definition` meets its contract: a way for each kind. Assumes nothing.
 use Rattle.book_compiler.proofs.DocumentDefinitions.{definition_local, definition_include, definition_model, definition_public_model, definition_function, definition_public_function, definition_implement, definition_apply}
-use Rattle.std.proofs.Common.{rules}
 use Rattle.book_compiler.proofs.definitions.compile_definition.Goals as goal
 
 pub returns-then-kind-eq-LOCAL_DEFINITION : goal.returns-then-kind-eq-LOCAL_DEFINITION

@@ -1,8 +1,7 @@
 -- `book_compiler::definitions::compile_definitions` meets its contract. The invariant: what finishes from here finishes the whole. Assumes nothing.
-use Rattle.book_compiler.specs.RepresentsBook.{BookMemory, book_laid, CompilesDefinitions}
 use Rattle.book_compiler.proofs.DocumentDefinitions.{definitions_end, definitions_more}
 use Rattle.compiler_laws.proofs.Tokens.{skip_more}
-use Rattle.std.proofs.Common.{◌≡◌, ◌-◌, length, refl, arith, rules}
+use Rattle.std.proofs.Common.{refl, arith}
 use Rattle.book_compiler.proofs.definitions.compile_definitions.Goals as goal
 
 pub loop-i-init : goal.loop-i-init
@@ -18,12 +17,11 @@ loop-i-smaller c =
     )
 
 pub loop-i-preserved : goal.loop-i-preserved
-loop-i-preserved c =
-    (
-      omega (arith, c.compile_definition-b.auto.memory, c.loop-i.invariant.0),
-      λ m h. c.loop-i.invariant.1 m (definitions_more c.loop-i-test.true c.skip-next.ensures
-          c.compile_definition-b.ensures h),
-    )
+loop-i-preserved c = (
+  omega (arith, c.compile_definition-b.auto.memory, c.loop-i.invariant.0),
+  λ m h. c.loop-i.invariant.1 m (definitions_more c.loop-i-test.true c.skip-next.ensures
+      c.compile_definition-b.ensures h),
+)
 
 pub shape_of-memory : goal.shape_of-memory
 shape_of-memory c = c.loop-i.invariant.0

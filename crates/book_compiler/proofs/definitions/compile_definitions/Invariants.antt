@@ -1,8 +1,6 @@
 -- `book_compiler::definitions::compile_definitions` meets its contract. The invariant: what finishes from here finishes the whole. Assumes nothing.
 use Rattle.book_compiler.specs.RepresentsBook.{BookMemory, book_laid, CompilesDefinitions}
-use Rattle.book_compiler.proofs.DocumentDefinitions.{definitions_end, definitions_more}
-use Rattle.compiler_laws.proofs.Tokens.{skip_more}
-use Rattle.std.proofs.Common.{◌≡◌, ◌-◌, length, refl, arith, rules}
+use Rattle.std.proofs.Common.{◌≡◌, ◌-◌, length}
 use Rattle.book_compiler.proofs.definitions.compile_definitions.Given as goal
 
 abbrev pub invariant-loop-i : goal.invariant-loop-i

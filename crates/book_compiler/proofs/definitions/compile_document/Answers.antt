@@ -1,6 +1,5 @@
 -- `book_compiler::definitions::compile_document` meets its contract. Assumes nothing.
 use Rattle.book_compiler.proofs.DocumentDefinitions.{document_compiled, document_past}
-use Rattle.std.proofs.Common.{rules}
 use Rattle.book_compiler.proofs.definitions.compile_document.Goals as goal
 
 pub returns-then-end-at : goal.returns-then-end-at

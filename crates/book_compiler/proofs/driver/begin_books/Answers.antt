@@ -1,7 +1,7 @@
 -- `book_compiler::driver::begin_books` meets its contract: it lends part 12. Assumes nothing.
 use Rattle.memory.specs.Layout.{part, with_part}
 use Rattle.book_compiler.proofs.LentParts.{part_lent, part_wide, part_back}
-use Rattle.std.proofs.Common.{arith, rules}
+use Rattle.std.proofs.Common.{arith}
 use Rattle.book_compiler.proofs.driver.begin_books.Goals as goal
 
 pub take_books-requires : goal.take_books-requires

@@ -1,6 +1,6 @@
 -- `book_compiler::driver::check_bundle` meets its contract: a row of the shape's, a book twice, a book missing, and none. Assumes nothing.
 use Rattle.compiler_laws.proofs.RowsBeforeWork.{front_shape, front_twice, front_missing, front_ready}
-use Rattle.std.proofs.Common.{ℕ, length, replicate, refl, ap, ◌∙◌, arith, rules}
+use Rattle.std.proofs.Common.{ℕ, length, replicate, refl, ap, ◌∙◌, arith}
 use native.Mathlib.Nat.{sub-zero}
 use Rattle.book_compiler.proofs.driver.check_bundle.Goals as goal
 

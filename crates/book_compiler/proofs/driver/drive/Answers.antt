@@ -1,9 +1,7 @@
 -- `book_compiler::driver::drive` meets its contract. The invariant: what finishes from here finishes the whole. Assumes nothing.
 use Rattle.compiler_laws.proofs.DefinitionKinds.{unchanged_definition}
 use Rattle.book_compiler.proofs.BookRounds.{drive_end, drive_ring, round_full, round_faulty, round_more}
-use Rattle.book_compiler.specs.RepresentsBook.{BookMemory, book_laid}
-use Rattle.book_compiler.specs.BookOrder.{Drives}
-use Rattle.std.proofs.Common.{◌≡◌, ℕ, ◌-◌, length, refl, ◌∙◌, arith, rules}
+use Rattle.std.proofs.Common.{refl, ◌∙◌, arith}
 use Rattle.book_compiler.proofs.driver.drive.Goals as goal
 
 pub loop-done-init : goal.loop-done-init
@@ -58,15 +56,14 @@ loop-done-smaller c =
     omega (arith, c.loop-done-test.true)
 
 pub loop-done-preserved : goal.loop-done-preserved
-loop-done-preserved c =
-    (
-      c.if-b-ne0.false,
-      c.compile_document-b.auto.memory ∙ c.next_book-next.auto.memory ∙ c.loop-done.invariant.1,
-      c.add.auto.set ∙ c.loop-done.invariant.2,
-      λ m' row place h. c.loop-done.invariant.3 m' row place
-          (round_more c.next_book-next.ensures c.if-count-next.false c.skip-last.ensures c.compile_document-b.ensures unchanged_definition c.if-b-ne0.false
-          c.if-b-ne0-2.false c.add.ensures.words h),
-    )
+loop-done-preserved c = (
+  c.if-b-ne0.false,
+  c.compile_document-b.auto.memory ∙ c.next_book-next.auto.memory ∙ c.loop-done.invariant.1,
+  c.add.auto.set ∙ c.loop-done.invariant.2,
+  λ m' row place h. c.loop-done.invariant.3 m' row place
+      (round_more c.next_book-next.ensures c.if-count-next.false c.skip-last.ensures c.compile_document-b.ensures unchanged_definition c.if-b-ne0.false
+      c.if-b-ne0-2.false c.add.ensures.words h),
+)
 
 pub shape_of-memory : goal.shape_of-memory
 shape_of-memory c = c.loop-done.invariant.1

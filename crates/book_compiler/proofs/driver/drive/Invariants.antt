@@ -1,9 +1,7 @@
 -- `book_compiler::driver::drive` meets its contract. The invariant: what finishes from here finishes the whole. Assumes nothing.
-use Rattle.compiler_laws.proofs.DefinitionKinds.{unchanged_definition}
-use Rattle.book_compiler.proofs.BookRounds.{drive_end, drive_ring, round_full, round_faulty, round_more}
 use Rattle.book_compiler.specs.RepresentsBook.{BookMemory, book_laid}
 use Rattle.book_compiler.specs.BookOrder.{Drives}
-use Rattle.std.proofs.Common.{◌≡◌, ℕ, ◌-◌, length, refl, ◌∙◌, arith, rules}
+use Rattle.std.proofs.Common.{◌≡◌, ℕ, ◌-◌, length}
 use Rattle.book_compiler.proofs.driver.drive.Given as goal
 
 abbrev pub invariant-loop-done : goal.invariant-loop-done

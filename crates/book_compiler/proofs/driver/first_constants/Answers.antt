@@ -1,7 +1,6 @@
 -- `book_compiler::driver::first_constants` meets its contract. Assumes nothing.
 use Rattle.compiler_laws.proofs.CallBeginning.{first_constants}
 use Rattle.book_compiler.proofs.BookBeginning.{took_plain}
-use Rattle.std.proofs.Common.{rules}
 use Rattle.book_compiler.proofs.driver.first_constants.Goals as goal
 
 pub returns : goal.returns

@@ -1,5 +1,5 @@
 -- `book_compiler::driver::run` meets its contract: with sets of 64 words where the bundle's numbers are below 4096, else with sets of 16,384. Assumes nothing.
-use Rattle.std.proofs.Common.{◌≡◌, ◌/◌, Bool, length, subst, rules}
+use Rattle.std.proofs.Common.{◌/◌, Bool, length, subst}
 use Rattle.compiler_laws.specs.SolverSteps.{Narrows}
 use Rattle.book_compiler.proofs.driver.run.Goals as goal
 

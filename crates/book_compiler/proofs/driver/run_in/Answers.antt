@@ -1,7 +1,7 @@
 -- `book_compiler::driver::run_in` meets its contract: refused before the work, or the work and its end. Assumes nothing.
 use Rattle.book_compiler.proofs.BookEnding.{run_refused, run_worked}
 use Rattle.compiler_laws.proofs.BooksNeeded.{set_empty}
-use Rattle.std.proofs.Common.{ℕ, [], length, replicate, sym, ap, ◌∙◌, rules}
+use Rattle.std.proofs.Common.{ℕ, [], length, replicate, sym, ap, ◌∙◌}
 use native.Mathlib.Nat.{sub-zero}
 use Rattle.book_compiler.proofs.driver.run_in.Goals as goal
 

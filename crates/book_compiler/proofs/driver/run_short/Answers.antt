@@ -1,5 +1,5 @@
 -- `book_compiler::driver::run_short` meets its contract. Assumes nothing.
-use Rattle.std.proofs.Common.{refl, rules}
+use Rattle.std.proofs.Common.{refl}
 use Rattle.compiler_laws.proofs.RowsBeforeWork.{fresh_zeros}
 use Rattle.book_compiler.proofs.driver.run_short.Goals as goal
 

@@ -1,6 +1,6 @@
 -- `book_compiler::driver::work` meets its contract: the first constants and their slots, then the books. Assumes nothing.
 use Rattle.book_compiler.proofs.BookBeginning.{work_fresh}
-use Rattle.std.proofs.Common.{◌∙◌, rules}
+use Rattle.std.proofs.Common.{◌∙◌}
 use Rattle.book_compiler.proofs.driver.work.Goals as goal
 
 pub shape_of-memory : goal.shape_of-memory

@@ -1,8 +1,7 @@
 -- `book_compiler::ending::clear_but_errors` meets its contract. The invariant: the parts so far are zeros, but for the errors. Assumes nothing.
 use Rattle.words.specs.Areas.{cleared_from}
-use Rattle.book_compiler.proofs.PartsInTurn.{ChangedUpTo, change_start, change_more}
-use Rattle.book_compiler.proofs.BookEnding.{clear_end}
-use Rattle.std.proofs.Common.{◌≡◌, ◌-◌, length, refl, ◌∙◌, arith}
+use Rattle.book_compiler.proofs.PartsInTurn.{ChangedUpTo}
+use Rattle.std.proofs.Common.{◌≡◌, ◌-◌, length}
 use Rattle.book_compiler.proofs.ending.clear_but_errors.Given as goal
 
 abbrev pub invariant-loop-i : goal.invariant-loop-i

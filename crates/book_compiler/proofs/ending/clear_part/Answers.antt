@@ -1,5 +1,5 @@
 -- `book_compiler::ending::clear_part` meets its contract: it lends part i, unless that is the errors'. Assumes nothing.
-use Rattle.std.proofs.Common.{refl, rules}
+use Rattle.std.proofs.Common.{refl}
 use Rattle.book_compiler.proofs.PartsInTurn.{errors_stay, lent_at, wide_at, back_at, no_part}
 use Rattle.book_compiler.proofs.ending.clear_part.Goals as goal
 

@@ -1,7 +1,7 @@
 -- `book_compiler::ending::count_global_dependencies` meets its contract: it lends part 2. Assumes nothing.
 use Rattle.memory.specs.Layout.{part}
 use Rattle.book_compiler.proofs.LentParts.{read_wide, read_back}
-use Rattle.std.proofs.Common.{arith, rules}
+use Rattle.std.proofs.Common.{arith}
 use Rattle.book_compiler.proofs.ending.count_global_dependencies.Goals as goal
 
 pub returns-then-end-memory : goal.returns-then-end-memory

@@ -1,9 +1,7 @@
 -- `book_compiler::ending::count_marked` meets its contract. The invariant: what is counted from here is counted from the start. Assumes nothing.
 use Rattle.compiler_laws.proofs.CallEnd.{marked_end, mark_small}
-use Rattle.undo.specs.Notes.{plain_marks}
 use Rattle.book_compiler.proofs.BookEnding.{marked_one}
-use Rattle.compiler_laws.specs.BooksInOrder.{MarkedFrom}
-use Rattle.std.proofs.Common.{ℕ, ◌-◌, ◌≤◌, arith, rules}
+use Rattle.std.proofs.Common.{arith}
 use Rattle.book_compiler.proofs.ending.count_marked.Goals as goal
 
 pub loop-i-init : goal.loop-i-init

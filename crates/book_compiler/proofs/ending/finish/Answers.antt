@@ -1,6 +1,5 @@
 -- `book_compiler::ending::finish` meets its contract: an area too short, errors, and a delivery. Assumes nothing.
 use Rattle.book_compiler.proofs.BookEnding.{finish_full, finish_row, finish_whole}
-use Rattle.std.proofs.Common.{refl, ◌∙◌, rules}
 use Rattle.book_compiler.proofs.ending.finish.Goals as goal
 
 pub shape_of-memory-then-full-ne0 : goal.shape_of-memory-then-full-ne0

@@ -1,7 +1,6 @@
 -- `book_compiler::ending::refused_by` meets its contract. Assumes nothing.
 use Rattle.words.specs.Reply.{no_totals}
 use Rattle.compiler_laws.proofs.CallEnd.{refused_full, refused_name}
-use Rattle.std.proofs.Common.{rules}
 use Rattle.book_compiler.proofs.ending.refused_by.Goals as goal
 
 pub returns-then-full-lt-FIRST_NOT_PUBLIC : goal.returns-then-full-lt-FIRST_NOT_PUBLIC

@@ -1,6 +1,5 @@
 -- `book_compiler::ending::settle` meets its contract: parts 2, 6 and 13, one after the other. Assumes nothing.
 use Rattle.book_compiler.proofs.BookEnding.{settled}
-use Rattle.std.proofs.Common.{rules}
 use Rattle.book_compiler.proofs.ending.settle.Goals as goal
 
 pub returns : goal.returns

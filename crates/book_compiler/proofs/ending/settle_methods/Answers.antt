@@ -1,7 +1,7 @@
 -- `book_compiler::ending::settle_methods` meets its contract: it lends part 6. Assumes nothing.
 use Rattle.memory.specs.Layout.{part, with_part}
 use Rattle.book_compiler.proofs.LentParts.{part_lent, part_wide, part_back}
-use Rattle.std.proofs.Common.{arith, rules}
+use Rattle.std.proofs.Common.{arith}
 use Rattle.book_compiler.proofs.ending.settle_methods.Goals as goal
 
 pub returns-then-end-memory : goal.returns-then-end-memory

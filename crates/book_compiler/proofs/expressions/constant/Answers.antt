@@ -1,6 +1,5 @@
 -- `book_compiler::expressions::constant` meets its contract: the number that was answered is the definition's where nothing is full. Assumes nothing.
 use Rattle.book_compiler.proofs.Leaves.{constant_acts}
-use Rattle.std.proofs.Common.{rules}
 use Rattle.book_compiler.proofs.expressions.constant.Goals as goal
 
 pub returns : goal.returns

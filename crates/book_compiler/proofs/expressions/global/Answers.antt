@@ -1,7 +1,6 @@
 -- `book_compiler::expressions::global` meets its contract: the number that was answered is the definition's where nothing is full. Assumes nothing.
 use Rattle.words.specs.Codes.{number_of}
 use Rattle.book_compiler.proofs.Leaves.{global_acts}
-use Rattle.std.proofs.Common.{rules}
 use Rattle.book_compiler.proofs.expressions.global.Goals as goal
 
 pub returns : goal.returns

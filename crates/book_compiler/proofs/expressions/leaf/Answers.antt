@@ -1,6 +1,5 @@
 -- `book_compiler::expressions::leaf` meets its contract: a way for each kind. Assumes nothing.
 use Rattle.book_compiler.proofs.Leaves as t
-use Rattle.std.proofs.Common.{rules}
 use Rattle.book_compiler.proofs.expressions.leaf.Goals as goal
 
 pub returns-then-kind-eq-IDENTIFIER : goal.returns-then-kind-eq-IDENTIFIER

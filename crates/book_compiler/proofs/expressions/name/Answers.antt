@@ -1,7 +1,6 @@
 -- `book_compiler::expressions::name` meets its contract: with the mark set, a local, a context local, or a global. Assumes nothing.
 use Rattle.words.specs.Codes.{number_of}
 use Rattle.book_compiler.proofs.Leaves.{name_full, name_local, name_context, name_global}
-use Rattle.std.proofs.Common.{rules}
 use Rattle.book_compiler.proofs.expressions.name.Goals as goal
 
 pub returns-then-full-ne0 : goal.returns-then-full-ne0

@@ -1,5 +1,5 @@
 -- `book_compiler::expressions::standing` meets its contract. Assumes nothing.
-use Rattle.std.proofs.Common.{refl, eq-eqb, ne_eqb}
+use Rattle.std.proofs.Common.{eq-eqb, ne_eqb}
 use Rattle.book_compiler.proofs.expressions.standing.Goals as goal
 
 pub returns-then-value-eq1 : goal.returns-then-value-eq1

@@ -1,6 +1,5 @@
 -- `book_compiler::function_state::add_constant` meets its contract: a way for each outcome of its tests. Assumes nothing.
 use Rattle.book_compiler.proofs.SlotSteps.{adds_full, adds_found, adds_new, adds_plain}
-use Rattle.std.proofs.Common.{rules}
 use Rattle.book_compiler.proofs.function_state.add_constant.Goals as goal
 
 pub returns-then-full-ne0 : goal.returns-then-full-ne0

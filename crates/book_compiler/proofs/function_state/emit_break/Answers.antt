@@ -1,6 +1,5 @@
 -- `book_compiler::function_state::emit_break` meets its contract: in a loop a Jump, and an entry of area 10 for it. Assumes nothing.
 use Rattle.book_compiler.proofs.BothParts.{break_inside, break_outside}
-use Rattle.std.proofs.Common.{rules}
 use Rattle.book_compiler.proofs.function_state.emit_break.Goals as goal
 
 pub returns-then-inside : goal.returns-then-inside

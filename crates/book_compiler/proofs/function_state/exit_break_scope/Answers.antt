@@ -1,6 +1,5 @@
 -- `book_compiler::function_state::exit_break_scope` meets its contract: with the mark set nothing. Assumes nothing.
 use Rattle.book_compiler.proofs.BothParts.{exit_marked, exit_both}
-use Rattle.std.proofs.Common.{rules}
 use Rattle.book_compiler.proofs.function_state.exit_break_scope.Goals as goal
 
 pub returns-then-full-ne0 : goal.returns-then-full-ne0

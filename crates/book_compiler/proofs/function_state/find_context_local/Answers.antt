@@ -1,7 +1,7 @@
 -- `book_compiler::function_state::find_context_local` meets its contract: it lends part 7. Assumes nothing.
 use Rattle.memory.specs.Layout.{part}
 use Rattle.book_compiler.proofs.Parts.{reads_wide, reads_back}
-use Rattle.std.proofs.Common.{arith, rules}
+use Rattle.std.proofs.Common.{arith}
 use Rattle.book_compiler.proofs.function_state.find_context_local.Goals as goal
 
 pub returns-then-end-memory : goal.returns-then-end-memory

@@ -1,12 +1,11 @@
 -- `book_compiler::function_state::patch_breaks` meets its contract. The invariant: what is left to patch from i is what was to patch at first. The
 -- measure is the breaks that are left. Assumes nothing.
-use Rattle.std.proofs.Common.{◌≡◌, ℕ, ◌+◌, ◌-◌, length, refl, ap, ◌∙◌, arith, rules}
+use Rattle.std.proofs.Common.{◌≡◌, ◌-◌, length}
 use Rattle.memory.specs.Layout.{Fits}
 use Rattle.words.specs.Codes.{code_word}
-use Rattle.words.specs.Opcode.{to_instruction, word, Jump}
 use Rattle.compiler_laws.specs.Cells.{state_of}
 use Rattle.book_compiler.specs.Represents.{laid}
-use Rattle.book_compiler.proofs.BothParts.{Patching, patching_first, patching_more, patching_end}
+use Rattle.book_compiler.proofs.BothParts.{Patching}
 use Rattle.book_compiler.proofs.function_state.patch_breaks.Given as goal
 
 abbrev pub invariant-loop-i : goal.invariant-loop-i

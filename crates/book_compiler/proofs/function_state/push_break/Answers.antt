@@ -1,5 +1,5 @@
 -- `book_compiler::function_state::push_break` meets its contract: it lends part 10. Assumes nothing.
-use Rattle.std.proofs.Common.{refl, arith, rules}
+use Rattle.std.proofs.Common.{arith}
 use Rattle.memory.specs.Layout.{part, with_part}
 use Rattle.book_compiler.proofs.Parts.{on_part, on_wide, on_back}
 use Rattle.book_compiler.proofs.function_state.push_break.Goals as goal

@@ -1,7 +1,7 @@
 -- `book_compiler::functions::add_function` meets its contract: it lends part 3. Assumes nothing.
 use Rattle.memory.specs.Layout.{part, with_part}
 use Rattle.book_compiler.proofs.BookParts.{area_part, area_wide, area_back}
-use Rattle.std.proofs.Common.{arith, rules}
+use Rattle.std.proofs.Common.{arith}
 use Rattle.book_compiler.proofs.functions.add_function.Goals as goal
 
 pub returns-then-end-memory : goal.returns-then-end-memory

@@ -1,5 +1,5 @@
 -- `book_compiler::functions::add_plain` meets its contract: the entry point, and any other function. Assumes nothing.
-use Rattle.std.proofs.Common.{refl, ◌∙◌, rules}
+use Rattle.std.proofs.Common.{refl, ◌∙◌}
 use Rattle.book_compiler.proofs.MakingFunctions.{plain_main, plain_other}
 use Rattle.book_compiler.proofs.functions.add_plain.Goals as goal
 

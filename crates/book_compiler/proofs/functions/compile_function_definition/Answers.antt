@@ -1,5 +1,5 @@
 -- `book_compiler::functions::compile_function_definition` meets its contract: with the mark set, an instance's function, and any other. Assumes nothing.
-use Rattle.std.proofs.Common.{◌∙◌, rules}
+use Rattle.std.proofs.Common.{◌∙◌}
 use Rattle.book_compiler.proofs.FunctionDefinitions.{function_full, function_instance, function_plain}
 use Rattle.book_compiler.proofs.functions.compile_function_definition.Goals as goal
 

@@ -1,5 +1,5 @@
 -- `book_compiler::functions::compile_function_definition_base` meets its contract: the parameters, the body, the return. Assumes nothing.
-use Rattle.std.proofs.Common.{◌∙◌, arith, rules}
+use Rattle.std.proofs.Common.{◌∙◌, arith}
 use Rattle.compiler_laws.proofs.StateWords.{stored}
 use Rattle.book_compiler.proofs.Parameters.{base_past, base_meets}
 use Rattle.book_compiler.proofs.functions.compile_function_definition_base.Goals as goal

@@ -1,9 +1,6 @@
 -- `book_compiler::functions::compile_statements` meets its contract. The invariant: what finishes from here finishes the whole. Assumes nothing.
-use Rattle.std.proofs.Common.{◌≡◌, ℕ, ◌-◌, length, refl, arith, rules}
-use Rattle.compiler_laws.specs.Cells.{state_of}
+use Rattle.std.proofs.Common.{refl, arith}
 use Rattle.compiler_laws.proofs.Tokens.{skip_more}
-use Rattle.book_compiler.specs.Represents.{Memory, laid}
-use Rattle.book_compiler.specs.Members.{CompilesStatements}
 use Rattle.book_compiler.proofs.StatementKinds.{list_end, list_more}
 use Rattle.book_compiler.proofs.functions.compile_statements.Goals as goal
 
@@ -15,11 +12,10 @@ loop-i-smaller c =
     omega (arith, skip_more _ _ _ c.loop-i-test.true c.skip-next.ensures)
 
 pub loop-i-preserved : goal.loop-i-preserved
-loop-i-preserved c =
-    (
-      omega (arith, c.compile_statement.auto, c.loop-i.invariant.0),
-      λ m h. c.loop-i.invariant.1 m (list_more c.loop-i-test.true c.skip-next.ensures c.compile_statement.ensures h),
-    )
+loop-i-preserved c = (
+  omega (arith, c.compile_statement.auto, c.loop-i.invariant.0),
+  λ m h. c.loop-i.invariant.1 m (list_more c.loop-i-test.true c.skip-next.ensures c.compile_statement.ensures h),
+)
 
 pub returns : goal.returns
 returns c = c.loop-i.invariant.1 _ (list_end c.loop-i-test.false)

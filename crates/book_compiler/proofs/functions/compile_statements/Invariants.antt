@@ -1,10 +1,8 @@
 -- `book_compiler::functions::compile_statements` meets its contract. The invariant: what finishes from here finishes the whole. Assumes nothing.
-use Rattle.std.proofs.Common.{◌≡◌, ℕ, ◌-◌, length, refl, arith, rules}
+use Rattle.std.proofs.Common.{◌≡◌, ◌-◌, length}
 use Rattle.compiler_laws.specs.Cells.{state_of}
-use Rattle.compiler_laws.proofs.Tokens.{skip_more}
 use Rattle.book_compiler.specs.Represents.{Memory, laid}
 use Rattle.book_compiler.specs.Members.{CompilesStatements}
-use Rattle.book_compiler.proofs.StatementKinds.{list_end, list_more}
 use Rattle.book_compiler.proofs.functions.compile_statements.Given as goal
 
 abbrev pub invariant-loop-i : goal.invariant-loop-i

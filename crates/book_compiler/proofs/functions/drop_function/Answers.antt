@@ -1,7 +1,7 @@
 -- `book_compiler::functions::drop_function` meets its contract: it lends part 1. Assumes nothing.
 use Rattle.memory.specs.Layout.{part, with_part}
 use Rattle.book_compiler.proofs.Parts.{on_part, on_wide, on_back}
-use Rattle.std.proofs.Common.{arith, rules}
+use Rattle.std.proofs.Common.{arith}
 use Rattle.book_compiler.proofs.functions.drop_function.Goals as goal
 
 pub returns-then-end-memory : goal.returns-then-end-memory

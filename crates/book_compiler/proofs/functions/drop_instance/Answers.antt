@@ -1,5 +1,5 @@
 -- `book_compiler::functions::drop_instance` meets its contract: the code is given back, and the error pushed. Assumes nothing.
-use Rattle.std.proofs.Common.{◌∙◌, rules}
+use Rattle.std.proofs.Common.{◌∙◌}
 use Rattle.book_compiler.proofs.MakingFunctions.{drop_meets}
 use Rattle.book_compiler.proofs.functions.drop_instance.Goals as goal
 

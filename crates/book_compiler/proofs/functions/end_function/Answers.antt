@@ -1,7 +1,7 @@
 -- `book_compiler::functions::end_function` meets its contract: it lends part 9. Assumes nothing.
 use Rattle.memory.specs.Layout.{part, with_part}
 use Rattle.book_compiler.proofs.Parts.{on_part, on_wide, on_back}
-use Rattle.std.proofs.Common.{arith, rules}
+use Rattle.std.proofs.Common.{arith}
 use Rattle.book_compiler.proofs.functions.end_function.Goals as goal
 
 pub returns-then-end-memory : goal.returns-then-end-memory

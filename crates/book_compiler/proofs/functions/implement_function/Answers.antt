@@ -1,6 +1,5 @@
 -- `book_compiler::functions::implement_function` meets its contract: the function, whether an instance's or not, is added. Assumes nothing.
 use Rattle.book_compiler.proofs.ImplementDefinitions.{function_implemented}
-use Rattle.std.proofs.Common.{rules}
 use Rattle.book_compiler.proofs.functions.implement_function.Goals as goal
 
 pub returns : goal.returns

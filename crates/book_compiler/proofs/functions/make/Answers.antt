@@ -1,5 +1,5 @@
 -- `book_compiler::functions::make` meets its contract: with the mark set, and a function from its begin to its end. Assumes nothing.
-use Rattle.std.proofs.Common.{◌∙◌, rules}
+use Rattle.std.proofs.Common.{◌∙◌}
 use Rattle.compiler_laws.proofs.StateWords.{stored}
 use Rattle.book_compiler.proofs.MakingFunctions.{make_full, make_meets}
 use Rattle.book_compiler.proofs.functions.make.Goals as goal

@@ -1,5 +1,5 @@
 -- `book_compiler::functions::parameter` meets its contract: with the mark set, a new name, and one that is there. Assumes nothing.
-use Rattle.std.proofs.Common.{◌∙◌, rules}
+use Rattle.std.proofs.Common.{◌∙◌}
 use Rattle.compiler_laws.proofs.StateWords.{stored}
 use Rattle.book_compiler.proofs.Parameters.{parameter_full, parameter_new, parameter_there}
 use Rattle.book_compiler.proofs.functions.parameter.Goals as goal

@@ -1,8 +1,5 @@
 -- `book_compiler::functions::parameters` meets its contract. The invariant: what finishes from here finishes the whole. Assumes nothing.
-use Rattle.std.proofs.Common.{◌≡◌, ℕ, ◌-◌, length, refl, arith, rules}
-use Rattle.compiler_laws.specs.Cells.{state_of}
-use Rattle.book_compiler.specs.Represents.{Memory, laid}
-use Rattle.book_compiler.specs.FunctionSteps.{CompilesParameters}
+use Rattle.std.proofs.Common.{refl, arith}
 use Rattle.book_compiler.proofs.Parameters.{parameters_end, parameters_more}
 use Rattle.book_compiler.proofs.functions.parameters.Goals as goal
 
@@ -10,12 +7,11 @@ pub loop-i-init : goal.loop-i-init
 loop-i-init c = (refl, λ m h. h)
 
 pub loop-i-preserved : goal.loop-i-preserved
-loop-i-preserved c =
-    (
-      omega (arith, c.parameter.auto, c.loop-i.invariant.0),
-      λ m h. c.loop-i.invariant.1 m (parameters_more c.loop-i-test.true
-          c.parameter.ensures h),
-    )
+loop-i-preserved c = (
+  omega (arith, c.parameter.auto, c.loop-i.invariant.0),
+  λ m h. c.loop-i.invariant.1 m (parameters_more c.loop-i-test.true
+      c.parameter.ensures h),
+)
 
 pub returns : goal.returns
 returns c = c.loop-i.invariant.1 _ (parameters_end c.loop-i-test.false)

@@ -1,9 +1,8 @@
 -- `book_compiler::functions::parameters` meets its contract. The invariant: what finishes from here finishes the whole. Assumes nothing.
-use Rattle.std.proofs.Common.{◌≡◌, ℕ, ◌-◌, length, refl, arith, rules}
+use Rattle.std.proofs.Common.{◌≡◌, ◌-◌, length}
 use Rattle.compiler_laws.specs.Cells.{state_of}
 use Rattle.book_compiler.specs.Represents.{Memory, laid}
 use Rattle.book_compiler.specs.FunctionSteps.{CompilesParameters}
-use Rattle.book_compiler.proofs.Parameters.{parameters_end, parameters_more}
 use Rattle.book_compiler.proofs.functions.parameters.Given as goal
 
 abbrev pub invariant-loop-i : goal.invariant-loop-i

@@ -1,7 +1,6 @@
 -- `book_compiler::functions::parameters_end` meets its contract. The invariant: where they end from here they end from the start. Assumes nothing.
-use Rattle.compiler_laws.proofs.FunctionParameters.{ends_past, ends_here, ends_later}
 use Rattle.compiler_laws.specs.MakingFunctions.{ParametersEnd}
-use Rattle.std.proofs.Common.{ℕ, ◌-◌, sym, ◌∙◌, arith, rules}
+use Rattle.std.proofs.Common.{ℕ, ◌-◌}
 use Rattle.book_compiler.proofs.functions.parameters_end.Given as goal
 
 abbrev pub invariant-loop-i : goal.invariant-loop-i

@@ -1,5 +1,5 @@
 -- `book_compiler::grown::differs` meets its contract, order by order. Assumes nothing.
-use Rattle.std.proofs.Common.{not, sym, ap, ◌∙◌, rules}
+use Rattle.std.proofs.Common.{not, sym, ap, ◌∙◌}
 use Rattle.compiler_laws.specs.CallEnd.{differs}
 use Rattle.book_compiler.specs.declared.grown.Order as code
 use Rattle.book_compiler.specs.Orders.{order_of}

@@ -1,5 +1,5 @@
 -- `book_compiler::grown::is_stale` meets its contract, order by order. Assumes nothing.
-use Rattle.std.proofs.Common.{sym, ap, rules}
+use Rattle.std.proofs.Common.{sym, ap}
 use Rattle.definition.specs.Trial.{is_stale}
 use Rattle.book_compiler.specs.declared.grown.Order as code
 use Rattle.book_compiler.specs.Orders.{order_of}

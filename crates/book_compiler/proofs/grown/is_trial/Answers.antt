@@ -1,5 +1,5 @@
 -- `book_compiler::grown::is_trial` meets its contract, order by order. Assumes nothing.
-use Rattle.std.proofs.Common.{sym, ap, rules}
+use Rattle.std.proofs.Common.{sym, ap}
 use Rattle.compiler_laws.specs.CallEnd.{is_trial}
 use Rattle.book_compiler.specs.declared.grown.Order as code
 use Rattle.book_compiler.specs.Orders.{order_of}

@@ -1,6 +1,5 @@
 -- `book_compiler::grown::mark_refused` meets its contract. Assumes nothing.
 use Rattle.compiler_laws.proofs.CallEnd.{refused_full, refused_name}
-use Rattle.std.proofs.Common.{rules}
 use Rattle.book_compiler.proofs.grown.mark_refused.Goals as goal
 
 pub returns-then-full-lt-FIRST_NOT_PUBLIC : goal.returns-then-full-lt-FIRST_NOT_PUBLIC

@@ -1,5 +1,5 @@
 -- `book_compiler::grown::run_onto_in` meets its contract: refused before the work, or the work and its end. Assumes nothing.
-use Rattle.std.proofs.Common.{length, sym, ap, ◌∙◌, subst, rules}
+use Rattle.std.proofs.Common.{length, sym, ap, ◌∙◌, subst}
 use Rattle.compiler_laws.specs.BooksInOrder.{Zero}
 use Rattle.book_compiler.proofs.OntoEnding.{onto_row, onto_runs}
 use Rattle.book_compiler.proofs.OntoMemory.{books_held}

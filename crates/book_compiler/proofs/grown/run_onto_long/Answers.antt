@@ -1,18 +1,17 @@
 -- `book_compiler::grown::run_onto_long` meets its contract. Assumes nothing.
-use Rattle.std.proofs.Common.{refl, rules}
+use Rattle.std.proofs.Common.{refl}
 use Rattle.compiler_laws.proofs.RowsBeforeWork.{fresh_zeros}
 use Rattle.book_compiler.proofs.OntoMemory.{books_below}
 use Rattle.book_compiler.proofs.grown.run_onto_long.Goals as goal
 
 pub run_onto_in-requires : goal.run_onto_in-requires
-run_onto_in-requires c =
-    (
-      fresh_zeros c.args.tree.now 16384 (λ ds b. b.numbers),
-      refl,
-      refl,
-      refl,
-      books_below c.args.standing c.args.starts.now c.args.memory.now,
-    )
+run_onto_in-requires c = (
+  fresh_zeros c.args.tree.now 16384 (λ ds b. b.numbers),
+  refl,
+  refl,
+  refl,
+  books_below c.args.standing c.args.starts.now c.args.memory.now,
+)
 
 pub shape_of-memory : goal.shape_of-memory
 shape_of-memory c =

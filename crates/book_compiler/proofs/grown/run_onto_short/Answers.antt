@@ -1,5 +1,5 @@
 -- `book_compiler::grown::run_onto_short` meets its contract. Assumes nothing.
-use Rattle.std.proofs.Common.{refl, rules}
+use Rattle.std.proofs.Common.{refl}
 use Rattle.compiler_laws.proofs.RowsBeforeWork.{fresh_zeros}
 use Rattle.book_compiler.proofs.grown.run_onto_short.Goals as goal
 

@@ -1,7 +1,6 @@
 -- `book_compiler::implements::compile_implement_definition` meets its contract: with the mark set before or after, with no model, and with one.
 -- Assumes nothing.
 use Rattle.book_compiler.proofs.ImplementDefinitions.{implement_past, implement_full, implement_over, implement_none, implement_found}
-use Rattle.std.proofs.Common.{rules}
 use Rattle.book_compiler.proofs.implements.compile_implement_definition.Goals as goal
 
 pub returns-then-book-ne0 : goal.returns-then-book-ne0

@@ -1,9 +1,7 @@
 -- `book_compiler::implements::implement_methods` meets its contract. The invariant: what finishes from here finishes the whole. Assumes nothing.
 use Rattle.book_compiler.specs.RepresentsBook.{BookMemory, book_laid}
 use Rattle.book_compiler.specs.DefinitionSteps.{ImplementsMethods}
-use Rattle.book_compiler.proofs.ImplementDefinitions.{methods_end, methods_past, methods_more}
-use Rattle.compiler_laws.proofs.Tokens.{skip_more}
-use Rattle.std.proofs.Common.{◌≡◌, ◌-◌, length, refl, arith, rules}
+use Rattle.std.proofs.Common.{◌≡◌, ◌-◌, length}
 use Rattle.book_compiler.proofs.implements.implement_methods.Given as goal
 
 abbrev pub invariant-loop-i : goal.invariant-loop-i

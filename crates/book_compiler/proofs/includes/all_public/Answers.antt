@@ -1,7 +1,6 @@
 -- `book_compiler::includes::all_public` meets its contract. The invariant: what is answered of the pairs from here on is answered of all. Assumes nothing.
 use Rattle.compiler_laws.proofs.IncludedNames.{asks_end, asks_more, asks_lost}
-use Rattle.compiler_laws.specs.IncludeSteps.{AsksNames}
-use Rattle.std.proofs.Common.{◌+◌, ◌-◌, ◌≤◌, Bool, arith, rules}
+use Rattle.std.proofs.Common.{◌+◌, arith}
 use mathlib.Core.Option.{some}
 use borrow.Author.Tests.{not-true, not-false}
 use mathlib.Core.Path.{ap}
@@ -39,14 +38,13 @@ pub loop-i-smaller : goal.loop-i-smaller
 loop-i-smaller c = omega (arith, c.loop-i.invariant.0, c.loop-i-test.true)
 
 pub loop-i-preserved : goal.loop-i-preserved
-loop-i-preserved c =
-    (
-      omega (arith, c.loop-i.invariant.0, c.loop-i-test.true),
-      λ r h. c.loop-i.invariant.1 r (asks_more c.args.tree.now c.loop-i.i c.args.end
-          c.args.count
-          (some c.args.book) c.args.publics.now c.loop-i-test.true c.field-name.ensures
-          c.is_public.ensures (not-false c.is_public.result (ap not c.if-not-is_public.false)) h),
-    )
+loop-i-preserved c = (
+  omega (arith, c.loop-i.invariant.0, c.loop-i-test.true),
+  λ r h. c.loop-i.invariant.1 r (asks_more c.args.tree.now c.loop-i.i c.args.end
+      c.args.count
+      (some c.args.book) c.args.publics.now c.loop-i-test.true c.field-name.ensures
+      c.is_public.ensures (not-false c.is_public.result (ap not c.if-not-is_public.false)) h),
+)
 
 pub returns : goal.returns
 returns c =

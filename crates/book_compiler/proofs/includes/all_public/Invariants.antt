@@ -1,11 +1,7 @@
 -- `book_compiler::includes::all_public` meets its contract. The invariant: what is answered of the pairs from here on is answered of all. Assumes nothing.
-use Rattle.compiler_laws.proofs.IncludedNames.{asks_end, asks_more, asks_lost}
 use Rattle.compiler_laws.specs.IncludeSteps.{AsksNames}
-use Rattle.std.proofs.Common.{◌+◌, ◌-◌, ◌≤◌, Bool, arith, rules}
+use Rattle.std.proofs.Common.{◌-◌, ◌≤◌, Bool}
 use mathlib.Core.Option.{some}
-use borrow.Author.Tests.{not-true, not-false}
-use mathlib.Core.Path.{ap}
-use mathlib.Core.Bool.{not}
 use Rattle.book_compiler.proofs.includes.all_public.Given as goal
 
 abbrev pub invariant-loop-i : goal.invariant-loop-i

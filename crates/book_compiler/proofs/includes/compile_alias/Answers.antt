@@ -1,6 +1,5 @@
 -- `book_compiler::includes::compile_alias` meets its contract: a way for each outcome of its tests. Assumes nothing.
 use Rattle.book_compiler.proofs.IncludeDefinitions.{alias_full, alias_none, alias_value}
-use Rattle.std.proofs.Common.{rules}
 use Rattle.book_compiler.proofs.includes.compile_alias.Goals as goal
 
 pub returns-then-b-ne0 : goal.returns-then-b-ne0

@@ -1,10 +1,8 @@
 -- `book_compiler::includes::compile_aliases` meets its contract. The invariant: what takes the names from here on takes all of them.
 -- Assumes nothing.
-use Rattle.book_compiler.specs.RepresentsBook.{BookMemory, book_laid}
-use Rattle.book_compiler.specs.DefinitionSteps.{CompilesAliases}
 use Rattle.book_compiler.proofs.IncludeDefinitions.{aliases_end, aliases_more}
 use Rattle.words.specs.Record.{value_at}
-use Rattle.std.proofs.Common.{◌≡◌, ◌+◌, ◌-◌, ◌≤◌, length, refl, arith, rules}
+use Rattle.std.proofs.Common.{◌+◌, refl, arith}
 use Rattle.book_compiler.proofs.includes.compile_aliases.Goals as goal
 
 pub returns-then-end-at : goal.returns-then-end-at
@@ -30,17 +28,16 @@ loop-i-smaller c =
     omega (arith, c.loop-i.invariant.0, c.loop-i-test.true)
 
 pub loop-i-preserved : goal.loop-i-preserved
-loop-i-preserved c =
-    (
-      omega (arith, c.loop-i.invariant.0, c.loop-i-test.true),
-      omega (
-        arith,
-        c.loop-i.invariant.1,
-        c.compile_alias-b.auto.memory,
-      ),
-      λ m h. c.loop-i.invariant.2 m (aliases_more c.args.tree.now c.loop-i.i c.args.end c.field-file.result
-          c.loop-i-test.true c.compile_alias-b.ensures h),
-    )
+loop-i-preserved c = (
+  omega (arith, c.loop-i.invariant.0, c.loop-i-test.true),
+  omega (
+    arith,
+    c.loop-i.invariant.1,
+    c.compile_alias-b.auto.memory,
+  ),
+  λ m h. c.loop-i.invariant.2 m (aliases_more c.args.tree.now c.loop-i.i c.args.end c.field-file.result
+      c.loop-i-test.true c.compile_alias-b.ensures h),
+)
 
 pub shape_of-memory : goal.shape_of-memory
 shape_of-memory c = c.loop-i.invariant.1

@@ -2,9 +2,7 @@
 -- Assumes nothing.
 use Rattle.book_compiler.specs.RepresentsBook.{BookMemory, book_laid}
 use Rattle.book_compiler.specs.DefinitionSteps.{CompilesAliases}
-use Rattle.book_compiler.proofs.IncludeDefinitions.{aliases_end, aliases_more}
-use Rattle.words.specs.Record.{value_at}
-use Rattle.std.proofs.Common.{◌≡◌, ◌+◌, ◌-◌, ◌≤◌, length, refl, arith, rules}
+use Rattle.std.proofs.Common.{◌≡◌, ◌-◌, ◌≤◌, length}
 use Rattle.book_compiler.proofs.includes.compile_aliases.Given as goal
 
 abbrev pub invariant-loop-i : goal.invariant-loop-i

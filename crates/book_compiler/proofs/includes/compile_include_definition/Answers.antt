@@ -1,7 +1,7 @@
 -- `book_compiler::includes::compile_include_definition` meets its contract: a way for each outcome of its tests. Assumes nothing.
 use Rattle.book_compiler.proofs.IncludeDefinitions.{include_full, include_past, include_refused, include_given}
 use borrow.Author.Tests.{not-true, not-false}
-use Rattle.std.proofs.Common.{refl, rules}
+use Rattle.std.proofs.Common.{refl}
 use mathlib.Core.Path.{ap}
 use mathlib.Core.Bool.{not}
 use Rattle.book_compiler.proofs.includes.compile_include_definition.Goals as goal

@@ -1,8 +1,6 @@
 -- `book_compiler::includes::find_book` meets its contract. The invariant: what is found from the first on is what is found from here on. Assumes nothing.
-use Rattle.std.proofs.Common.{◌≡◌, ◌-◌, sym, refl, ◌∙◌, arith, rules, eq-eqb, ne_eqb}
-use Rattle.words.specs.Areas.{entry_field}
+use Rattle.std.proofs.Common.{◌≡◌, ◌-◌}
 use Rattle.building.specs.Found.{first_from}
-use Rattle.building.proofs.OldestFirst.{first_start, first_here, first_next, first_end}
 use Rattle.compiler_laws.specs.IncludeSteps.{is_book}
 use Rattle.book_compiler.proofs.includes.find_book.Given as goal
 

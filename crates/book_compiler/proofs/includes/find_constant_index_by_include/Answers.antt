@@ -1,7 +1,7 @@
 -- `book_compiler::includes::find_constant_index_by_include` meets its contract: it lends parts 8 and 12. Assumes nothing.
 use Rattle.memory.specs.Layout.{part}
 use Rattle.book_compiler.proofs.BookParts.{areas_wide, areas_back}
-use Rattle.std.proofs.Common.{arith, rules}
+use Rattle.std.proofs.Common.{arith}
 use Rattle.book_compiler.proofs.includes.find_constant_index_by_include.Goals as goal
 
 pub returns-then-last-memory : goal.returns-then-last-memory

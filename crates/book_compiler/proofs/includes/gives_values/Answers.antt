@@ -1,7 +1,7 @@
 -- `book_compiler::includes::gives_values` meets its contract: a way for each mode and each outcome of the search. Assumes nothing.
 use Rattle.compiler_laws.proofs.IncludedNames.{gives_present, gives_known, gives_unknown, gives_past}
 use borrow.Author.Tests.{not-true, not-false}
-use Rattle.std.proofs.Common.{refl, rules}
+use Rattle.std.proofs.Common.{refl}
 use Rattle.book_compiler.proofs.includes.gives_values.Goals as goal
 
 pub returns-then-not-book : goal.returns-then-not-book

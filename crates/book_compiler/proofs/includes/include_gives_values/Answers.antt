@@ -1,7 +1,7 @@
 -- `book_compiler::includes::include_gives_values` meets its contract: it lends parts 8 and 12. Assumes nothing.
 use Rattle.memory.specs.Layout.{part}
 use Rattle.book_compiler.proofs.BookParts.{areas_wide, areas_back}
-use Rattle.std.proofs.Common.{arith, rules}
+use Rattle.std.proofs.Common.{arith}
 use Rattle.book_compiler.proofs.includes.include_gives_values.Goals as goal
 
 pub returns-then-last-memory : goal.returns-then-last-memory

@@ -1,6 +1,5 @@
 -- `book_compiler::includes::included_name` meets its contract: a way for each outcome of its searches. Assumes nothing.
 use Rattle.compiler_laws.proofs.IncludedNames.{included_unknown, included_none, included_some}
-use Rattle.std.proofs.Common.{rules}
 use Rattle.book_compiler.proofs.includes.included_name.Goals as goal
 
 pub returns-in-At-found : goal.returns-in-At-found

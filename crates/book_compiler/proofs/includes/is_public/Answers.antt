@@ -1,6 +1,5 @@
 -- `book_compiler::includes::is_public` meets its contract: a way for each outcome of its search. Assumes nothing.
 use Rattle.compiler_laws.proofs.IncludedNames.{public_there, public_lost}
-use Rattle.std.proofs.Common.{rules}
 use Rattle.book_compiler.proofs.includes.is_public.Goals as goal
 
 pub returns-in-At : goal.returns-in-At

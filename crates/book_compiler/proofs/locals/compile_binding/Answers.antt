@@ -1,6 +1,5 @@
 -- `book_compiler::locals::compile_binding` meets its contract: a way for each outcome of its tests. Assumes nothing.
 use Rattle.book_compiler.proofs.LocalDefinitions.{binds_full, binds_absent, binds_again, binds_value}
-use Rattle.std.proofs.Common.{rules}
 use Rattle.book_compiler.proofs.locals.compile_binding.Goals as goal
 
 pub returns-then-b-ne0 : goal.returns-then-b-ne0

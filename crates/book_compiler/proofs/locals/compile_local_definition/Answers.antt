@@ -1,9 +1,7 @@
 -- `book_compiler::locals::compile_local_definition` meets its contract. The invariant: what defines the pairs from here defines all of them.
 -- Assumes nothing.
-use Rattle.book_compiler.specs.RepresentsBook.{BookMemory, book_laid}
-use Rattle.book_compiler.specs.DefinitionSteps.{CompilesLocalDefinition}
 use Rattle.book_compiler.proofs.LocalDefinitions.{bindings_end, bindings_more}
-use Rattle.std.proofs.Common.{◌≡◌, ◌+◌, ◌-◌, ◌≤◌, length, refl, arith}
+use Rattle.std.proofs.Common.{◌+◌, refl, arith}
 use Rattle.book_compiler.proofs.locals.compile_local_definition.Goals as goal
 
 pub returns-then-end-at : goal.returns-then-end-at
@@ -29,17 +27,16 @@ loop-i-smaller c =
     omega (arith, c.loop-i.invariant.0, c.loop-i-test.true)
 
 pub loop-i-preserved : goal.loop-i-preserved
-loop-i-preserved c =
-    (
-      omega (arith, c.loop-i.invariant.0, c.loop-i-test.true),
-      omega (
-        arith,
-        c.loop-i.invariant.1,
-        c.compile_binding-b.auto.memory,
-      ),
-      λ m h. c.loop-i.invariant.2 m (bindings_more c.args.tree.now c.loop-i.i c.args.end c.loop-i-test.true
-          c.compile_binding-b.ensures h),
-    )
+loop-i-preserved c = (
+  omega (arith, c.loop-i.invariant.0, c.loop-i-test.true),
+  omega (
+    arith,
+    c.loop-i.invariant.1,
+    c.compile_binding-b.auto.memory,
+  ),
+  λ m h. c.loop-i.invariant.2 m (bindings_more c.args.tree.now c.loop-i.i c.args.end c.loop-i-test.true
+      c.compile_binding-b.ensures h),
+)
 
 pub shape_of-memory : goal.shape_of-memory
 shape_of-memory c = c.loop-i.invariant.1

@@ -2,8 +2,7 @@
 -- Assumes nothing.
 use Rattle.book_compiler.specs.RepresentsBook.{BookMemory, book_laid}
 use Rattle.book_compiler.specs.DefinitionSteps.{CompilesLocalDefinition}
-use Rattle.book_compiler.proofs.LocalDefinitions.{bindings_end, bindings_more}
-use Rattle.std.proofs.Common.{◌≡◌, ◌+◌, ◌-◌, ◌≤◌, length, refl, arith}
+use Rattle.std.proofs.Common.{◌≡◌, ◌-◌, ◌≤◌, length}
 use Rattle.book_compiler.proofs.locals.compile_local_definition.Given as goal
 
 abbrev pub invariant-loop-i : goal.invariant-loop-i

@@ -1,5 +1,5 @@
 -- `book_compiler::locals::define_entry` meets its contract: with the mark set nothing is done. Assumes nothing.
-use Rattle.std.proofs.Common.{refl, rules}
+use Rattle.std.proofs.Common.{refl}
 use Rattle.compiler_laws.proofs.BookLeaves.{define_full, define_seeks}
 use Rattle.book_compiler.proofs.Stood.{spares_refl}
 use Rattle.book_compiler.proofs.StoodBooks.{local_spares}
@@ -9,11 +9,10 @@ pub returns-then-book-ne0 : goal.returns-then-book-ne0
 returns-then-book-ne0 c = ((define_full c.args.name c.if-book-ne0.true, spares_refl _), record { constants = refl; standing = refl })
 
 pub returns : goal.returns
-returns c =
-    (
-      (
-        define_seeks c.args.name c.if-book-ne0.false c.define_context_local-l.ensures,
-        local_spares c.args.book c.args.name c.define_context_local-l.ensures,
-      ),
-      record { constants = refl; standing = refl },
-    )
+returns c = (
+  (
+    define_seeks c.args.name c.if-book-ne0.false c.define_context_local-l.ensures,
+    local_spares c.args.book c.args.name c.define_context_local-l.ensures,
+  ),
+  record { constants = refl; standing = refl },
+)

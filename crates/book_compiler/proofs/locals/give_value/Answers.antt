@@ -1,6 +1,5 @@
 -- `book_compiler::locals::give_value` meets its contract: a way for each kind. Assumes nothing.
 use Rattle.book_compiler.proofs.LocalDefinitions.{gives_null, gives_boolean, gives_integer, gives_float, gives_error}
-use Rattle.std.proofs.Common.{rules}
 use Rattle.book_compiler.proofs.locals.give_value.Goals as goal
 
 pub returns-then-kind-eq-NULL : goal.returns-then-kind-eq-NULL

@@ -1,5 +1,5 @@
 -- `book_compiler::locals::set_value` meets its contract: it lends part 7. Assumes nothing.
-use Rattle.std.proofs.Common.{refl, arith, rules}
+use Rattle.std.proofs.Common.{refl, arith}
 use Rattle.memory.specs.Layout.{part, with_part}
 use Rattle.book_compiler.proofs.BookParts.{area_part, area_wide, area_back}
 use Rattle.book_compiler.proofs.locals.set_value.Goals as goal

@@ -1,12 +1,9 @@
 -- `book_compiler::methods::copy_entries` meets its contract. The invariant: whatever copies from here on copies all, and the methods that stood are the
 -- first. Assumes nothing.
-use Rattle.std.proofs.Common.{◌≡◌, ℕ, ◌-◌, List, length, sym, refl, subst, arith, rules}
+use Rattle.std.proofs.Common.{◌≡◌, ℕ, ◌-◌, List, length}
 use Rattle.compiler_laws.specs.declared.book.Book.{Book}
-use Rattle.compiler_laws.specs.ModelSteps.{CopiesMethod}
-use Rattle.compiler_laws.proofs.CopiedMethods.{copies_end, copies_more, copies_done, CopiesFrom}
-use Rattle.undo.specs.Notes.{plain_methods}
+use Rattle.compiler_laws.proofs.CopiedMethods.{CopiesFrom}
 use Rattle.book_compiler.specs.BookLeaves.{SparesMethods, SameCounts, StoodFirst, methods_said}
-use Rattle.book_compiler.proofs.StoodBooks.{methods_stay, methods_then, same_counts, counts_then, stood_first_on}
 use Rattle.book_compiler.proofs.methods.copy_entries.Given as goal
 
 abbrev pub invariant-loop-i : goal.invariant-loop-i

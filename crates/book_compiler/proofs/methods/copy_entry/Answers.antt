@@ -1,6 +1,5 @@
 -- `book_compiler::methods::copy_entry` meets its contract: with the mark set, with another model's method, and with one of the source. Assumes nothing.
 use Rattle.book_compiler.proofs.NotedMethods.{copies_full, copies_other, copies_one}
-use Rattle.std.proofs.Common.{rules}
 use Rattle.book_compiler.proofs.methods.copy_entry.Goals as goal
 
 pub returns-then-book-ne0 : goal.returns-then-book-ne0

@@ -1,6 +1,5 @@
 -- `book_compiler::methods::insert_entry` meets its contract: with the mark set, with an entry that is there, and with one more. Assumes nothing.
 use Rattle.book_compiler.proofs.NotedMethods.{inserts_full, inserts_there, inserts_new}
-use Rattle.std.proofs.Common.{rules}
 use Rattle.book_compiler.proofs.methods.insert_entry.Goals as goal
 
 pub returns-then-book-ne0 : goal.returns-then-book-ne0

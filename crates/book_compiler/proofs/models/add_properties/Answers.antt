@@ -1,21 +1,19 @@
 -- `book_compiler::models::add_properties` meets its contract. The invariant: whatever adds the properties from here on adds all of them.
 -- Assumes nothing.
-use Rattle.std.proofs.Common.{◌≡◌, ◌-◌, length, refl, arith}
-use Rattle.book_compiler.specs.RepresentsBook.{BookMemory, book_laid}
-use Rattle.book_compiler.proofs.ModelDefinitions.{properties_end, properties_more, properties_done, AddsPropertiesFrom}
+use Rattle.std.proofs.Common.{refl, arith}
+use Rattle.book_compiler.proofs.ModelDefinitions.{properties_end, properties_more, properties_done}
 use Rattle.book_compiler.proofs.models.add_properties.Goals as goal
 
 pub loop-i-init : goal.loop-i-init
 loop-i-init c = (refl, λ m h. h)
 
 pub loop-i-preserved : goal.loop-i-preserved
-loop-i-preserved c =
-    (
-      omega (arith, c.loop-i.invariant.0, c.add_property-b.auto.memory),
-      λ m h. c.loop-i.invariant.1 m
-          (properties_more c.args.tree.now c.args.end c.args.book.properties c.loop-i.i c.loop-i-test.true
-          c.add_property-b.ensures h),
-    )
+loop-i-preserved c = (
+  omega (arith, c.loop-i.invariant.0, c.add_property-b.auto.memory),
+  λ m h. c.loop-i.invariant.1 m
+      (properties_more c.args.tree.now c.args.end c.args.book.properties c.loop-i.i c.loop-i-test.true
+      c.add_property-b.ensures h),
+)
 
 pub shape_of-memory : goal.shape_of-memory
 shape_of-memory c = c.loop-i.invariant.0

@@ -1,8 +1,8 @@
 -- `book_compiler::models::add_properties` meets its contract. The invariant: whatever adds the properties from here on adds all of them.
 -- Assumes nothing.
-use Rattle.std.proofs.Common.{◌≡◌, ◌-◌, length, refl, arith}
+use Rattle.std.proofs.Common.{◌≡◌, ◌-◌, length}
 use Rattle.book_compiler.specs.RepresentsBook.{BookMemory, book_laid}
-use Rattle.book_compiler.proofs.ModelDefinitions.{properties_end, properties_more, properties_done, AddsPropertiesFrom}
+use Rattle.book_compiler.proofs.ModelDefinitions.{AddsPropertiesFrom}
 use Rattle.book_compiler.proofs.models.add_properties.Given as goal
 
 abbrev pub invariant-loop-i : goal.invariant-loop-i

@@ -1,6 +1,5 @@
 -- `book_compiler::models::add_property` meets its contract: with the mark set, with a name that is there, and with one more. Assumes nothing.
 use Rattle.book_compiler.proofs.ModelDefinitions.{property_marked, property_again, property_more}
-use Rattle.std.proofs.Common.{rules}
 use Rattle.book_compiler.proofs.models.add_property.Goals as goal
 
 pub returns-then-book-ne0 : goal.returns-then-book-ne0

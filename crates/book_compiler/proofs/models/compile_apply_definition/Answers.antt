@@ -1,6 +1,6 @@
 -- `book_compiler::models::compile_apply_definition` meets its contract: a way for each outcome of the searches. Assumes nothing.
 use Rattle.book_compiler.proofs.ApplyDefinitions.{apply_short, apply_nothing, apply_nowhere, apply_copies}
-use Rattle.std.proofs.Common.{arith, rules}
+use Rattle.std.proofs.Common.{arith}
 use Rattle.book_compiler.proofs.models.compile_apply_definition.Goals as goal
 
 pub returns-then-end-at : goal.returns-then-end-at

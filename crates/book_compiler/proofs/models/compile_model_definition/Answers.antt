@@ -1,6 +1,5 @@
 -- `book_compiler::models::compile_model_definition` meets its contract: the properties, and then the model. Assumes nothing.
 use Rattle.book_compiler.proofs.ModelDefinitions.{model_short, model_defined}
-use Rattle.std.proofs.Common.{rules}
 use Rattle.book_compiler.proofs.models.compile_model_definition.Goals as goal
 
 pub returns-then-end-at : goal.returns-then-end-at

@@ -1,7 +1,7 @@
 -- `book_compiler::models::find_context_local` meets its contract: it lends part 7. Assumes nothing.
 use Rattle.memory.specs.Layout.{part}
 use Rattle.book_compiler.proofs.BookParts.{areas_wide, areas_back}
-use Rattle.std.proofs.Common.{arith, rules}
+use Rattle.std.proofs.Common.{arith}
 use Rattle.book_compiler.proofs.models.find_context_local.Goals as goal
 
 pub returns-then-end-memory : goal.returns-then-end-memory

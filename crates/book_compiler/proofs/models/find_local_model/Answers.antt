@@ -1,7 +1,7 @@
 -- `book_compiler::models::find_local_model` meets its contract: it lends parts 7 and 2. Assumes nothing.
 use Rattle.memory.specs.Layout.{part}
 use Rattle.book_compiler.proofs.BookParts.{areas_wide, areas_back}
-use Rattle.std.proofs.Common.{arith, rules}
+use Rattle.std.proofs.Common.{arith}
 use Rattle.book_compiler.proofs.models.find_local_model.Goals as goal
 
 pub returns-then-last-memory : goal.returns-then-last-memory

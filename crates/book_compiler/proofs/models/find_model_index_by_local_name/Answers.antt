@@ -1,7 +1,6 @@
 -- `book_compiler::models::find_model_index_by_local_name` meets its contract: with the mark set, without a local of the name, with one that is no
 -- model, and with a model. Assumes nothing.
 use Rattle.book_compiler.proofs.ApplyDefinitions.{find_full, find_lost, find_other, find_there}
-use Rattle.std.proofs.Common.{rules}
 use Rattle.book_compiler.proofs.models.find_model_index_by_local_name.Goals as goal
 
 pub returns-then-book-ne0 : goal.returns-then-book-ne0

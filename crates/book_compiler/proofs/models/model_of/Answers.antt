@@ -1,6 +1,5 @@
 -- `book_compiler::models::model_of` meets its contract: without a value, with another constant, and with a model. Assumes nothing.
 use Rattle.compiler_laws.proofs.ModelsFound.{model_none, model_other, model_here}
-use Rattle.std.proofs.Common.{rules}
 use Rattle.book_compiler.proofs.models.model_of.Goals as goal
 
 pub returns-then-mark-ne1 : goal.returns-then-mark-ne1

@@ -1,6 +1,5 @@
 -- `book_compiler::models::place_model` meets its contract: with the mark set, and without. Assumes nothing.
 use Rattle.book_compiler.proofs.ModelDefinitions.{place_full, place_model_lem}
-use Rattle.std.proofs.Common.{rules}
 use Rattle.book_compiler.proofs.models.place_model.Goals as goal
 
 pub returns-then-book-ne0 : goal.returns-then-book-ne0

@@ -1,6 +1,6 @@
 -- `book_compiler::onto::clear_entries` meets its contract: an area that there is not, entries that fit, and entries behind which nothing is. Assumes nothing.
 use Rattle.book_compiler.proofs.OntoParts.{clear_all, clear_behind, entries_fit, clear_nothing}
-use Rattle.std.proofs.Common.{arith, rules}
+use Rattle.std.proofs.Common.{arith}
 use Rattle.book_compiler.proofs.onto.clear_entries.Goals as goal
 
 pub returns-then-width-eq0 : goal.returns-then-width-eq0

@@ -1,5 +1,5 @@
 -- `book_compiler::onto::give_back_part` meets its contract: it lends part i, unless that is the errors'. Assumes nothing.
-use Rattle.std.proofs.Common.{refl, rules}
+use Rattle.std.proofs.Common.{refl}
 use Rattle.book_compiler.proofs.PartsInTurn.{errors_stay, lent_at, wide_at, back_at, no_part}
 use Rattle.book_compiler.proofs.onto.give_back_part.Goals as goal
 

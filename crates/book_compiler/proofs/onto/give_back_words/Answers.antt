@@ -1,5 +1,5 @@
 -- `book_compiler::onto::give_back_words` meets its contract: the constants, the methods, and another area. Assumes nothing.
-use Rattle.std.proofs.Common.{◌∙◌, rules}
+use Rattle.std.proofs.Common.{◌∙◌}
 use Rattle.book_compiler.proofs.OntoParts.{back_constants, back_methods, back_other}
 use Rattle.book_compiler.proofs.onto.give_back_words.Goals as goal
 

@@ -1,5 +1,5 @@
 -- `book_compiler::onto::make_ready` meets its contract: parts 11, 2, 6 and 13, one after the other. Assumes nothing.
-use Rattle.std.proofs.Common.{◌∙◌, rules}
+use Rattle.std.proofs.Common.{◌∙◌}
 use Rattle.book_compiler.proofs.OntoParts.{made_ready}
 use Rattle.book_compiler.proofs.onto.make_ready.Goals as goal
 

@@ -1,5 +1,5 @@
 -- `book_compiler::expressions::finish_expression` meets its contract: a way for each kind, and for each value of a prefix. Assumes nothing.
-use Rattle.std.proofs.Common.{ℕ, ap, ◌∙◌, rules}
+use Rattle.std.proofs.Common.{ℕ, ap, ◌∙◌}
 use Rattle.words.specs.Opcode.{to_instruction, word, CallOp}
 use Rattle.book_compiler.proofs.Leaves as t
 use Rattle.book_compiler.proofs.operations.finish_expression.Goals as goal

@@ -1,6 +1,5 @@
 -- `book_compiler::expressions::operation` meets its contract: not equal is negated, every other value plain. Assumes nothing.
 use Rattle.book_compiler.proofs.Infix.{operation_plain, operation_not}
-use Rattle.std.proofs.Common.{rules}
 use Rattle.book_compiler.proofs.operations.operation.Goals as goal
 
 pub returns-then-value-eq-INFIX_NOT_EQUAL : goal.returns-then-value-eq-INFIX_NOT_EQUAL

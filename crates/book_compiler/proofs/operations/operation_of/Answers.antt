@@ -1,5 +1,5 @@
 -- `book_compiler::expressions::operation_of` meets its contract: by its tests. Assumes nothing.
-use Rattle.std.proofs.Common.{rules, le-ltb, lt-ltb, eq-eqb, ne_eqb}
+use Rattle.std.proofs.Common.{le-ltb, lt-ltb, eq-eqb, ne_eqb}
 use Rattle.book_compiler.proofs.operations.operation_of.Goals as goal
 
 pub returns-then-value-eq0 : goal.returns-then-value-eq0

@@ -1,7 +1,7 @@
 -- `book_compiler::order::narrow_standing` meets its contract: it lends part 12. Assumes nothing.
 use Rattle.memory.specs.Layout.{part}
 use Rattle.book_compiler.proofs.LentParts.{read_wide, read_back}
-use Rattle.std.proofs.Common.{arith, rules}
+use Rattle.std.proofs.Common.{arith}
 use Rattle.book_compiler.proofs.order.narrow_standing.Goals as goal
 
 pub returns-then-end-memory : goal.returns-then-end-memory

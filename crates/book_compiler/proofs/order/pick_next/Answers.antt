@@ -1,5 +1,5 @@
 -- `book_compiler::order::pick_next` meets its contract: no book is ready, or one is and its number goes to the front. Assumes nothing.
-use Rattle.std.proofs.Common.{◌∙◌, rules}
+use Rattle.std.proofs.Common.{◌∙◌}
 use Rattle.book_compiler.proofs.BookRounds.{pick_none, pick_one}
 use Rattle.book_compiler.proofs.order.pick_next.Goals as goal
 

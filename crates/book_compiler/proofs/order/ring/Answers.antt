@@ -1,21 +1,17 @@
 -- `book_compiler::order::ring` meets its contract. The invariant: what is rung from here is rung from the start. Assumes nothing.
 use Rattle.book_compiler.proofs.BookRounds.{ring_done, ring_on}
-use Rattle.book_compiler.specs.BookOrder.{PushesRingErrorsIn}
-use Rattle.building.specs.declared.taking.Taken.{Taken}
-use Rattle.building.specs.Taking.{taken}
-use Rattle.std.proofs.Common.{◌≡◌, ℕ, ◌-◌, List, length, refl, ◌∙◌, arith}
+use Rattle.std.proofs.Common.{refl, ◌∙◌}
 use Rattle.book_compiler.proofs.order.ring.Goals as goal
 
 pub loop-k-init : goal.loop-k-init
 loop-k-init c = (refl, λ r after h. h)
 
 pub loop-k-preserved : goal.loop-k-preserved
-loop-k-preserved c =
-    (
-      c.push_ring_error-t.auto.memory ∙ c.loop-k.invariant.0,
-      λ r after h. c.loop-k.invariant.1 r after (ring_on c.loop-k-test.true c.book_word-word.ensures
-          c.push_ring_error-t.ensures h),
-    )
+loop-k-preserved c = (
+  c.push_ring_error-t.auto.memory ∙ c.loop-k.invariant.0,
+  λ r after h. c.loop-k.invariant.1 r after (ring_on c.loop-k-test.true c.book_word-word.ensures
+      c.push_ring_error-t.ensures h),
+)
 
 pub shape_of-memory : goal.shape_of-memory
 shape_of-memory c = c.loop-k.invariant.0

@@ -1,9 +1,8 @@
 -- `book_compiler::order::ring` meets its contract. The invariant: what is rung from here is rung from the start. Assumes nothing.
-use Rattle.book_compiler.proofs.BookRounds.{ring_done, ring_on}
 use Rattle.book_compiler.specs.BookOrder.{PushesRingErrorsIn}
 use Rattle.building.specs.declared.taking.Taken.{Taken}
 use Rattle.building.specs.Taking.{taken}
-use Rattle.std.proofs.Common.{◌≡◌, ℕ, ◌-◌, List, length, refl, ◌∙◌, arith}
+use Rattle.std.proofs.Common.{◌≡◌, ℕ, ◌-◌, List, length}
 use Rattle.book_compiler.proofs.order.ring.Given as goal
 
 abbrev pub invariant-loop-k : goal.invariant-loop-k

@@ -1,8 +1,7 @@
 -- `book_compiler::pairs::find_pair` meets its contract. The invariant: what is found from the start on is what is found from here on. The measure is what is
 -- left of the count. Assumes nothing.
-use Rattle.std.proofs.Common.{◌≡◌, ◌-◌, sym, refl, ◌∙◌, arith}
+use Rattle.std.proofs.Common.{◌≡◌, ◌-◌}
 use Rattle.building.specs.Found.{first_from}
-use Rattle.building.proofs.OldestFirst.{first_here, first_next, first_end}
 use Rattle.compiler_laws.specs.IncludeSteps.{is_pair}
 use Rattle.book_compiler.proofs.pairs.find_pair.Given as goal
 

@@ -1,6 +1,5 @@
 -- `book_compiler::pairs::is_pair` meets its contract, by its tests. Assumes nothing.
 use Rattle.compiler_laws.proofs.MapEntries.{pair_here, pair_other}
-use Rattle.std.proofs.Common.{rules}
 use Rattle.book_compiler.proofs.pairs.is_pair.Goals as goal
 
 pub returns-then-entry_word-a : goal.returns-then-entry_word-a

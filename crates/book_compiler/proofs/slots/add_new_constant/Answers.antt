@@ -1,6 +1,5 @@
 -- `book_compiler::slots::add_new_constant` meets its contract: the count says whether an entry was taken. Assumes nothing.
 use Rattle.book_compiler.proofs.SlotSteps.{new_with_slot, new_refused}
-use Rattle.std.proofs.Common.{rules}
 use Rattle.book_compiler.proofs.slots.add_new_constant.Goals as goal
 
 pub returns-then-before-after : goal.returns-then-before-after

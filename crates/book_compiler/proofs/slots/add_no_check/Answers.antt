@@ -1,7 +1,7 @@
 -- `book_compiler::slots::add_no_check` meets its contract: it lends part 2. Assumes nothing.
 use Rattle.memory.specs.Layout.{part, with_part}
 use Rattle.book_compiler.proofs.Parts.{on_part, on_wide, on_back}
-use Rattle.std.proofs.Common.{arith, rules}
+use Rattle.std.proofs.Common.{arith}
 use Rattle.book_compiler.proofs.slots.add_no_check.Goals as goal
 
 pub returns-then-end-memory : goal.returns-then-end-memory

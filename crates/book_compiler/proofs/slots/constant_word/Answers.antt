@@ -1,7 +1,7 @@
 -- `book_compiler::slots::constant_word` meets its contract: it lends part 2. Assumes nothing.
 use Rattle.memory.specs.Layout.{part}
 use Rattle.memory.proofs.Parts.{ends_within}
-use Rattle.std.proofs.Common.{arith, rules}
+use Rattle.std.proofs.Common.{arith}
 use Rattle.book_compiler.proofs.slots.constant_word.Goals as goal
 
 pub returns-then-end-memory : goal.returns-then-end-memory

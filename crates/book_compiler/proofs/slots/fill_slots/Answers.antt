@@ -1,7 +1,7 @@
 -- `book_compiler::slots::fill_slots` meets its contract. The invariant: the slots are what filling zeros with the constants so far gives. The measure is what
 -- is left of them. Assumes nothing.
-use Rattle.std.proofs.Common.{◌≡◌, ◌-◌, ◌≤◌, length, refl, arith, rules}
-use Rattle.book_compiler.proofs.SlotFilling.{FillsZeros, fill_first, fill_more, fill_last, fill_early, fill_all}
+use Rattle.std.proofs.Common.{refl, arith}
+use Rattle.book_compiler.proofs.SlotFilling.{fill_first, fill_more, fill_last, fill_early, fill_all}
 use Rattle.book_compiler.proofs.SlotSteps.{part_back}
 use Rattle.book_compiler.proofs.slots.fill_slots.Goals as goal
 
@@ -25,14 +25,13 @@ returns-then-size-i c =
     (arith, c.loop-i.invariant.1)))
 
 pub loop-i-preserved : goal.loop-i-preserved
-loop-i-preserved c =
-    (
-      omega (arith, c.put_slot.auto.memory, c.loop-i.invariant.0),
-      omega (arith, c.loop-i-test.true),
-      omega (arith, c.if-size-i.false),
-      fill_more (omega (arith, c.loop-i-test.true, c.ranges.count)) c.loop-i.invariant.3 c.constant_word-kind.ensures
-          c.constant_word-value.ensures c.put_slot.ensures,
-    )
+loop-i-preserved c = (
+  omega (arith, c.put_slot.auto.memory, c.loop-i.invariant.0),
+  omega (arith, c.loop-i-test.true),
+  omega (arith, c.if-size-i.false),
+  fill_more (omega (arith, c.loop-i-test.true, c.ranges.count)) c.loop-i.invariant.3 c.constant_word-kind.ensures
+      c.constant_word-value.ensures c.put_slot.ensures,
+)
 
 pub shape_of-memory : goal.shape_of-memory
 shape_of-memory c =

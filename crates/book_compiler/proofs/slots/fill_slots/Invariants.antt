@@ -1,8 +1,7 @@
 -- `book_compiler::slots::fill_slots` meets its contract. The invariant: the slots are what filling zeros with the constants so far gives. The measure is what
 -- is left of them. Assumes nothing.
-use Rattle.std.proofs.Common.{◌≡◌, ◌-◌, ◌≤◌, length, refl, arith, rules}
-use Rattle.book_compiler.proofs.SlotFilling.{FillsZeros, fill_first, fill_more, fill_last, fill_early, fill_all}
-use Rattle.book_compiler.proofs.SlotSteps.{part_back}
+use Rattle.std.proofs.Common.{◌≡◌, ◌-◌, ◌≤◌, length}
+use Rattle.book_compiler.proofs.SlotFilling.{FillsZeros}
 use Rattle.book_compiler.proofs.slots.fill_slots.Given as goal
 
 abbrev pub invariant-loop-i : goal.invariant-loop-i

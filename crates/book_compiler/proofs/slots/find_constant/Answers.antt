@@ -1,7 +1,7 @@
 -- `book_compiler::slots::find_constant` meets its contract: it lends parts 2 and 13. Assumes nothing.
 use Rattle.memory.specs.Layout.{part}
 use Rattle.book_compiler.proofs.SlotSteps.{finds_back, finds_wide, finds_constant}
-use Rattle.std.proofs.Common.{arith, rules}
+use Rattle.std.proofs.Common.{arith}
 use Rattle.book_compiler.proofs.slots.find_constant.Goals as goal
 
 pub returns-then-end-start : goal.returns-then-end-start

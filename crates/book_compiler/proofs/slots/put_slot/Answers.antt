@@ -1,7 +1,7 @@
 -- `book_compiler::slots::put_slot` meets its contract: it lends part 13. Assumes nothing.
 use Rattle.memory.specs.Layout.{part, with_part}
 use Rattle.book_compiler.proofs.SlotSteps.{part_put, part_wide, part_back}
-use Rattle.std.proofs.Common.{arith, rules}
+use Rattle.std.proofs.Common.{arith}
 use Rattle.book_compiler.proofs.slots.put_slot.Goals as goal
 
 pub returns-then-end-memory : goal.returns-then-end-memory

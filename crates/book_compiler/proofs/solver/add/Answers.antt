@@ -1,5 +1,5 @@
 -- `book_compiler::solver::add` meets its contract: a way for each outcome of its tests. Assumes nothing.
-use Rattle.std.proofs.Common.{sym, ◌∙◌, rules}
+use Rattle.std.proofs.Common.{sym, ◌∙◌}
 use Rattle.compiler_laws.proofs.SetBits.{add_there, add_out, add_new}
 use Rattle.book_compiler.proofs.solver.add.Goals as goal
 

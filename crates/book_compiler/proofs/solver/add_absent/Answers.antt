@@ -1,5 +1,5 @@
 -- `book_compiler::solver::add_absent` meets its contract: a number that stands, and another. Assumes nothing.
-use Rattle.std.proofs.Common.{sym, ◌∙◌, rules}
+use Rattle.std.proofs.Common.{sym, ◌∙◌}
 use Rattle.compiler_laws.proofs.SetBits.{absent_stands, absent_added}
 use Rattle.book_compiler.proofs.solver.add_absent.Goals as goal
 

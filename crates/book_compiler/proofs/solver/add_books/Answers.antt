@@ -1,7 +1,6 @@
 -- `book_compiler::solver::add_books` meets its contract. The invariant: what is added from here is added from the start. Assumes nothing.
-use Rattle.std.proofs.Common.{◌≡◌, ℕ, ◌-◌, List, [], length, take, refl, ◌∙◌, arith, rules}
-use Rattle.compiler_laws.specs.FileSets.{add_bits}
-use Rattle.compiler_laws.proofs.StandingNumbers.{left_from, add_past, add_none, add_one_more, adds_numbers}
+use Rattle.std.proofs.Common.{take, refl, ◌∙◌}
+use Rattle.compiler_laws.proofs.StandingNumbers.{add_past, add_none, add_one_more, adds_numbers}
 use Rattle.book_compiler.proofs.solver.add_books.Goals as goal
 
 pub loop-i-init : goal.loop-i-init
@@ -16,13 +15,12 @@ returns-then-books-i c =
     (c.loop-i.invariant.1 _ (add_none c.args.books.now c.args.count c.loop-i.i c.if-books-i.true))
 
 pub loop-i-preserved : goal.loop-i-preserved
-loop-i-preserved c =
-    (
-      c.add.auto.set ∙ c.loop-i.invariant.0,
-      λ after h. c.loop-i.invariant.1 after
-          (add_one_more c.args.books.now c.args.count c.loop-i.i c.loop-i-test.true c.if-books-i.false c.loop-i.set
-          c.add.ensures.words h),
-    )
+loop-i-preserved c = (
+  c.add.auto.set ∙ c.loop-i.invariant.0,
+  λ after h. c.loop-i.invariant.1 after
+      (add_one_more c.args.books.now c.args.count c.loop-i.i c.loop-i-test.true c.if-books-i.false c.loop-i.set
+      c.add.ensures.words h),
+)
 
 pub shape_of-set : goal.shape_of-set
 shape_of-set c = c.loop-i.invariant.0

@@ -1,7 +1,7 @@
 -- `book_compiler::solver::add_books` meets its contract. The invariant: what is added from here is added from the start. Assumes nothing.
-use Rattle.std.proofs.Common.{◌≡◌, ℕ, ◌-◌, List, [], length, take, refl, ◌∙◌, arith, rules}
+use Rattle.std.proofs.Common.{◌≡◌, ℕ, ◌-◌, List, [], length, take}
 use Rattle.compiler_laws.specs.FileSets.{add_bits}
-use Rattle.compiler_laws.proofs.StandingNumbers.{left_from, add_past, add_none, add_one_more, adds_numbers}
+use Rattle.compiler_laws.proofs.StandingNumbers.{left_from}
 use Rattle.book_compiler.proofs.solver.add_books.Given as goal
 
 abbrev pub invariant-loop-i : goal.invariant-loop-i

@@ -1,8 +1,6 @@
 -- `book_compiler::solver::add_includes` meets its contract. The invariant: what is added from here is added from the start. Assumes nothing.
-use Rattle.std.proofs.Common.{◌≡◌, ℕ, ◌-◌, Bool, List, length, refl, arith, rules}
+use Rattle.std.proofs.Common.{◌≡◌, ℕ, ◌-◌, Bool, List, length}
 use Rattle.compiler_laws.specs.SolverSteps.{Includes}
-use Rattle.compiler_laws.proofs.Tokens.{skip_more}
-use Rattle.compiler_laws.proofs.DocumentsRead.{includes_end, includes_other, includes_more}
 use Rattle.book_compiler.proofs.solver.add_includes.Given as goal
 
 abbrev pub invariant-loop-j : goal.invariant-loop-j

@@ -1,6 +1,6 @@
 -- `book_compiler::solver::after` meets its contract: past the words, one on, or past a run of words without a bit. Assumes nothing.
 use Rattle.compiler_laws.proofs.SetBits.{after_out, after_one, after_zeros, word_past}
-use Rattle.std.proofs.Common.{arith, rules}
+use Rattle.std.proofs.Common.{arith}
 use Rattle.book_compiler.proofs.solver.after.Goals as goal
 
 pub returns-then-set-end : goal.returns-then-set-end

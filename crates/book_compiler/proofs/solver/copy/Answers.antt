@@ -1,6 +1,6 @@
 -- `book_compiler::solver::copy` meets its contract. The invariant: what is passed is copied. Assumes nothing.
-use Rattle.std.proofs.Common.{◌≡◌, ◌-◌, length, get_or, sym, arith, length-set, rules}
-use Rattle.compiler_laws.proofs.SetBits.{Copied, copy_more, copy_all}
+use Rattle.std.proofs.Common.{get_or, sym, arith, length-set}
+use Rattle.compiler_laws.proofs.SetBits.{copy_more, copy_all}
 use Rattle.book_compiler.proofs.solver.copy.Goals as goal
 
 pub loop-i-init : goal.loop-i-init

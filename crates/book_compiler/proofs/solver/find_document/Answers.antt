@@ -1,6 +1,5 @@
 -- `book_compiler::solver::find_document` meets its contract. The invariant: what is found from here, below the bound, is found from the start. Assumes nothing.
-use Rattle.std.proofs.Common.{◌-◌, ◌<◌, arith, rules}
-use Rattle.compiler_laws.specs.SolverSteps.{Skips}
+use Rattle.std.proofs.Common.{arith}
 use Rattle.compiler_laws.proofs.Tokens.{skip_more}
 use Rattle.compiler_laws.proofs.WaitingBooks.{place_end, place_here, place_more}
 use Rattle.book_compiler.proofs.solver.find_document.Goals as goal
@@ -24,15 +23,14 @@ loop-i-smaller c =
     )
 
 pub loop-i-preserved : goal.loop-i-preserved
-loop-i-preserved c =
-    (
-      c.lower-above.ensures.more c.loop-i.invariant.0,
-      place_more c.args.tree.now c.loop-i.i c.args.end c.args.file c.loop-i.invariant.0 c.loop-i.invariant.1
-          c.loop-i-test.true c.field-there.ensures c.if-there-file.false
-          c.lower-above.ensures
-          c.skip-i.ensures (skip_more c.args.tree.now c.loop-i.i c.args.end c.loop-i-test.true
-          c.skip-i.ensures).1,
-    )
+loop-i-preserved c = (
+  c.lower-above.ensures.more c.loop-i.invariant.0,
+  place_more c.args.tree.now c.loop-i.i c.args.end c.args.file c.loop-i.invariant.0 c.loop-i.invariant.1
+      c.loop-i-test.true c.field-there.ensures c.if-there-file.false
+      c.lower-above.ensures
+      c.skip-i.ensures (skip_more c.args.tree.now c.loop-i.i c.args.end c.loop-i-test.true
+      c.skip-i.ensures).1,
+)
 
 pub returns : goal.returns
 returns c = place_end c.args.tree.now c.loop-i.i c.args.end

@@ -1,8 +1,6 @@
 -- `book_compiler::solver::find_document` meets its contract. The invariant: what is found from here, below the bound, is found from the start. Assumes nothing.
-use Rattle.std.proofs.Common.{◌-◌, ◌<◌, arith, rules}
+use Rattle.std.proofs.Common.{◌-◌, ◌<◌}
 use Rattle.compiler_laws.specs.SolverSteps.{Skips}
-use Rattle.compiler_laws.proofs.Tokens.{skip_more}
-use Rattle.compiler_laws.proofs.WaitingBooks.{place_end, place_here, place_more}
 use Rattle.book_compiler.proofs.solver.find_document.Given as goal
 
 abbrev pub invariant-loop-i : goal.invariant-loop-i

@@ -1,11 +1,6 @@
 -- `book_compiler::solver::first_uncompiled` meets its contract. The invariant: the includes that were passed are compiled. Assumes nothing.
-use Rattle.std.proofs.Common.{◌-◌, ◌≤◌, sym, ◌∙◌, arith, rules}
-use borrow.Author.Tests.{not-true, not-false}
+use Rattle.std.proofs.Common.{◌-◌, ◌≤◌}
 use Rattle.compiler_laws.specs.SolverSteps.{ReadTo}
-use Rattle.compiler_laws.proofs.Tokens.{skip_more}
-use Rattle.compiler_laws.proofs.WaitingBooks.{read_none, read_other, read_include, uncompiled_end, uncompiled_here}
-use mathlib.Core.Path.{ap}
-use mathlib.Core.Bool.{not}
 use Rattle.book_compiler.proofs.solver.first_uncompiled.Given as goal
 
 abbrev pub invariant-loop-j : goal.invariant-loop-j

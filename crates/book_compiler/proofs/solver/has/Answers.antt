@@ -1,5 +1,5 @@
 -- `book_compiler::solver::has` meets its contract: past the words no bit is set. Assumes nothing.
-use Rattle.std.proofs.Common.{refl, rules}
+use Rattle.std.proofs.Common.{refl}
 use Rattle.compiler_laws.specs.FileSets.{bit_of}
 use Rattle.compiler_laws.proofs.SetBits.{bit_out}
 use Rattle.book_compiler.proofs.solver.has.Goals as goal

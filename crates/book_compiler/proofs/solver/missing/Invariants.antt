@@ -1,11 +1,8 @@
 -- `book_compiler::solver::missing` meets its contract. The invariant: what is missing from here is missing from the start. Assumes nothing.
-use Rattle.std.proofs.Common.{◌-◌, sym, ◌∙◌, arith}
-use borrow.Author.Tests.{not-true, not-false}
+use Rattle.std.proofs.Common.{◌-◌}
 use Rattle.building.specs.declared.scopes.Found.{Found}
 use Rattle.compiler_laws.specs.FileSets.{set_size}
-use Rattle.compiler_laws.proofs.DocumentsRead.{MissesFrom, misses_end, misses_here, misses_more, misses_none, misses_whole}
-use mathlib.Core.Path.{ap}
-use mathlib.Core.Bool.{not}
+use Rattle.compiler_laws.proofs.DocumentsRead.{MissesFrom}
 use Rattle.book_compiler.proofs.solver.missing.Given as goal
 
 abbrev pub invariant-loop-from : goal.invariant-loop-from

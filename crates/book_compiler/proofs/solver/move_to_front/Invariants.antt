@@ -1,7 +1,6 @@
 -- `book_compiler::solver::move_to_front` meets its contract. The invariant: what is brought from here is brought from the start. Assumes nothing.
-use Rattle.std.proofs.Common.{◌≡◌, ℕ, ◌-◌, List, length, refl, arith, rules}
+use Rattle.std.proofs.Common.{◌≡◌, ℕ, ◌-◌, List, length}
 use Rattle.compiler_laws.specs.SolverSteps.{Brings}
-use Rattle.compiler_laws.proofs.WaitingBooks.{bring_end, bring_more}
 use Rattle.book_compiler.proofs.solver.move_to_front.Given as goal
 
 abbrev pub invariant-loop-i : goal.invariant-loop-i

@@ -1,7 +1,6 @@
 -- `book_compiler::solver::narrow` meets its contract. The invariant: what is answered from here is answered from the start. Assumes nothing.
-use Rattle.std.proofs.Common.{◌-◌, Bool, arith, rules}
+use Rattle.std.proofs.Common.{arith}
 use borrow.Author.Tests.{not-false}
-use Rattle.compiler_laws.specs.SolverSteps.{Narrows}
 use Rattle.compiler_laws.proofs.Tokens.{skip_more}
 use Rattle.compiler_laws.proofs.DocumentsRead.{narrow_end, narrow_more, narrow_not}
 use mathlib.Core.Path.{ap}

@@ -1,7 +1,7 @@
 -- `book_compiler::solver::narrow_books` meets its contract. The invariant: what is answered from here is answered from the start. Assumes nothing.
-use Rattle.std.proofs.Common.{◌-◌, Bool, take, arith, rules}
+use Rattle.std.proofs.Common.{◌-◌, Bool, take}
 use Rattle.compiler_laws.specs.SolverSteps.{NarrowNumbers}
-use Rattle.compiler_laws.proofs.StandingNumbers.{left_from, narrow_past, narrow_none, narrow_one, narrow_wide}
+use Rattle.compiler_laws.proofs.StandingNumbers.{left_from}
 use Rattle.book_compiler.proofs.solver.narrow_books.Given as goal
 
 abbrev pub invariant-loop-i : goal.invariant-loop-i

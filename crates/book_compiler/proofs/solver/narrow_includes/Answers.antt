@@ -1,6 +1,5 @@
 -- `book_compiler::solver::narrow_includes` meets its contract. The invariant: what is answered from here is answered from the start. Assumes nothing.
-use Rattle.std.proofs.Common.{◌-◌, Bool, arith, rules}
-use Rattle.compiler_laws.specs.SolverSteps.{NarrowIncludes}
+use Rattle.std.proofs.Common.{arith}
 use Rattle.compiler_laws.proofs.Tokens.{skip_more}
 use Rattle.compiler_laws.proofs.DocumentsRead.{narrow_defs_end, narrow_defs_other, narrow_defs_more, narrow_defs_not}
 use Rattle.book_compiler.proofs.solver.narrow_includes.Goals as goal

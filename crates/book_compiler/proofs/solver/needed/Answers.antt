@@ -1,7 +1,7 @@
 -- `book_compiler::solver::needed` meets its contract. The invariant: what is needed from here is needed from the start. Assumes nothing.
-use Rattle.std.proofs.Common.{◌≡◌, ℕ, ◌-◌, List, length, refl, ap, arith, rules}
+use Rattle.std.proofs.Common.{length, refl, ap, arith}
 use Rattle.compiler_laws.proofs.Tokens.{skip_more}
-use Rattle.compiler_laws.proofs.DocumentsRead.{NeededFrom, needed_end, needed_stop, needed_more, needed_start}
+use Rattle.compiler_laws.proofs.DocumentsRead.{needed_end, needed_stop, needed_more, needed_start}
 use mathlib.Core.Bool.{not}
 use Rattle.book_compiler.proofs.solver.needed.Goals as goal
 
@@ -41,20 +41,19 @@ loop-i-smaller c =
     omega (arith, c.loop-i-test.true, skip_more c.args.tree.now c.loop-i.i c.args.end c.loop-i-test.true c.skip-i.ensures)
 
 pub loop-i-preserved : goal.loop-i-preserved
-loop-i-preserved c =
-    (
-      omega (arith, c.copy.auto.to, c.loop-i.invariant.0),
-      omega (arith, c.copy-in-loop-i.auto.to, c.loop-i.invariant.1),
-      omega (
-        arith,
-        c.reach.auto.next,
-        c.loop-i.invariant.2,
-      ),
-      λ after h. c.loop-i.invariant.3 after
-          (needed_more c.args.tree.now c.loop-i.i c.args.end c.args.standing.now c.loop-i.read c.loop-i.set c.loop-i.next
-          c.reach.ensures c.loop-i-test.true c.skip-i.ensures c.copy.ensures
-          c.copy-in-loop-i.ensures h),
-    )
+loop-i-preserved c = (
+  omega (arith, c.copy.auto.to, c.loop-i.invariant.0),
+  omega (arith, c.copy-in-loop-i.auto.to, c.loop-i.invariant.1),
+  omega (
+    arith,
+    c.reach.auto.next,
+    c.loop-i.invariant.2,
+  ),
+  λ after h. c.loop-i.invariant.3 after
+      (needed_more c.args.tree.now c.loop-i.i c.args.end c.args.standing.now c.loop-i.read c.loop-i.set c.loop-i.next
+      c.reach.ensures c.loop-i-test.true c.skip-i.ensures c.copy.ensures
+      c.copy-in-loop-i.ensures h),
+)
 
 pub shape_of-read : goal.shape_of-read
 shape_of-read c =

@@ -1,8 +1,6 @@
 -- `book_compiler::solver::needed` meets its contract. The invariant: what is needed from here is needed from the start. Assumes nothing.
-use Rattle.std.proofs.Common.{◌≡◌, ℕ, ◌-◌, List, length, refl, ap, arith, rules}
-use Rattle.compiler_laws.proofs.Tokens.{skip_more}
-use Rattle.compiler_laws.proofs.DocumentsRead.{NeededFrom, needed_end, needed_stop, needed_more, needed_start}
-use mathlib.Core.Bool.{not}
+use Rattle.std.proofs.Common.{◌≡◌, ℕ, ◌-◌, List, length}
+use Rattle.compiler_laws.proofs.DocumentsRead.{NeededFrom}
 use Rattle.book_compiler.proofs.solver.needed.Given as goal
 
 abbrev pub invariant-loop-i : goal.invariant-loop-i

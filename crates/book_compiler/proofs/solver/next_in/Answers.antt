@@ -1,6 +1,5 @@
 -- `book_compiler::solver::next_in` meets its contract. The invariant: what is next from here is next from the start. Assumes nothing.
-use Rattle.std.proofs.Common.{ℕ, ◌-◌, ◌≤◌, sym, ◌∙◌, arith, rules}
-use Rattle.compiler_laws.specs.FileSets.{NextIn, set_size}
+use Rattle.std.proofs.Common.{sym, ◌∙◌, arith}
 use Rattle.compiler_laws.proofs.SetBits.{next_more, next_here}
 use Rattle.book_compiler.proofs.solver.next_in.Goals as goal
 
@@ -18,12 +17,11 @@ pub loop-n-smaller : goal.loop-n-smaller
 loop-n-smaller c = omega (arith, c.loop-n-test.true, c.after-n.ensures.on)
 
 pub loop-n-preserved : goal.loop-n-preserved
-loop-n-preserved c =
-    (
-      c.after-n.ensures.last,
-      λ r h. c.loop-n.invariant.1 r (next_more c.args.set.now c.loop-n.n (sym
-          c.if-has.false ∙ c.has.ensures) c.after-n.ensures h),
-    )
+loop-n-preserved c = (
+  c.after-n.ensures.last,
+  λ r h. c.loop-n.invariant.1 r (next_more c.args.set.now c.loop-n.n (sym
+      c.if-has.false ∙ c.has.ensures) c.after-n.ensures h),
+)
 
 pub returns : goal.returns
 returns c = c.loop-n.invariant.1 _ (next_here c.args.set.now c.loop-n.n c.loop-n.invariant.0 (λ l. absurd

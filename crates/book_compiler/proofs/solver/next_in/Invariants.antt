@@ -1,7 +1,6 @@
 -- `book_compiler::solver::next_in` meets its contract. The invariant: what is next from here is next from the start. Assumes nothing.
-use Rattle.std.proofs.Common.{ℕ, ◌-◌, ◌≤◌, sym, ◌∙◌, arith, rules}
+use Rattle.std.proofs.Common.{ℕ, ◌-◌, ◌≤◌}
 use Rattle.compiler_laws.specs.FileSets.{NextIn, set_size}
-use Rattle.compiler_laws.proofs.SetBits.{next_more, next_here}
 use Rattle.book_compiler.proofs.solver.next_in.Given as goal
 
 abbrev pub invariant-loop-n : goal.invariant-loop-n

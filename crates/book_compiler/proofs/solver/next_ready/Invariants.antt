@@ -1,7 +1,6 @@
 -- `book_compiler::solver::next_ready` meets its contract. The invariant: what is ready from here is ready from the start. Assumes nothing.
-use Rattle.std.proofs.Common.{◌≡◌, ℕ, ◌-◌, List, length, refl, arith, rules}
+use Rattle.std.proofs.Common.{◌≡◌, ℕ, ◌-◌, List, length}
 use Rattle.compiler_laws.specs.SolverSteps.{FindsReady}
-use Rattle.compiler_laws.proofs.WaitingBooks.{ready_end, ready_here, ready_more}
 use Rattle.book_compiler.proofs.solver.next_ready.Given as goal
 
 abbrev pub invariant-loop-k : goal.invariant-loop-k

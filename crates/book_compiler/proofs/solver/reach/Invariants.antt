@@ -1,8 +1,6 @@
 -- `book_compiler::solver::reach` meets its contract. The invariant: what is reached from here is reached from the start. Assumes nothing.
-use Rattle.std.proofs.Common.{◌≡◌, ℕ, ◌-◌, Bool, List, length, sym, refl, ◌∙◌, arith, rules}
+use Rattle.std.proofs.Common.{◌≡◌, ℕ, ◌-◌, Bool, List, length}
 use Rattle.compiler_laws.specs.SolverSteps.{Reaches}
-use Rattle.compiler_laws.proofs.Tokens.{skip_more}
-use Rattle.compiler_laws.proofs.DocumentsRead.{reach_end, reach_past, reach_more}
 use Rattle.book_compiler.proofs.solver.reach.Given as goal
 
 abbrev pub invariant-loop-i : goal.invariant-loop-i

@@ -1,9 +1,7 @@
 -- `book_compiler::solver::take_books` meets its contract. The invariant: what is taken from here is taken from the start. Assumes nothing.
-use Rattle.std.proofs.Common.{◌≡◌, ℕ, ◌+◌, ◌-◌, List, length, refl, arith, rules}
-use Rattle.building.specs.declared.taking.Taken.{Taken}
+use Rattle.std.proofs.Common.{refl, arith}
 use Rattle.compiler_laws.specs.FileSets.{set_size}
-use Rattle.compiler_laws.specs.SolverSteps.{Skips}
-use Rattle.compiler_laws.proofs.WaitingBooks.{TakesFrom, takes_end, takes_full, takes_none, takes_more, takes_whole, skips_start, skips_on}
+use Rattle.compiler_laws.proofs.WaitingBooks.{takes_end, takes_full, takes_none, takes_more, takes_whole, skips_start, skips_on}
 use Rattle.book_compiler.proofs.solver.take_books.Goals as goal
 
 pub loop-from-init : goal.loop-from-init
@@ -63,16 +61,15 @@ loop-from-smaller c =
     omega (arith, c.loop-from-test.true, c.next_in-n.ensures.on, c.if-n-ge-SET_SIZE.false)
 
 pub loop-from-preserved : goal.loop-from-preserved
-loop-from-preserved c =
-    (
-      omega (arith, c.take1-t.auto.area, c.loop-from.invariant.0),
-      skips_on (omega arith) (c.find_document-place.ensures.skips (skips_on c.next_in-n.ensures.on c.loop-from.invariant.1)),
-      λ r after h. c.loop-from.invariant.2 r after
-          (takes_more c.args.tree.now c.args.end c.args.needed.now c.loop-from.from c.loop-from.t c.loop-from.books
-          c.next_in-n.ensures c.if-n-ge-SET_SIZE.false
-          (c.find_document-place.ensures.finds (skips_on c.next_in-n.ensures.on c.loop-from.invariant.1))
-          c.take1-t.ensures h),
-    )
+loop-from-preserved c = (
+  omega (arith, c.take1-t.auto.area, c.loop-from.invariant.0),
+  skips_on (omega arith) (c.find_document-place.ensures.skips (skips_on c.next_in-n.ensures.on c.loop-from.invariant.1)),
+  λ r after h. c.loop-from.invariant.2 r after
+      (takes_more c.args.tree.now c.args.end c.args.needed.now c.loop-from.from c.loop-from.t c.loop-from.books
+      c.next_in-n.ensures c.if-n-ge-SET_SIZE.false
+      (c.find_document-place.ensures.finds (skips_on c.next_in-n.ensures.on c.loop-from.invariant.1))
+      c.take1-t.ensures h),
+)
 
 pub shape_of-books : goal.shape_of-books
 shape_of-books c = c.loop-from.invariant.0

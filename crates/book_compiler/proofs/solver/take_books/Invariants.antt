@@ -1,9 +1,9 @@
 -- `book_compiler::solver::take_books` meets its contract. The invariant: what is taken from here is taken from the start. Assumes nothing.
-use Rattle.std.proofs.Common.{◌≡◌, ℕ, ◌+◌, ◌-◌, List, length, refl, arith, rules}
+use Rattle.std.proofs.Common.{◌≡◌, ℕ, ◌-◌, List, length}
 use Rattle.building.specs.declared.taking.Taken.{Taken}
 use Rattle.compiler_laws.specs.FileSets.{set_size}
 use Rattle.compiler_laws.specs.SolverSteps.{Skips}
-use Rattle.compiler_laws.proofs.WaitingBooks.{TakesFrom, takes_end, takes_full, takes_none, takes_more, takes_whole, skips_start, skips_on}
+use Rattle.compiler_laws.proofs.WaitingBooks.{TakesFrom}
 use Rattle.book_compiler.proofs.solver.take_books.Given as goal
 
 abbrev pub invariant-loop-from : goal.invariant-loop-from

@@ -1,5 +1,5 @@
 -- `book_compiler::solver::unread` meets its contract. Assumes nothing.
-use Rattle.std.proofs.Common.{sym, refl, ◌∙◌, rules}
+use Rattle.std.proofs.Common.{sym, refl, ◌∙◌}
 use Rattle.book_compiler.proofs.solver.unread.Goals as goal
 
 pub returns-then-has : goal.returns-then-has

@@ -1,7 +1,6 @@
 -- `book_compiler::solver::zeros_end` meets its contract. The invariant: the words passed are 0. Assumes nothing.
-use Rattle.std.proofs.Common.{◌-◌, length, arith, rules}
+use Rattle.std.proofs.Common.{◌-◌, length}
 use Rattle.compiler_laws.specs.FileSets.{Zeros}
-use Rattle.compiler_laws.proofs.SetBits.{zeros_none, zeros_more}
 use Rattle.book_compiler.proofs.solver.zeros_end.Given as goal
 
 abbrev pub invariant-loop-i : goal.invariant-loop-i

@@ -1,6 +1,5 @@
 -- `book_compiler::statements::begin_loop` meets its contract: the numbers of both locals count by their low bits. Assumes nothing.
 use Rattle.book_compiler.proofs.Loops.{head_acts}
-use Rattle.std.proofs.Common.{rules}
 use Rattle.book_compiler.proofs.statements.begin_loop.Goals as goal
 
 pub returns : goal.returns

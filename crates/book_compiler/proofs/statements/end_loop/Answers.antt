@@ -1,6 +1,6 @@
 -- `book_compiler::statements::end_loop` meets its contract: what was remembered stands where nothing is full. Assumes nothing.
 use Rattle.book_compiler.proofs.Loops.{end_ends}
-use Rattle.std.proofs.Common.{arith, rules}
+use Rattle.std.proofs.Common.{arith}
 use Rattle.book_compiler.proofs.statements.end_loop.Goals as goal
 
 pub shape_of-memory : goal.shape_of-memory

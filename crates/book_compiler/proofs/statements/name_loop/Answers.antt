@@ -1,6 +1,6 @@
 -- `book_compiler::statements::name_loop` meets its contract: the name's local is the definition's where nothing is full. Assumes nothing.
 use Rattle.book_compiler.proofs.Loops.{name_names}
-use Rattle.std.proofs.Common.{arith, rules}
+use Rattle.std.proofs.Common.{arith}
 use Rattle.book_compiler.proofs.statements.name_loop.Goals as goal
 
 pub shape_of-memory : goal.shape_of-memory

@@ -1,7 +1,6 @@
 -- `book_compiler::statements::rescue` meets its contract: with the mark set, inside a statement, and outside. Assumes nothing.
 use Rattle.book_compiler.specs.Members.{token}
 use Rattle.book_compiler.proofs.StatementKinds.{rescue_full, rescue_deep, rescue_here}
-use Rattle.std.proofs.Common.{rules}
 use Rattle.book_compiler.proofs.statements.rescue.Goals as goal
 
 pub returns-then-full-ne0 : goal.returns-then-full-ne0

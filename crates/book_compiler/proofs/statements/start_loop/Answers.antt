@@ -1,6 +1,5 @@
 -- `book_compiler::statements::start_loop` meets its contract: four routines do the one step. Assumes nothing.
 use Rattle.book_compiler.proofs.Loops.{start_acts}
-use Rattle.std.proofs.Common.{rules}
 use Rattle.book_compiler.proofs.statements.start_loop.Goals as goal
 
 pub returns : goal.returns

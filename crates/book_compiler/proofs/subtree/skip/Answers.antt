@@ -1,6 +1,6 @@
 -- `book_compiler::subtree::skip` meets its contract: a way for each outcome of its tests. Assumes nothing.
 use Rattle.compiler_laws.proofs.Tokens.{skip_past, skip_zero, skip_span, skip_end}
-use Rattle.std.proofs.Common.{arith, rules}
+use Rattle.std.proofs.Common.{arith}
 use Rattle.book_compiler.proofs.subtree.skip.Goals as goal
 
 pub returns-then-span-eq0 : goal.returns-then-span-eq0

@@ -1,6 +1,5 @@
 -- `building::context::add_function` meets its contract: an entry more is taken, with the function's words. Assumes nothing.
 use Rattle.building.proofs.ContextWays.{function_way}
-use Rattle.std.proofs.Common.{rules}
 use Rattle.building.proofs.context.add_function.Goals as goal
 
 pub returns : goal.returns

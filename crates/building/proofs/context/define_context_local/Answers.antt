@@ -1,6 +1,5 @@
 -- `building::context::define_context_local` meets its contract: a way for each outcome of its tests. Assumes nothing.
 use Rattle.building.proofs.ContextWays.{define_full, define_there, define_new}
-use Rattle.std.proofs.Common.{rules}
 use Rattle.building.proofs.context.define_context_local.Goals as goal
 
 pub returns-then-full-ne0 : goal.returns-then-full-ne0

@@ -1,9 +1,7 @@
 -- `building::context::find_context_local` meets its contract. The invariant: what is found from the book's first on is what is found from here on.
 -- The measure is what is left of the count. Where the area holds them all, `find_within` answers. Assumes nothing.
-use Rattle.std.proofs.Common.{◌≡◌, ◌-◌, sym, refl, ◌∙◌, arith, rules, eq-eqb, ne_eqb}
-use Rattle.words.specs.Areas.{entry_field}
+use Rattle.std.proofs.Common.{◌≡◌, ◌-◌}
 use Rattle.building.specs.Found.{is_named, first_from}
-use Rattle.building.proofs.OldestFirst.{first_here, first_next, first_end}
 use Rattle.building.proofs.context.find_context_local.Given as goal
 
 abbrev pub invariant-loop-i : goal.invariant-loop-i

@@ -1,5 +1,5 @@
 -- `building::context::find_within` meets its contract: the first that has the name, or none of them. Assumes nothing.
-use Rattle.std.proofs.Common.{◌≡◌, ◌-◌, sym, refl, ◌∙◌, arith, rules, eq-eqb}
+use Rattle.std.proofs.Common.{◌-◌, sym, refl, ◌∙◌, arith, eq-eqb}
 use Rattle.words.specs.Areas.{entry_field}
 use Rattle.words.proofs.Entries.{field_in}
 use Rattle.building.specs.Found.{is_named}

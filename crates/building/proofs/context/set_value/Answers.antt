@@ -1,6 +1,5 @@
 -- `building::context::set_value` meets its contract: a way for each outcome of its tests. Assumes nothing.
 use Rattle.building.proofs.ContextWays.{value_full, value_past, value_in}
-use Rattle.std.proofs.Common.{rules}
 use Rattle.building.proofs.context.set_value.Goals as goal
 
 pub returns-then-full-ne0 : goal.returns-then-full-ne0

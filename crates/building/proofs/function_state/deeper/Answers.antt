@@ -1,5 +1,5 @@
 -- `building::function_state::deeper` meets its contract: with the mark set, nothing; at the greatest depth it stays. Assumes nothing.
-use Rattle.std.proofs.Common.{◌≡◌, ◌+◌, min, arith, rules, eq-eqb, ne_eqb}
+use Rattle.std.proofs.Common.{◌≡◌, ◌+◌, min, arith, eq-eqb, ne_eqb}
 use Rattle.building.specs.State.{most_depth}
 use Rattle.building.proofs.function_state.deeper.Goals as goal
 

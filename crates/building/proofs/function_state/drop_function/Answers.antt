@@ -1,6 +1,5 @@
 -- `building::function_state::drop_function` meets its contract: its entries are given up. Assumes nothing.
 use Rattle.building.proofs.Emitting.{drop_full, drop_more}
-use Rattle.std.proofs.Common.{rules}
 use Rattle.building.proofs.function_state.drop_function.Goals as goal
 
 pub returns-then-state-ne0 : goal.returns-then-state-ne0

@@ -1,7 +1,6 @@
 -- `building::function_state::emit` meets its contract: an entry of area 1 is taken. Assumes nothing.
 use Rattle.words.specs.Codes.{code_word}
 use Rattle.building.proofs.Emitting.{emit_meets}
-use Rattle.std.proofs.Common.{rules}
 use Rattle.building.proofs.function_state.emit.Goals as goal
 
 pub returns : goal.returns

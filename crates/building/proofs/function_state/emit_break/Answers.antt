@@ -1,6 +1,5 @@
 -- `building::function_state::emit_break` meets its contract: in a loop a Jump, and an entry of area 10 for it. Assumes nothing.
 use Rattle.building.proofs.Emitting.{break_out, break_in_lem}
-use Rattle.std.proofs.Common.{rules}
 use Rattle.building.proofs.function_state.emit_break.Goals as goal
 
 pub returns-then-state : goal.returns-then-state

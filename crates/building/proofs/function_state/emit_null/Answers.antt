@@ -1,7 +1,6 @@
 -- `building::function_state::emit_null` meets its contract, by `emit`. Assumes nothing.
 use Rattle.building.specs.Emission.{coded}
 use Rattle.building.proofs.Emitting.{null_meets}
-use Rattle.std.proofs.Common.{rules}
 use Rattle.building.proofs.function_state.emit_null.Goals as goal
 
 pub returns : goal.returns

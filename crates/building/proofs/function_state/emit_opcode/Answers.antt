@@ -1,5 +1,4 @@
 -- `building::function_state::emit_opcode` meets its contract, by `emit`. Assumes nothing.
-use Rattle.std.proofs.Common.{rules}
 use Rattle.building.proofs.function_state.emit_opcode.Goals as goal
 
 pub returns : goal.returns

@@ -1,5 +1,4 @@
 -- `building::function_state::emit_opcode_without_position` meets its contract, by `emit_opcode`. Assumes nothing.
-use Rattle.std.proofs.Common.{rules}
 use Rattle.building.proofs.function_state.emit_opcode_without_position.Goals as goal
 
 pub returns : goal.returns

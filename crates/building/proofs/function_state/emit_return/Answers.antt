@@ -1,5 +1,5 @@
 -- `building::function_state::emit_return` meets its contract: by the last opcode after `remove_pop_or_push_null`. Assumes nothing.
-use Rattle.std.proofs.Common.{sym, ◌∙◌, rules}
+use Rattle.std.proofs.Common.{sym, ◌∙◌}
 use Rattle.building.specs.Emission.{coded}
 use Rattle.building.proofs.Emitting.{return_there, return_more}
 use Rattle.building.proofs.function_state.emit_return.Goals as goal

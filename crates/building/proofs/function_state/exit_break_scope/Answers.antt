@@ -1,6 +1,6 @@
 -- `building::function_state::exit_break_scope` meets its contract: with the mark set nothing, else by `patch_breaks` and `give_up`. Assumes nothing.
 use Rattle.building.proofs.Emitting.{exit_full, exit_more}
-use Rattle.std.proofs.Common.{arith, rules}
+use Rattle.std.proofs.Common.{arith}
 use Rattle.building.proofs.function_state.exit_break_scope.Goals as goal
 
 pub returns-then-state-ne0 : goal.returns-then-state-ne0

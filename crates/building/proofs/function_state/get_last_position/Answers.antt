@@ -1,5 +1,5 @@
 -- `building::function_state::get_last_position` meets its contract: the last entry, or none. Assumes nothing.
-use Rattle.std.proofs.Common.{rules, le-ltb, lt-ltb}
+use Rattle.std.proofs.Common.{le-ltb, lt-ltb}
 use Rattle.building.proofs.function_state.get_last_position.Goals as goal
 
 pub returns-then-state-count : goal.returns-then-state-count

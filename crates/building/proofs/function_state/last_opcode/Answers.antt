@@ -1,5 +1,5 @@
 -- `building::function_state::last_opcode` meets its contract: the last entry, or none. Assumes nothing.
-use Rattle.std.proofs.Common.{◌/◌, ◌^◌, ap, rules, le-ltb, lt-ltb}
+use Rattle.std.proofs.Common.{le-ltb, lt-ltb}
 use Rattle.building.proofs.function_state.last_opcode.Goals as goal
 
 pub returns-then-state-count : goal.returns-then-state-count

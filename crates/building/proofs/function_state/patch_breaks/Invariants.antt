@@ -1,10 +1,8 @@
 -- `building::function_state::patch_breaks` meets its contract. The invariant: what is left to patch from i is what was to patch at first. The measure
 -- is the breaks that are left. Assumes nothing.
-use Rattle.std.proofs.Common.{◌≡◌, ◌+◌, ◌-◌, length, sym, refl, ◌∙◌, arith, rules}
-use Rattle.words.specs.Opcode.{word, to_instruction, Jump}
+use Rattle.std.proofs.Common.{◌≡◌, ◌-◌, length}
 use Rattle.words.specs.Codes.{code_word}
-use Rattle.building.specs.Emission.{patch_c, next_c}
-use Rattle.building.proofs.Emitting.{patch_turn, patch_end}
+use Rattle.building.specs.Emission.{patch_c}
 use Rattle.building.proofs.function_state.patch_breaks.Given as goal
 
 abbrev pub invariant-loop-i : goal.invariant-loop-i

@@ -1,5 +1,4 @@
 -- `building::function_state::pop_last` meets its contract: zeros over the last entry. Assumes nothing.
-use Rattle.std.proofs.Common.{rules}
 use Rattle.building.proofs.function_state.pop_last.Goals as goal
 
 pub returns : goal.returns

@@ -1,5 +1,5 @@
 -- `building::function_state::remove_pop_or_push_null` meets its contract: by the last opcode. Assumes nothing.
-use Rattle.std.proofs.Common.{sym, ◌∙◌, rules}
+use Rattle.std.proofs.Common.{sym, ◌∙◌}
 use Rattle.building.specs.Emission.{coded}
 use Rattle.building.proofs.Emitting.{has_last, remove_full, remove_pop, remove_return, remove_null}
 use Rattle.building.proofs.function_state.remove_pop_or_push_null.Goals as goal

@@ -1,7 +1,6 @@
 -- `building::function_state::replace_instruction` meets its contract: by the index. Assumes nothing.
 use Rattle.words.specs.Codes.{code_word}
 use Rattle.building.proofs.Emitting.{replace_full, replace_in, replace_out}
-use Rattle.std.proofs.Common.{rules}
 use Rattle.building.proofs.function_state.replace_instruction.Goals as goal
 
 pub returns-then-state-ne0 : goal.returns-then-state-ne0

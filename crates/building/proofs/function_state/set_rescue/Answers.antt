@@ -1,5 +1,5 @@
 -- `building::function_state::set_rescue` meets its contract: with the mark set, nothing. Assumes nothing.
-use Rattle.std.proofs.Common.{rules, eq-eqb, ne_eqb}
+use Rattle.std.proofs.Common.{eq-eqb, ne_eqb}
 use Rattle.building.proofs.function_state.set_rescue.Goals as goal
 
 pub returns-then-state-ne0 : goal.returns-then-state-ne0

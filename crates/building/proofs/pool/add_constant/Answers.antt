@@ -1,6 +1,5 @@
 -- `building::pool::add_constant` meets its contract: a way for each outcome of its tests. Assumes nothing.
 use Rattle.building.proofs.PoolWays.{add_full, add_found, add_new, add_plain}
-use Rattle.std.proofs.Common.{rules}
 use Rattle.building.proofs.pool.add_constant.Goals as goal
 
 pub returns-then-state-ne0 : goal.returns-then-state-ne0

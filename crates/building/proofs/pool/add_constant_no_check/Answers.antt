@@ -1,6 +1,5 @@
 -- `building::pool::add_constant_no_check` meets its contract: an entry more is taken. Assumes nothing.
 use Rattle.building.proofs.PoolWays.{no_check_way}
-use Rattle.std.proofs.Common.{rules}
 use Rattle.building.proofs.pool.add_constant_no_check.Goals as goal
 
 pub returns : goal.returns

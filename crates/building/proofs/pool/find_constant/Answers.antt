@@ -1,8 +1,8 @@
 -- `building::pool::find_constant` meets its contract. The invariant: what is found from the first constant on is what is found from here on.
 -- The measure is what is left of the count. Where the area holds them all, `find_within` answers. Assumes nothing.
-use Rattle.std.proofs.Common.{◌≡◌, ◌-◌, sym, ◌∙◌, arith}
+use Rattle.std.proofs.Common.{sym, ◌∙◌}
 use Rattle.words.specs.Object.{constant_of}
-use Rattle.building.specs.Found.{is_constant, first_from}
+use Rattle.building.specs.Found.{is_constant}
 use Rattle.building.proofs.OldestFirst.{first_start, first_here, first_next, first_end}
 use Rattle.building.proofs.pool.find_constant.Goals as goal
 

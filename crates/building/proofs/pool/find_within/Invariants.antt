@@ -1,11 +1,8 @@
 -- `building::pool::find_within` meets its contract. The invariant: what is found from the first constant on is what is found from here on.
 -- The measure is what is left of the entries. Assumes nothing.
-use Rattle.std.proofs.Common.{◌≡◌, ◌-◌, sym, refl, ◌∙◌, arith, rules, eq-eqb}
-use Rattle.words.proofs.Entries.{field_in}
+use Rattle.std.proofs.Common.{◌≡◌, ◌-◌}
 use Rattle.words.specs.Object.{constant_of}
 use Rattle.building.specs.Found.{is_constant, first_from}
-use Rattle.building.proofs.OldestFirst.{first_start, first_here, first_next, first_end}
-use Rattle.building.proofs.PoolWays.{kinds_differ, kinds_agree, values_passed}
 use Rattle.building.proofs.pool.find_within.Given as goal
 
 abbrev pub invariant-loop-i : goal.invariant-loop-i

@@ -1,6 +1,5 @@
 -- `building::pool::mark_global` meets its contract: a way for each outcome of its tests. Assumes nothing.
 use Rattle.building.proofs.PoolWays.{mark_full, mark_past, mark_in}
-use Rattle.std.proofs.Common.{rules}
 use Rattle.building.proofs.pool.mark_global.Goals as goal
 
 pub returns-then-state-ne0 : goal.returns-then-state-ne0

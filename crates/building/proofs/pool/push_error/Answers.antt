@@ -1,6 +1,5 @@
 -- `building::pool::push_error` meets its contract: an entry more is taken. Assumes nothing.
 use Rattle.building.proofs.PoolWays.{push_way}
-use Rattle.std.proofs.Common.{rules}
 use Rattle.building.proofs.pool.push_error.Goals as goal
 
 pub returns : goal.returns

@@ -1,6 +1,5 @@
 -- `building::pool::same_constant` meets its contract: its two words are read and compared. Assumes nothing.
 use Rattle.building.proofs.PoolWays.{kinds_differ, kinds_agree}
-use Rattle.std.proofs.Common.{rules}
 use Rattle.building.proofs.pool.same_constant.Goals as goal
 
 pub returns-then-kind-kind_there : goal.returns-then-kind-kind_there

@@ -1,6 +1,5 @@
 -- `building::scopes::define_local` meets its contract, by the mark and by what the innermost scope's names give. Assumes nothing.
 use Rattle.building.proofs.Naming.{define_marked, define_known, define_new}
-use Rattle.std.proofs.Common.{rules}
 use Rattle.building.proofs.scopes.define_local.Goals as goal
 
 pub returns-then-state-ne0 : goal.returns-then-state-ne0

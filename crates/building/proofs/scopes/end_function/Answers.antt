@@ -1,6 +1,5 @@
 -- `building::scopes::end_function` meets its contract, by the mark. Assumes nothing.
 use Rattle.building.proofs.Naming.{end_marked, end_meets}
-use Rattle.std.proofs.Common.{rules}
 use Rattle.building.proofs.scopes.end_function.Goals as goal
 
 pub returns-then-s-ne0 : goal.returns-then-s-ne0

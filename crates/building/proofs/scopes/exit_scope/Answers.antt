@@ -1,6 +1,6 @@
 -- `building::scopes::exit_scope` meets its contract, by the mark and by where the scope starts. Assumes nothing.
 use Rattle.building.proofs.Naming.{exit_marked, exit_meets}
-use Rattle.std.proofs.Common.{arith, rules}
+use Rattle.std.proofs.Common.{arith}
 use Rattle.building.proofs.scopes.exit_scope.Goals as goal
 
 pub returns-then-s-ne0 : goal.returns-then-s-ne0

@@ -1,6 +1,5 @@
 -- `building::scopes::find_local` meets its contract: all live names are searched. Assumes nothing.
 use native.Mathlib.Nat.{sub-zero}
-use Rattle.std.proofs.Common.{rules}
 use Rattle.building.proofs.scopes.find_local.Goals as goal
 
 pub returns : goal.returns

@@ -1,7 +1,6 @@
 -- `building::scopes::find_narrow` meets its contract. The invariant: an entry ends at the word, in the area, and what is left to search answers what was
 -- asked. The measure is how much is left. Assumes nothing.
-use Rattle.std.proofs.Common.{◌≡◌, ◌-◌, ◌*◌, ◌/◌, ◌%◌, ◌≤◌, refl, arith, rules}
-use Rattle.building.specs.Found.{find_newest}
+use Rattle.std.proofs.Common.{◌/◌, refl, arith}
 use Rattle.building.proofs.NewestFirst.{narrow_none, narrow_here, narrow_wide, narrow_beyond, narrow_inside, newest_next, ends_at, word_in_lem, next_at}
 use Rattle.building.proofs.scopes.find_narrow.Goals as goal
 
@@ -37,17 +36,16 @@ returns-then-names-at c =
     (word_in_lem c.args.names.now c.loop-at.at 1 c.loop-at.invariant.1 (omega arith) (omega arith) (omega arith)) c.if-local-le-MOST_NARROW.false)
 
 pub loop-at-preserved : goal.loop-at-preserved
-loop-at-preserved c =
-    (
-      omega arith,
-      omega arith,
-      next_at _ c.args.from c.loop-at.at c.args.name c.args.names.now
-          c.loop-at.invariant.1 (omega arith)
-          (newest_next _ c.args.from (c.loop-at.at / 2) c.args.name c.args.names.now
-          c.loop-at.invariant.2 _ (omega arith)
-          (word_in_lem c.args.names.now c.loop-at.at 0 c.loop-at.invariant.1 (omega arith) (omega arith) (omega arith))
-          c.if-names-at.false),
-    )
+loop-at-preserved c = (
+  omega arith,
+  omega arith,
+  next_at _ c.args.from c.loop-at.at c.args.name c.args.names.now
+      c.loop-at.invariant.1 (omega arith)
+      (newest_next _ c.args.from (c.loop-at.at / 2) c.args.name c.args.names.now
+      c.loop-at.invariant.2 _ (omega arith)
+      (word_in_lem c.args.names.now c.loop-at.at 0 c.loop-at.invariant.1 (omega arith) (omega arith) (omega arith))
+      c.if-names-at.false),
+)
 
 pub returns : goal.returns
 returns c = narrow_inside c.args.from c.args.end

@@ -1,8 +1,7 @@
 -- `building::scopes::find_narrow` meets its contract. The invariant: an entry ends at the word, in the area, and what is left to search answers what was
 -- asked. The measure is how much is left. Assumes nothing.
-use Rattle.std.proofs.Common.{◌≡◌, ◌-◌, ◌*◌, ◌/◌, ◌%◌, ◌≤◌, refl, arith, rules}
+use Rattle.std.proofs.Common.{◌≡◌, ◌-◌, ◌*◌, ◌/◌, ◌%◌, ◌≤◌}
 use Rattle.building.specs.Found.{find_newest}
-use Rattle.building.proofs.NewestFirst.{narrow_none, narrow_here, narrow_wide, narrow_beyond, narrow_inside, newest_next, ends_at, word_in_lem, next_at}
 use Rattle.building.proofs.scopes.find_narrow.Given as goal
 
 abbrev pub invariant-loop-at : goal.invariant-loop-at

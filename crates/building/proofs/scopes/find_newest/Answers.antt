@@ -1,7 +1,6 @@
 -- `building::scopes::find_newest` meets its contract. The invariant: what is left to search answers what was asked. The measure is how much is left.
 -- Where the area holds every entry and nothing is past 32 bits, `find_narrow` answers. Assumes nothing.
-use Rattle.std.proofs.Common.{◌≡◌, ◌-◌, refl, arith, rules}
-use Rattle.building.specs.Found.{find_newest}
+use Rattle.std.proofs.Common.{refl}
 use Rattle.building.proofs.NewestFirst.{newest_none, newest_here, newest_next}
 use Rattle.building.proofs.NarrowAgrees.{narrow_at, narrow_nothing}
 use Rattle.building.proofs.scopes.find_newest.Goals as goal

@@ -1,6 +1,5 @@
 -- `building::scopes::insert` meets its contract: an entry is taken, then a local is counted. Assumes nothing.
 use Rattle.building.proofs.Naming.{insert_meets}
-use Rattle.std.proofs.Common.{rules}
 use Rattle.building.proofs.scopes.insert.Goals as goal
 
 pub returns : goal.returns

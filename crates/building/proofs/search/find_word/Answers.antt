@@ -1,7 +1,6 @@
 -- `building::search::find_word` meets its contract. The invariant: none of the entries passed over has the value. The measure is what is left
 -- of the entries. Assumes nothing.
-use Rattle.std.proofs.Common.{◌-◌, arith, rules}
-use Rattle.building.specs.Found.{Passes}
+use Rattle.std.proofs.Common.{arith}
 use Rattle.building.proofs.Passing.{one, pass_next}
 use Rattle.building.proofs.search.find_word.Goals as goal
 

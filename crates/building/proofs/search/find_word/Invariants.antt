@@ -1,8 +1,7 @@
 -- `building::search::find_word` meets its contract. The invariant: none of the entries passed over has the value. The measure is what is left
 -- of the entries. Assumes nothing.
-use Rattle.std.proofs.Common.{◌-◌, arith, rules}
+use Rattle.std.proofs.Common.{◌-◌}
 use Rattle.building.specs.Found.{Passes}
-use Rattle.building.proofs.Passing.{one, pass_next}
 use Rattle.building.proofs.search.find_word.Given as goal
 
 abbrev pub invariant-loop-i : goal.invariant-loop-i

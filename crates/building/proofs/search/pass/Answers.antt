@@ -1,7 +1,6 @@
 -- `building::search::pass` meets its contract. The invariant: none of the entries passed over has the value. The measure is what is left of
 -- the entries. Assumes nothing.
-use Rattle.std.proofs.Common.{◌-◌, arith}
-use Rattle.building.specs.Found.{Passes}
+use Rattle.std.proofs.Common.{arith}
 use Rattle.building.proofs.Passing.{turn, pass_start, pass_four}
 use Rattle.building.proofs.search.pass.Goals as goal
 

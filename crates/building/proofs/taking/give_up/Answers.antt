@@ -1,17 +1,15 @@
 -- `building::taking::give_up` meets its contract. The loop's invariant: clearing from i what stands there is clearing what stood there at first.
 -- The measure is the words that are left. Assumes nothing.
-use Rattle.std.proofs.Common.{◌≡◌, ◌+◌, ◌-◌, ◌≤◌, length, sym, refl, ◌∙◌, arith, length-set, rules}
-use Rattle.building.specs.Taking.{zeroed, start_of, given_up}
+use Rattle.std.proofs.Common.{length, sym, refl, ◌∙◌, length-set}
 use Rattle.building.proofs.Room.{start_inside, given_up_lem, zero_turn, zero_end}
 use Rattle.building.proofs.taking.give_up.Goals as goal
 
 pub loop-i-init : goal.loop-i-init
-loop-i-init c =
-    (
-      refl,
-      rw c.start_of-end.ensures (start_inside c.args.width c.args.count (length c.args.area.now)),
-      rw (c.start_of-i.ensures, c.start_of-end.ensures) (given_up_lem c.args.area.now c.args.width c.args.from c.args.count),
-    )
+loop-i-init c = (
+  refl,
+  rw c.start_of-end.ensures (start_inside c.args.width c.args.count (length c.args.area.now)),
+  rw (c.start_of-i.ensures, c.start_of-end.ensures) (given_up_lem c.args.area.now c.args.width c.args.from c.args.count),
+)
 
 pub loop-i-preserved : goal.loop-i-preserved
 loop-i-preserved c = (

@@ -1,8 +1,7 @@
 -- `building::taking::give_up` meets its contract. The loop's invariant: clearing from i what stands there is clearing what stood there at first.
 -- The measure is the words that are left. Assumes nothing.
-use Rattle.std.proofs.Common.{◌≡◌, ◌+◌, ◌-◌, ◌≤◌, length, sym, refl, ◌∙◌, arith, length-set, rules}
-use Rattle.building.specs.Taking.{zeroed, start_of, given_up}
-use Rattle.building.proofs.Room.{start_inside, given_up_lem, zero_turn, zero_end}
+use Rattle.std.proofs.Common.{◌≡◌, ◌-◌, ◌≤◌, length}
+use Rattle.building.specs.Taking.{zeroed, given_up}
 use Rattle.building.proofs.taking.give_up.Given as goal
 
 abbrev pub invariant-loop-i : goal.invariant-loop-i

@@ -1,5 +1,5 @@
 -- `building::taking::take4` meets its contract: by each way through the tests. Assumes nothing.
-use Rattle.std.proofs.Common.{[], ◌∷◌, refl, arith, lit<, lit≤, rules}
+use Rattle.std.proofs.Common.{[], ◌∷◌, refl, arith, lit<, lit≤}
 use Rattle.building.proofs.Room.{took_full, took_more, took_none}
 use Rattle.building.proofs.taking.take4.Goals as goal
 

@@ -1,11 +1,9 @@
 -- `constant_slots::plain::find` meets its contract. The invariant: what is found from the first constant on is what is found from here on.
 -- The measure is what is left of the count. Where the area holds them all, `find_within` answers. Assumes nothing.
-use mathlib.Core.Path.{◌≡◌, sym, ◌∙◌}
-use Prim.Native.Nat.{◌-◌}
+use mathlib.Core.Path.{sym, ◌∙◌}
 use Rattle.words.specs.Object.{constant_of}
-use Rattle.constant_slots.specs.Plain.{is_constant, first_from}
+use Rattle.constant_slots.specs.Plain.{is_constant}
 use Rattle.constant_slots.proofs.PlainWays.{first_start, first_here, first_next, first_end}
-use native.Mathlib.Omega.{arith}
 use Rattle.constant_slots.proofs.plain.find.Goals as goal
 
 pub returns-then-count-constants : goal.returns-then-count-constants

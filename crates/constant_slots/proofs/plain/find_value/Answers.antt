@@ -1,9 +1,6 @@
 -- `constant_slots::plain::find_value` meets its contract. The invariant: none of the entries passed over has the value. The measure is what is left
 -- of the entries. Assumes nothing.
-use Prim.Native.Nat.{◌-◌}
-use Rattle.constant_slots.specs.Plain.{Passes}
 use Rattle.constant_slots.proofs.PlainWays.{pass_next}
-use borrow.Author.Rules.{rules}
 use native.Mathlib.Omega.{arith}
 use Rattle.constant_slots.proofs.plain.find_value.Goals as goal
 

@@ -2,9 +2,6 @@
 -- of the entries. Assumes nothing.
 use Prim.Native.Nat.{◌-◌}
 use Rattle.constant_slots.specs.Plain.{Passes}
-use Rattle.constant_slots.proofs.PlainWays.{pass_next}
-use borrow.Author.Rules.{rules}
-use native.Mathlib.Omega.{arith}
 use Rattle.constant_slots.proofs.plain.find_value.Given as goal
 
 abbrev pub invariant-loop-i : goal.invariant-loop-i

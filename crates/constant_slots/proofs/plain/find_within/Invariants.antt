@@ -1,14 +1,9 @@
 -- `constant_slots::plain::find_within` meets its contract. The invariant: what is found from the first constant on is what is found from here on.
 -- The measure is what is left of the entries. Assumes nothing.
-use mathlib.Core.Path.{◌≡◌, refl, sym, ◌∙◌}
+use mathlib.Core.Path.{◌≡◌}
 use Prim.Native.Nat.{◌-◌}
-use borrow.Author.Tests.{eq-eqb}
-use Rattle.words.proofs.Entries.{field_in}
 use Rattle.words.specs.Object.{constant_of}
 use Rattle.constant_slots.specs.Plain.{is_constant, first_from}
-use Rattle.constant_slots.proofs.PlainWays.{first_start, first_here, first_next, first_end, kinds_differ, kinds_agree, values_passed}
-use borrow.Author.Rules.{rules}
-use native.Mathlib.Omega.{arith}
 use Rattle.constant_slots.proofs.plain.find_within.Given as goal
 
 abbrev pub invariant-loop-i : goal.invariant-loop-i

@@ -1,7 +1,5 @@
 -- `constant_slots::plain::pass` meets its contract. The invariant: none of the entries passed over has the value. The measure is what is left of
 -- the entries. Assumes nothing.
-use Prim.Native.Nat.{◌-◌}
-use Rattle.constant_slots.specs.Plain.{Passes}
 use Rattle.constant_slots.proofs.PlainWays.{pass_start, pass_four}
 use native.Mathlib.Omega.{arith}
 use Rattle.constant_slots.proofs.plain.pass.Goals as goal

@@ -2,8 +2,6 @@
 -- the entries. Assumes nothing.
 use Prim.Native.Nat.{◌-◌}
 use Rattle.constant_slots.specs.Plain.{Passes}
-use Rattle.constant_slots.proofs.PlainWays.{pass_start, pass_four}
-use native.Mathlib.Omega.{arith}
 use Rattle.constant_slots.proofs.plain.pass.Given as goal
 
 abbrev pub invariant-loop-i : goal.invariant-loop-i

@@ -1,6 +1,5 @@
 -- `constant_slots::plain::same_constant` meets its contract: its two words are read and compared. Assumes nothing.
 use Rattle.constant_slots.proofs.PlainWays.{kinds_differ, kinds_agree}
-use borrow.Author.Rules.{rules}
 use Rattle.constant_slots.proofs.plain.same_constant.Goals as goal
 
 pub returns-then-kind-kind_there : goal.returns-then-kind-kind_there

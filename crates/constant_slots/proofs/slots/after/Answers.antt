@@ -2,7 +2,6 @@
 use Prim.Native.Nat.{◌+◌}
 use mathlib.Core.Path.{refl}
 use borrow.Author.Tests.{lt-ltb, le-ltb}
-use borrow.Author.Rules.{rules}
 use Rattle.constant_slots.proofs.slots.after.Goals as goal
 
 pub returns-then-p-n : goal.returns-then-p-n

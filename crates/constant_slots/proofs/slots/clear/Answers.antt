@@ -1,8 +1,6 @@
 -- `constant_slots::slots::clear` meets its contract: zeros from word 0 on are all zeros. Assumes nothing.
-use mathlib.Core.Path.{◌∙◌, ap}
 use native.Mathlib.Nat.{sub-zero}
-use lib.ListN.{length, replicate}
-use borrow.Author.Rules.{rules}
+use lib.ListN.{length}
 use Rattle.constant_slots.proofs.slots.clear.Goals as goal
 
 pub returns : goal.returns

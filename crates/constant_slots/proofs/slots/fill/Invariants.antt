@@ -1,13 +1,10 @@
 -- `constant_slots::slots::fill` meets its contract. The invariant: the table is what filling anew with the constants so far gives. The measure is what is left
 -- of them. Assumes nothing.
 use Prim.Native.Nat.{◌-◌, ◌≤◌}
-use mathlib.Core.Path.{◌≡◌, refl}
+use mathlib.Core.Path.{◌≡◌}
 use lib.ListN.{length}
 use Rattle.constant_slots.specs.Plain.{pool_of}
 use Rattle.constant_slots.specs.Slots.{slots_of}
-use Rattle.constant_slots.proofs.Filling.{filled_start, filled_again, filled_last, filled_early}
-use borrow.Author.Rules.{rules}
-use native.Mathlib.Omega.{arith}
 use Rattle.constant_slots.proofs.slots.fill.Given as goal
 
 abbrev pub invariant-loop-i : goal.invariant-loop-i

@@ -5,7 +5,6 @@ use borrow.Author.Tests.{le-leb, lt-leb}
 use Rattle.words.specs.Object.{constant_of}
 use Rattle.constant_slots.specs.Slots.{look, looked_of, is_in_pool}
 use Rattle.constant_slots.proofs.Homes.{home_below}
-use borrow.Author.Rules.{rules}
 use native.Mathlib.Omega.{arith}
 use Rattle.constant_slots.proofs.slots.find.Goals as goal
 

@@ -1,13 +1,8 @@
 -- `constant_slots::slots::first_empty` meets its contract. The invariant: the first empty slot from here on is the first from the home on. The measure is
 -- the slots not looked at. Assumes nothing.
-use Prim.Native.Nat.{◌-◌, ◌<◌, ◌≤◌}
-use mathlib.Core.Path.{◌≡◌}
 use lib.ListN.{length}
-use Rattle.constant_slots.specs.Slots.{first_empty}
 use Rattle.constant_slots.proofs.Rounds.{after_below}
 use Rattle.constant_slots.proofs.SlotWays.{empty_start, empty_here, empty_next, empty_end}
-use borrow.Author.Rules.{rules}
-use native.Mathlib.Omega.{arith}
 use Rattle.constant_slots.proofs.slots.first_empty.Goals as goal
 
 pub loop-looked-init : goal.loop-looked-init

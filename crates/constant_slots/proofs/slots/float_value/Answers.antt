@@ -1,7 +1,6 @@
 -- `constant_slots::slots::float_value` meets its contract: bits that are shifted to the right and back are a multiple of the grain. Assumes nothing.
 use Rattle.constant_slots.specs.Home.{first_prime, second_prime}
 use Rattle.constant_slots.proofs.SlotWays.{product_fits, zeros_small, value_of_round, value_of_other}
-use borrow.Author.Rules.{rules}
 use native.Mathlib.Omega.{arith}
 use Rattle.constant_slots.proofs.slots.float_value.Goals as goal
 

@@ -1,7 +1,6 @@
 -- `constant_slots::slots::has` meets its contract, by its test. Assumes nothing.
-use mathlib.Core.Path.{refl, ◌∙◌}
+use mathlib.Core.Path.{refl}
 use borrow.Author.Tests.{lt-ltb, le-ltb}
-use borrow.Author.Rules.{rules}
 use Rattle.constant_slots.proofs.slots.has.Goals as goal
 
 pub returns-then-i-count : goal.returns-then-i-count

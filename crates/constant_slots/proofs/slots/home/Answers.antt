@@ -2,7 +2,6 @@
 use Rattle.words.specs.Object.{constant_of}
 use Rattle.constant_slots.specs.Home.{home}
 use Rattle.constant_slots.proofs.SlotWays.{spread_below, stride_small, spread_fits, kind_fits}
-use borrow.Author.Rules.{rules}
 use native.Mathlib.Omega.{arith}
 use Rattle.constant_slots.proofs.slots.home.Goals as goal
 

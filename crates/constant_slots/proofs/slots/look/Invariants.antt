@@ -1,14 +1,10 @@
 -- `constant_slots::slots::look` meets its contract. The invariant: what is answered from here on is what is answered from the home on. The measure is the
 -- slots not looked at. Assumes nothing.
-use Prim.Native.Nat.{◌-◌, ◌<◌, ◌≤◌}
-use mathlib.Core.Path.{◌≡◌, sym, ◌∙◌}
+use Prim.Native.Nat.{◌-◌, ◌<◌}
+use mathlib.Core.Path.{◌≡◌}
 use lib.ListN.{length}
 use Rattle.words.specs.Object.{constant_of}
 use Rattle.constant_slots.specs.Slots.{look, is_in_pool}
-use Rattle.constant_slots.proofs.Rounds.{after_below}
-use Rattle.constant_slots.proofs.SlotWays.{look_start, look_empty, look_here, look_next, look_end}
-use borrow.Author.Rules.{rules}
-use native.Mathlib.Omega.{arith}
 use Rattle.constant_slots.proofs.slots.look.Given as goal
 
 abbrev pub invariant-loop-looked : goal.invariant-loop-looked

@@ -5,7 +5,6 @@ use Rattle.words.specs.Object.{constant_of}
 use Rattle.constant_slots.specs.Slots.{first_empty}
 use Rattle.constant_slots.proofs.Homes.{home_below}
 use Rattle.constant_slots.proofs.SlotWays.{put_most, put_nowhere, put_in, put_past}
-use borrow.Author.Rules.{rules}
 use native.Mathlib.Omega.{arith}
 use Rattle.constant_slots.proofs.slots.put.Goals as goal
 

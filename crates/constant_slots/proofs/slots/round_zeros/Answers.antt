@@ -1,6 +1,5 @@
 -- `constant_slots::slots::round_zeros` meets its contract: a word begins with at most 64 zeros. Assumes nothing.
 use lib.Count.{leading_le}
-use borrow.Author.Rules.{rules}
 use native.Mathlib.Omega.{arith}
 use Rattle.constant_slots.proofs.slots.round_zeros.Goals as goal
 

@@ -1,7 +1,6 @@
 -- `constant_slots::slots::spread_value` meets its contract, by its test. Assumes nothing.
 use mathlib.Core.Path.{refl}
 use borrow.Author.Tests.{eq-eqb, ne_eqb}
-use borrow.Author.Rules.{rules}
 use Rattle.constant_slots.proofs.slots.spread_value.Goals as goal
 
 pub returns-then-kind-eq-FLOAT : goal.returns-then-kind-eq-FLOAT

@@ -3,6 +3,7 @@ use mathlib.Core.Path.{sym, ap}
 use Rattle.error_lines.specs.Messages.{message}
 use Rattle.error_lines.proofs.Putting.{puts_as}
 use Rattle.error_lines.proofs.Messages.{puts_no_message}
+use borrow.Author.Rules.{rules}
 use Rattle.error_lines.proofs.lines.put_message.Goals as goal
 
 pub returns-in-1 : goal.returns-in-1
@@ -61,4 +62,4 @@ returns-in-11 c =
     puts_as (sym (ap message c.in-11.is)) c.put_bytes-in-11.ensures
 
 pub returns-in_default : goal.returns-in_default
-returns-in_default c = puts_no_message c.args.number c.args.at c.args.out.now c.in_default.in_default-own.rest
+returns-in_default c = puts_no_message c.args.number c.args.at c.args.out.now (search rules)

@@ -1,11 +1,5 @@
 -- `entries_fine` meets its contract. The invariant: the entries below i are fine. The measure: the entries left. Assumes nothing.
-use Prim.Native.Nat.{◌-◌, ◌≤◌}
-use mathlib.Core.Path.{◌≡◌}
-use lib.Dec.{T}
-use Rattle.definition.specs.Within.{all_below}
-use Rattle.program_check.specs.Parts.{alone, entry_fine}
 use Rattle.program_check.proofs.AreaTests.{fine_unfit, fine_turn, fine_entry, fine_all}
-use borrow.Author.Rules.{rules}
 use native.Mathlib.Omega.{arith}
 use mathlib.Core.Path.{ap}
 use mathlib.Core.Bool.{not}
@@ -28,13 +22,12 @@ returns-then-not-entry_fine c =
     c.loop-i-test.true c.entry_fine.ensures (ap not c.if-not-entry_fine.true)
 
 pub loop-i-preserved : goal.loop-i-preserved
-loop-i-preserved c =
-    (
-      omega arith,
-      fine_turn c.args.area c.args.words.now c.args.totals c.total_of-total.ensures c.loop-i.i
-          c.loop-i.invariant.1 c.entry_fine.ensures
-          (ap not c.if-not-entry_fine.false),
-    )
+loop-i-preserved c = (
+  omega arith,
+  fine_turn c.args.area c.args.words.now c.args.totals c.total_of-total.ensures c.loop-i.i
+      c.loop-i.invariant.1 c.entry_fine.ensures
+      (ap not c.if-not-entry_fine.false),
+)
 
 pub returns : goal.returns
 returns c =

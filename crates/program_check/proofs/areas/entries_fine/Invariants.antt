@@ -1,14 +1,8 @@
 -- `entries_fine` meets its contract. The invariant: the entries below i are fine. The measure: the entries left. Assumes nothing.
 use Prim.Native.Nat.{◌-◌, ◌≤◌}
-use mathlib.Core.Path.{◌≡◌}
 use lib.Dec.{T}
 use Rattle.definition.specs.Within.{all_below}
 use Rattle.program_check.specs.Parts.{alone, entry_fine}
-use Rattle.program_check.proofs.AreaTests.{fine_unfit, fine_turn, fine_entry, fine_all}
-use borrow.Author.Rules.{rules}
-use native.Mathlib.Omega.{arith}
-use mathlib.Core.Path.{ap}
-use mathlib.Core.Bool.{not}
 use Rattle.program_check.proofs.areas.entries_fine.Given as goal
 
 abbrev pub invariant-loop-i : goal.invariant-loop-i

@@ -1,6 +1,5 @@
 -- `entry_fine` meets its contract, by the area. Assumes nothing.
 use Rattle.program_check.proofs.AreaTests.{books_left, dispatch}
-use borrow.Author.Rules.{rules}
 use Rattle.program_check.proofs.areas.entry_fine.Goals as goal
 
 pub returns-then-area-eq-CODE : goal.returns-then-area-eq-CODE

@@ -1,6 +1,5 @@
 -- `lies_in` meets its contract: what lies in the area ends at no word that is not there. Assumes nothing.
 use Rattle.program_check.proofs.AreaTests.{fit_no, fit_zeros, fit_room}
-use borrow.Author.Rules.{rules}
 use native.Mathlib.Omega.{arith}
 use Rattle.program_check.proofs.areas.lies_in.Goals as goal
 

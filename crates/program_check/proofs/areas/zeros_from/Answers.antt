@@ -1,12 +1,7 @@
 -- `zeros_from` meets its contract. The invariant: from word i on there are zeros exactly if there are from the first on. The measure: the words left.
 -- Assumes nothing.
-use Prim.Native.Nat.{◌-◌}
-use mathlib.Core.Path.{◌≡◌, refl}
-use lib.ListN.{length, drop}
-use Rattle.definition.specs.ProgramCheck.{zeros}
+use mathlib.Core.Path.{refl}
 use Rattle.program_check.proofs.AreaTests.{zeros_turn, zeros_no, zeros_end}
-use borrow.Author.Rules.{rules}
-use native.Mathlib.Omega.{arith}
 use Rattle.program_check.proofs.areas.zeros_from.Goals as goal
 
 pub loop-i-init : goal.loop-i-init

@@ -1,12 +1,9 @@
 -- `zeros_from` meets its contract. The invariant: from word i on there are zeros exactly if there are from the first on. The measure: the words left.
 -- Assumes nothing.
 use Prim.Native.Nat.{◌-◌}
-use mathlib.Core.Path.{◌≡◌, refl}
+use mathlib.Core.Path.{◌≡◌}
 use lib.ListN.{length, drop}
 use Rattle.definition.specs.ProgramCheck.{zeros}
-use Rattle.program_check.proofs.AreaTests.{zeros_turn, zeros_no, zeros_end}
-use borrow.Author.Rules.{rules}
-use native.Mathlib.Omega.{arith}
 use Rattle.program_check.proofs.areas.zeros_from.Given as goal
 
 abbrev pub invariant-loop-i : goal.invariant-loop-i

@@ -1,6 +1,5 @@
 -- `constants_whole` meets its contract. Assumes nothing.
 use Rattle.program_check.proofs.ConstantTests.{marks_known, constants_whole}
-use borrow.Author.Rules.{rules}
 use Rattle.program_check.proofs.constants.constants_whole.Goals as goal
 
 pub count_marked-count-requires : goal.count_marked-count-requires

@@ -1,11 +1,8 @@
 -- `count_marked` meets its contract. The invariant: the count is that of the first i, and no more than i. The measure: the entries left. Assumes nothing.
 use Prim.Native.Nat.{◌-◌, ◌≤◌}
-use mathlib.Core.Path.{◌≡◌, refl}
-use mathlib.Core.List.{List, [], ◌∷◌}
+use mathlib.Core.Path.{◌≡◌}
+use mathlib.Core.List.{[], ◌∷◌}
 use Rattle.definition.specs.Within.{marked}
-use Rattle.program_check.proofs.ConstantTests.{marked_turn, marked_done}
-use borrow.Author.Rules.{rules}
-use native.Mathlib.Omega.{arith}
 use Rattle.program_check.proofs.constants.count_marked.Given as goal
 
 abbrev pub invariant-loop-i : goal.invariant-loop-i

@@ -1,6 +1,5 @@
 -- `is_constant` meets its contract. Assumes nothing.
 use Rattle.program_check.proofs.ConstantTests.{constant_is}
-use borrow.Author.Rules.{rules}
 use Rattle.program_check.proofs.constants.is_constant.Goals as goal
 
 pub returns : goal.returns

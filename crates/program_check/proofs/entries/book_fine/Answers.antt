@@ -1,6 +1,5 @@
 -- `book_fine` meets its contract. Assumes nothing.
 use Rattle.program_check.proofs.EntryTests.{book_fine}
-use borrow.Author.Rules.{rules}
 use Rattle.program_check.proofs.entries.book_fine.Goals as goal
 
 pub returns : goal.returns

@@ -1,6 +1,5 @@
 -- `constant_fine` meets its contract, word by word. Assumes nothing.
 use Rattle.program_check.proofs.EntryTests.{constant_fine}
-use borrow.Author.Rules.{rules}
 use Rattle.program_check.proofs.entries.constant_fine.Goals as goal
 
 pub returns : goal.returns

@@ -1,6 +1,5 @@
 -- `context_local_fine` meets its contract, word by word. Assumes nothing.
 use Rattle.program_check.proofs.EntryTests.{local_fine}
-use borrow.Author.Rules.{rules}
 use Rattle.program_check.proofs.entries.context_local_fine.Goals as goal
 
 pub returns : goal.returns

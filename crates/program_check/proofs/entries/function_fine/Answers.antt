@@ -1,6 +1,5 @@
 -- `function_fine` meets its contract, word by word. Assumes nothing.
 use Rattle.program_check.proofs.EntryTests.{function_fine}
-use borrow.Author.Rules.{rules}
 use Rattle.program_check.proofs.entries.function_fine.Goals as goal
 
 pub returns : goal.returns

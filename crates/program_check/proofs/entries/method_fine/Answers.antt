@@ -1,6 +1,5 @@
 -- `method_fine` meets its contract, word by word. Assumes nothing.
 use Rattle.program_check.proofs.EntryTests.{method_fine}
-use borrow.Author.Rules.{rules}
 use Rattle.program_check.proofs.entries.method_fine.Goals as goal
 
 pub returns : goal.returns

@@ -1,6 +1,5 @@
 -- `model_fine` meets its contract, word by word. Assumes nothing.
 use Rattle.program_check.proofs.EntryTests.{model_fine}
-use borrow.Author.Rules.{rules}
 use Rattle.program_check.proofs.entries.model_fine.Goals as goal
 
 pub returns : goal.returns

@@ -1,6 +1,5 @@
 -- `property_fine` meets its contract, word by word. Assumes nothing.
 use Rattle.program_check.proofs.EntryTests.{property_fine}
-use borrow.Author.Rules.{rules}
 use Rattle.program_check.proofs.entries.property_fine.Goals as goal
 
 pub returns : goal.returns

@@ -1,6 +1,5 @@
 -- `public_name_fine` meets its contract, word by word. Assumes nothing.
 use Rattle.program_check.proofs.EntryTests.{public_fine}
-use borrow.Author.Rules.{rules}
 use Rattle.program_check.proofs.entries.public_name_fine.Goals as goal
 
 pub returns : goal.returns

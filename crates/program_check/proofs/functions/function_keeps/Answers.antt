@@ -1,7 +1,6 @@
 -- `function_keeps` meets its contract: what a function has inside area 1. Assumes nothing.
 use lib.ListN.{length}
 use Rattle.program_check.proofs.FunctionTests.{range_fits, function_past, function_in}
-use borrow.Author.Rules.{rules}
 use Rattle.program_check.proofs.functions.function_keeps.Goals as goal
 
 pub returns-then-totals-start : goal.returns-then-totals-start

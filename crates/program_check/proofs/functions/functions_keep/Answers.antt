@@ -1,10 +1,5 @@
 -- `functions_keep` meets its contract. The invariant: the functions below j keep their bounds. The measure: the functions left. Assumes nothing.
-use Prim.Native.Nat.{◌-◌, ◌≤◌}
-use lib.Dec.{T}
-use Rattle.definition.specs.Within.{all_below}
-use Rattle.program_check.specs.Functions.{code_and, function_keeps}
 use Rattle.program_check.proofs.FunctionTests.{keep_turn, keep_no, keep_done}
-use borrow.Author.Rules.{rules}
 use native.Mathlib.Omega.{arith}
 use mathlib.Core.Path.{ap}
 use mathlib.Core.Bool.{not}
@@ -24,12 +19,11 @@ returns-then-not-function_keeps c =
     c.function_keeps.ensures (ap not c.if-not-function_keeps.true)
 
 pub loop-j-preserved : goal.loop-j-preserved
-loop-j-preserved c =
-    (
-      omega arith,
-      keep_turn c.args.code.now c.args.functions.now c.args.totals c.loop-j.j
-          c.loop-j.invariant.1 c.function_keeps.ensures (ap not c.if-not-function_keeps.false),
-    )
+loop-j-preserved c = (
+  omega arith,
+  keep_turn c.args.code.now c.args.functions.now c.args.totals c.loop-j.j
+      c.loop-j.invariant.1 c.function_keeps.ensures (ap not c.if-not-function_keeps.false),
+)
 
 pub returns : goal.returns
 returns c =

@@ -3,11 +3,6 @@ use Prim.Native.Nat.{◌-◌, ◌≤◌}
 use lib.Dec.{T}
 use Rattle.definition.specs.Within.{all_below}
 use Rattle.program_check.specs.Functions.{code_and, function_keeps}
-use Rattle.program_check.proofs.FunctionTests.{keep_turn, keep_no, keep_done}
-use borrow.Author.Rules.{rules}
-use native.Mathlib.Omega.{arith}
-use mathlib.Core.Path.{ap}
-use mathlib.Core.Bool.{not}
 use Rattle.program_check.proofs.functions.functions_keep.Given as goal
 
 abbrev pub invariant-loop-j : goal.invariant-loop-j

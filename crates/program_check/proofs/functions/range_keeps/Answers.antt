@@ -1,10 +1,5 @@
 -- `range_keeps` meets its contract. The invariant: the first k instructions keep the bounds. The measure: the instructions left. Assumes nothing.
-use Prim.Native.Nat.{◌+◌, ◌-◌, ◌≤◌}
-use lib.Dec.{T}
-use Rattle.definition.specs.Within.{all_below}
-use Rattle.program_check.specs.Functions.{keeps_at}
 use Rattle.program_check.proofs.FunctionTests.{range_turn, range_no, range_done}
-use borrow.Author.Rules.{rules}
 use native.Mathlib.Omega.{arith}
 use mathlib.Core.Path.{ap}
 use mathlib.Core.Bool.{not}
@@ -20,13 +15,12 @@ returns-then-not-keeps c =
     c.locals_needed-needed.ensures (ap not c.if-not-keeps.true)
 
 pub loop-k-preserved : goal.loop-k-preserved
-loop-k-preserved c =
-    (
-      omega arith,
-      range_turn c.args.code.now c.args.from c.args.count c.args.size c.args.locals c.loop-k.k c.loop-k.invariant.1
-          c.entry_word-word.ensures
-          c.jump_of-jump.ensures c.locals_needed-needed.ensures (ap not c.if-not-keeps.false),
-    )
+loop-k-preserved c = (
+  omega arith,
+  range_turn c.args.code.now c.args.from c.args.count c.args.size c.args.locals c.loop-k.k c.loop-k.invariant.1
+      c.entry_word-word.ensures
+      c.jump_of-jump.ensures c.locals_needed-needed.ensures (ap not c.if-not-keeps.false),
+)
 
 pub returns : goal.returns
 returns c = range_done c.args.code.now c.args.from c.args.count

@@ -3,11 +3,6 @@ use Prim.Native.Nat.{◌+◌, ◌-◌, ◌≤◌}
 use lib.Dec.{T}
 use Rattle.definition.specs.Within.{all_below}
 use Rattle.program_check.specs.Functions.{keeps_at}
-use Rattle.program_check.proofs.FunctionTests.{range_turn, range_no, range_done}
-use borrow.Author.Rules.{rules}
-use native.Mathlib.Omega.{arith}
-use mathlib.Core.Path.{ap}
-use mathlib.Core.Bool.{not}
 use Rattle.program_check.proofs.functions.range_keeps.Given as goal
 
 abbrev pub invariant-loop-k : goal.invariant-loop-k

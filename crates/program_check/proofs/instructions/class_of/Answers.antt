@@ -1,6 +1,5 @@
 -- `class_of` meets its contract: the table is the definition's, and past it every opcode is another. Assumes nothing.
 use Rattle.program_check.proofs.InstructionTests.{class_at, class_past}
-use borrow.Author.Rules.{rules}
 use Rattle.program_check.proofs.instructions.class_of.Goals as goal
 
 pub returns-then-o-lt-OPCODES : goal.returns-then-o-lt-OPCODES

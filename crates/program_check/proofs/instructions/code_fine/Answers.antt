@@ -1,6 +1,5 @@
 -- `code_fine` meets its contract, word by word. Assumes nothing.
 use Rattle.program_check.proofs.InstructionTests.{code_fine}
-use borrow.Author.Rules.{rules}
 use Rattle.program_check.proofs.instructions.code_fine.Goals as goal
 
 pub returns : goal.returns

@@ -1,6 +1,5 @@
 -- `is_opcode` meets its contract: the table is the definition's list, and past it there is no opcode. Assumes nothing.
 use Rattle.program_check.proofs.InstructionTests.{known_at, known_past}
-use borrow.Author.Rules.{rules}
 use Rattle.program_check.proofs.instructions.is_opcode.Goals as goal
 
 pub returns-then-o-lt-OPCODES : goal.returns-then-o-lt-OPCODES

@@ -1,6 +1,5 @@
 -- `jump_of` meets its contract, by the class. Assumes nothing.
 use Rattle.program_check.proofs.InstructionTests.{jump_is, jump_none}
-use borrow.Author.Rules.{rules}
 use Rattle.program_check.proofs.instructions.jump_of.Goals as goal
 
 pub returns-then-class-eq-POSITION : goal.returns-then-class-eq-POSITION

@@ -1,6 +1,5 @@
 -- `locals_needed` meets its contract, by the class. Assumes nothing.
 use Rattle.program_check.proofs.InstructionTests.{slot_needs, this_needs, read_needs, none_needs}
-use borrow.Author.Rules.{rules}
 use Rattle.program_check.proofs.instructions.locals_needed.Goals as goal
 
 pub returns-then-class-eq-SLOT : goal.returns-then-class-eq-SLOT

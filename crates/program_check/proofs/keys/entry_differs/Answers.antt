@@ -1,6 +1,5 @@
 -- `entry_differs` meets its contract: an entry of another share, one whose place is free, one that is searched. Assumes nothing.
 use Rattle.program_check.proofs.KeyPlaces.{in_set, look_other, look_free, look_search}
-use borrow.Author.Rules.{rules}
 use mathlib.Core.Path.{ap}
 use mathlib.Core.Bool.{not}
 use Rattle.program_check.proofs.keys.entry_differs.Goals as goal

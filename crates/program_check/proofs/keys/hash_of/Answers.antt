@@ -1,7 +1,6 @@
 -- `hash_of` meets its contract. Assumes nothing.
 use mathlib.Core.Path.{refl}
 use Rattle.program_check.specs.Keys.{hash_of}
-use borrow.Author.Rules.{rules}
 use Rattle.program_check.proofs.keys.hash_of.Goals as goal
 
 pub returns : goal.returns

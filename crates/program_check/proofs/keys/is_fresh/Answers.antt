@@ -1,10 +1,5 @@
 -- `is_fresh` meets its contract. The invariant: no entry below j has the key. The measure: the entries left. Assumes nothing.
-use Prim.Native.Nat.{◌-◌, ◌≤◌}
-use lib.Dec.{T}
-use Rattle.definition.specs.Within.{all_below}
-use Rattle.program_check.specs.Keys.{differs_from}
 use Rattle.program_check.proofs.KeyTests.{fresh_turn, fresh_no, fresh_done}
-use borrow.Author.Rules.{rules}
 use native.Mathlib.Omega.{arith}
 use Rattle.program_check.proofs.keys.is_fresh.Goals as goal
 
@@ -18,13 +13,12 @@ returns-then-same c =
     c.entry_word-other_group.ensures c.entry_word-other_name.ensures c.if-same.true
 
 pub loop-j-preserved : goal.loop-j-preserved
-loop-j-preserved c =
-    (
-      omega arith,
-      fresh_turn c.args.width c.args.first c.args.second c.args.words.now c.args.i c.entry_word-group.ensures
-          c.entry_word-name.ensures c.loop-j.j
-          c.entry_word-other_group.ensures c.entry_word-other_name.ensures c.loop-j.invariant.1 c.if-same.false,
-    )
+loop-j-preserved c = (
+  omega arith,
+  fresh_turn c.args.width c.args.first c.args.second c.args.words.now c.args.i c.entry_word-group.ensures
+      c.entry_word-name.ensures c.loop-j.j
+      c.entry_word-other_group.ensures c.entry_word-other_name.ensures c.loop-j.invariant.1 c.if-same.false,
+)
 
 pub returns : goal.returns
 returns c =

@@ -3,9 +3,6 @@ use Prim.Native.Nat.{◌-◌, ◌≤◌}
 use lib.Dec.{T}
 use Rattle.definition.specs.Within.{all_below}
 use Rattle.program_check.specs.Keys.{differs_from}
-use Rattle.program_check.proofs.KeyTests.{fresh_turn, fresh_no, fresh_done}
-use borrow.Author.Rules.{rules}
-use native.Mathlib.Omega.{arith}
 use Rattle.program_check.proofs.keys.is_fresh.Given as goal
 
 abbrev pub invariant-loop-j : goal.invariant-loop-j

@@ -1,10 +1,5 @@
 -- `keys_differ` meets its contract. The invariant: no entry of the shares below has the key of one before it. The measure: the shares left. Assumes nothing.
-use Prim.Native.Nat.{◌-◌, ◌≤◌}
-use lib.Dec.{T}
-use Rattle.definition.specs.Within.{all_below}
-use Rattle.program_check.specs.Keys.{share_fresh}
 use Rattle.program_check.proofs.KeyPlaces.{shares_turn, shares_no, shares_done}
-use borrow.Author.Rules.{rules}
 use native.Mathlib.Omega.{arith}
 use mathlib.Core.Path.{ap}
 use mathlib.Core.Bool.{not}
@@ -20,13 +15,12 @@ returns-then-not-share_differs c =
     c.share_differs.ensures (ap not c.if-not-share_differs.true)
 
 pub loop-share-preserved : goal.loop-share-preserved
-loop-share-preserved c =
-    (
-      omega arith,
-      shares_turn c.args.width c.args.first c.args.second c.args.words.now c.args.total c.args.shares
-          c.loop-share.share
-          c.loop-share.invariant.1 c.share_differs.ensures (ap not c.if-not-share_differs.false),
-    )
+loop-share-preserved c = (
+  omega arith,
+  shares_turn c.args.width c.args.first c.args.second c.args.words.now c.args.total c.args.shares
+      c.loop-share.share
+      c.loop-share.invariant.1 c.share_differs.ensures (ap not c.if-not-share_differs.false),
+)
 
 pub returns : goal.returns
 returns c = shares_done c.args.width c.args.first c.args.second

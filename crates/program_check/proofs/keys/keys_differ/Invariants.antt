@@ -3,11 +3,6 @@ use Prim.Native.Nat.{◌-◌, ◌≤◌}
 use lib.Dec.{T}
 use Rattle.definition.specs.Within.{all_below}
 use Rattle.program_check.specs.Keys.{share_fresh}
-use Rattle.program_check.proofs.KeyPlaces.{shares_turn, shares_no, shares_done}
-use borrow.Author.Rules.{rules}
-use native.Mathlib.Omega.{arith}
-use mathlib.Core.Path.{ap}
-use mathlib.Core.Bool.{not}
 use Rattle.program_check.proofs.keys.keys_differ.Given as goal
 
 abbrev pub invariant-loop-share : goal.invariant-loop-share

@@ -1,6 +1,5 @@
 -- `note` meets its contract. Assumes nothing.
 use Rattle.program_check.proofs.KeyPlaces.{noted}
-use borrow.Author.Rules.{rules}
 use Rattle.program_check.proofs.keys.note.Goals as goal
 
 pub returns : goal.returns

@@ -1,12 +1,6 @@
 -- `share_differs_in` meets its contract. The invariant: no entry of the share below i has the key of one before it, and the set has their places.
 -- The measure: the entries left. Assumes nothing.
-use Prim.Native.Nat.{◌-◌, ◌≤◌}
-use mathlib.Core.Path.{◌≡◌, refl}
-use lib.ListN.{length}
-use lib.Dec.{T}
-use Rattle.definition.specs.Within.{all_below}
-use Rattle.program_check.specs.Keys.{fresh_in, set_words}
-use Rattle.program_check.specs.KeySets.{HasPlaces}
+use mathlib.Core.Path.{refl}
 use Rattle.program_check.proofs.KeyPlaces.{none_yet, share_turn, share_no, share_done}
 use native.Mathlib.Omega.{arith}
 use mathlib.Core.Path.{ap}

@@ -2,7 +2,6 @@
 use lib.Dec.{eqb}
 use mathlib.Core.Path.{ap}
 use mathlib.Core.Bool.{Bool, ◌&&◌}
-use borrow.Author.Rules.{rules}
 use Rattle.program_check.proofs.whole.empty_area.Goals as goal
 
 pub returns : goal.returns

@@ -1,7 +1,6 @@
 -- `undo::marks::marks_anew` meets its contract. The invariant: the entries so far are done and the words behind them are as they were. The measure is what is
 -- left of the entries. Assumes nothing.
-use Prim.Native.Nat.{◌-◌, ◌≤◌}
-use Rattle.undo.specs.Turns.{mark_anew, Done}
+use Rattle.undo.specs.Turns.{mark_anew}
 use Rattle.undo.proofs.LoopTurns.{done_start, marks_turn, marks_end}
 use native.Mathlib.Omega.{arith}
 use Rattle.undo.proofs.marks.marks_anew.Goals as goal
@@ -33,17 +32,16 @@ bounds-constants-at-in-loop-i c = omega (
 )
 
 pub loop-i-preserved : goal.loop-i-preserved
-loop-i-preserved c =
-    (
-      omega (arith, c.loop-i-test.true),
-      marks_turn c.args.step c.args.count c.loop-i.i c.args.constants.now c.loop-i.constants
-          c.loop-i.invariant.1 (omega (
-            arith,
-            c.entries_whole-end.ensures,
-            c.loop-i-test.true,
-          ))
-          (omega (arith, c.entries_whole-end.ensures, c.loop-i-test.true)) c.mark_after-mark.ensures,
-    )
+loop-i-preserved c = (
+  omega (arith, c.loop-i-test.true),
+  marks_turn c.args.step c.args.count c.loop-i.i c.args.constants.now c.loop-i.constants
+      c.loop-i.invariant.1 (omega (
+        arith,
+        c.entries_whole-end.ensures,
+        c.loop-i-test.true,
+      ))
+      (omega (arith, c.entries_whole-end.ensures, c.loop-i-test.true)) c.mark_after-mark.ensures,
+)
 
 pub shape_of-constants : goal.shape_of-constants
 shape_of-constants c = c.loop-i.invariant.1.long

@@ -2,8 +2,6 @@
 -- left of the entries. Assumes nothing.
 use Prim.Native.Nat.{◌-◌, ◌≤◌}
 use Rattle.undo.specs.Turns.{mark_anew, Done}
-use Rattle.undo.proofs.LoopTurns.{done_start, marks_turn, marks_end}
-use native.Mathlib.Omega.{arith}
 use Rattle.undo.proofs.marks.marks_anew.Given as goal
 
 abbrev pub invariant-loop-i : goal.invariant-loop-i

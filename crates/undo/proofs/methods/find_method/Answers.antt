@@ -1,12 +1,10 @@
 -- `undo::methods::find_method` meets its contract. The invariant: what is found from the start on is what is found from here on. The measure is what is left of
 -- the count. Assumes nothing.
-use mathlib.Core.Path.{◌≡◌, refl, sym, ◌∙◌}
+use mathlib.Core.Path.{refl, sym, ◌∙◌}
 use Prim.Native.Nat.{◌-◌}
-use Rattle.building.specs.Found.{first_from}
 use Rattle.building.proofs.OldestFirst.{first_here, first_next, first_end}
 use Rattle.compiler_laws.specs.IncludeSteps.{is_pair}
 use Rattle.undo.specs.Notes.{plain_methods}
-use native.Mathlib.Omega.{arith}
 use Rattle.undo.proofs.methods.find_method.Goals as goal
 
 pub loop-i-init : goal.loop-i-init

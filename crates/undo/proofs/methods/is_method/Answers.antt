@@ -1,7 +1,6 @@
 -- `undo::methods::is_method` meets its contract, by its tests. Assumes nothing.
 use Rattle.compiler_laws.proofs.MapEntries.{pair_here, pair_other}
 use Rattle.undo.specs.Notes.{plain_methods}
-use borrow.Author.Rules.{rules}
 use Rattle.undo.proofs.methods.is_method.Goals as goal
 
 pub returns-then-method_model-model : goal.returns-then-method_model-model

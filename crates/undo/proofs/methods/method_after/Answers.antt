@@ -1,6 +1,5 @@
 -- `undo::methods::method_after` meets its contract, by its tests. Assumes nothing.
 use borrow.Author.Tests.{eq-eqb, ne_eqb, lt-ltb, le-ltb}
-use borrow.Author.Rules.{rules}
 use Rattle.undo.proofs.methods.method_after.Goals as goal
 
 pub returns-then-step-eq-NOTE : goal.returns-then-step-eq-NOTE

@@ -1,6 +1,5 @@
 -- `undo::methods::method_function` meets its contract, by its test. Assumes nothing.
 use Rattle.undo.proofs.MethodWords.{function_none, function_some}
-use borrow.Author.Rules.{rules}
 use Rattle.undo.proofs.methods.method_function.Goals as goal
 
 pub returns-then-stood-eq0 : goal.returns-then-stood-eq0

@@ -1,6 +1,5 @@
 -- `undo::methods::method_model` meets its contract, by its tests. Assumes nothing.
 use Rattle.undo.proofs.MethodWords.{model_later, model_broken, model_stood}
-use borrow.Author.Rules.{rules}
 use Rattle.undo.proofs.methods.method_model.Goals as goal
 
 pub returns-then-stood-i : goal.returns-then-stood-i

@@ -1,6 +1,5 @@
 -- `undo::methods::method_name` meets its contract, by its tests. Assumes nothing.
 use Rattle.undo.proofs.MethodWords.{name_later, name_broken, name_stood}
-use borrow.Author.Rules.{rules}
 use Rattle.undo.proofs.methods.method_name.Goals as goal
 
 pub returns-then-stood-i : goal.returns-then-stood-i

@@ -1,10 +1,8 @@
 -- `undo::methods::methods_anew` meets its contract. The invariant: the entries so far are done and the words behind them are as they were. The measure is what
 -- is left of the entries. Assumes nothing.
-use Prim.Native.Nat.{◌-◌, ◌≤◌}
 use lib.ListN.{length-set}
-use Rattle.undo.specs.Turns.{method_anew, Done}
+use Rattle.undo.specs.Turns.{method_anew}
 use Rattle.undo.proofs.LoopTurns.{done_start, methods_turn, methods_done}
-use borrow.Author.Rules.{rules}
 use native.Mathlib.Omega.{arith}
 use Rattle.undo.proofs.methods.methods_anew.Goals as goal
 
@@ -24,16 +22,15 @@ bounds-methods-at-in-loop-i-5 c =
     simp length-set (omega (arith, c.requires, c.loop-i-test.true, c.loop-i.invariant.1.long))
 
 pub loop-i-preserved : goal.loop-i-preserved
-loop-i-preserved c =
-    (
-      omega (arith, c.loop-i-test.true),
-      methods_turn c.args.step c.args.stood c.loop-i.i c.args.methods.now c.loop-i.methods c.loop-i.invariant.1 (omega (
-        arith,
-        c.requires,
-        c.loop-i-test.true,
-      ))
-          c.method_after-method.ensures,
-    )
+loop-i-preserved c = (
+  omega (arith, c.loop-i-test.true),
+  methods_turn c.args.step c.args.stood c.loop-i.i c.args.methods.now c.loop-i.methods c.loop-i.invariant.1 (omega (
+    arith,
+    c.requires,
+    c.loop-i-test.true,
+  ))
+      c.method_after-method.ensures,
+)
 
 pub shape_of-methods : goal.shape_of-methods
 shape_of-methods c = c.loop-i.invariant.1.long

@@ -1,11 +1,7 @@
 -- `undo::methods::methods_anew` meets its contract. The invariant: the entries so far are done and the words behind them are as they were. The measure is what
 -- is left of the entries. Assumes nothing.
 use Prim.Native.Nat.{◌-◌, ◌≤◌}
-use lib.ListN.{length-set}
 use Rattle.undo.specs.Turns.{method_anew, Done}
-use Rattle.undo.proofs.LoopTurns.{done_start, methods_turn, methods_done}
-use borrow.Author.Rules.{rules}
-use native.Mathlib.Omega.{arith}
 use Rattle.undo.proofs.methods.methods_anew.Given as goal
 
 abbrev pub invariant-loop-i : goal.invariant-loop-i

@@ -1,6 +1,5 @@
 -- `undo::methods::note_methods` meets its contract, by what the loop has done at its end. Assumes nothing.
 use Rattle.undo.proofs.LoopTurns.{methods_noted}
-use borrow.Author.Rules.{rules}
 use Rattle.undo.proofs.methods.note_methods.Goals as goal
 
 pub returns : goal.returns

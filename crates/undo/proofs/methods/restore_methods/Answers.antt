@@ -1,6 +1,5 @@
 -- `undo::methods::restore_methods` meets its contract, by what the loop has done at its end. Assumes nothing.
 use Rattle.undo.proofs.LoopTurns.{methods_restored}
-use borrow.Author.Rules.{rules}
 use Rattle.undo.proofs.methods.restore_methods.Goals as goal
 
 pub returns : goal.returns

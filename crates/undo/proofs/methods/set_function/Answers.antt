@@ -1,6 +1,5 @@
 -- `undo::methods::set_function` meets its contract, by its test. Assumes nothing.
 use borrow.Author.Tests.{eq-eqb, ne_eqb}
-use borrow.Author.Rules.{rules}
 use Rattle.undo.proofs.methods.set_function.Goals as goal
 
 pub returns-then-stood-eq0 : goal.returns-then-stood-eq0

@@ -2,7 +2,6 @@
 use mathlib.Core.Path.{sym}
 use Rattle.undo.proofs.LoopTurns.{methods_settled}
 use Rattle.undo.proofs.PlainMethods.{plain_methods_none}
-use borrow.Author.Rules.{rules}
 use Rattle.undo.proofs.methods.settle_methods.Goals as goal
 
 pub returns-then-stood-eq0 : goal.returns-then-stood-eq0

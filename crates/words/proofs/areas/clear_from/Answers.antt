@@ -1,12 +1,8 @@
 -- `words::areas::clear_from` meets its contract. The loop's invariant: clearing from i what stands there is clearing what stood there at first.
 -- The measure is what is left of the length. Assumes nothing.
-use Prim.Native.Nat.{◌-◌}
-use mathlib.Core.Path.{◌≡◌, refl, sym, ◌∙◌}
-use lib.ListN.{length, length-set}
-use Rattle.words.specs.Areas.{cleared_from}
+use mathlib.Core.Path.{refl, sym, ◌∙◌}
+use lib.ListN.{length-set}
 use Rattle.words.proofs.Entries.{clear_turn, clear_end}
-use borrow.Author.Rules.{rules}
-use native.Mathlib.Omega.{arith}
 use Rattle.words.proofs.areas.clear_from.Goals as goal
 
 pub loop-i-init : goal.loop-i-init

@@ -1,12 +1,9 @@
 -- `words::areas::clear_from` meets its contract. The loop's invariant: clearing from i what stands there is clearing what stood there at first.
 -- The measure is what is left of the length. Assumes nothing.
 use Prim.Native.Nat.{◌-◌}
-use mathlib.Core.Path.{◌≡◌, refl, sym, ◌∙◌}
-use lib.ListN.{length, length-set}
+use mathlib.Core.Path.{◌≡◌}
+use lib.ListN.{length}
 use Rattle.words.specs.Areas.{cleared_from}
-use Rattle.words.proofs.Entries.{clear_turn, clear_end}
-use borrow.Author.Rules.{rules}
-use native.Mathlib.Omega.{arith}
 use Rattle.words.proofs.areas.clear_from.Given as goal
 
 abbrev pub invariant-loop-i : goal.invariant-loop-i

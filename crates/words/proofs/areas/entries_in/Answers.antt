@@ -1,9 +1,8 @@
 -- `words::areas::entries_in` meets its contract: a quotient, 0 for an area of no width, and no more than the most. Assumes nothing.
-use Prim.Native.Nat.{ℕ, ◌/◌}
-use mathlib.Core.Path.{◌≡◌, ◌∙◌, ap}
+use Prim.Native.Nat.{ℕ}
+use mathlib.Core.Path.{◌∙◌, ap}
 use Rattle.words.specs.Areas.{entries_in}
 use Rattle.words.proofs.Entries.{entries_none, entries_few, entries_most}
-use borrow.Author.Rules.{rules}
 use Rattle.words.proofs.areas.entries_in.Goals as goal
 
 pub returns-then-width-eq0 : goal.returns-then-width-eq0

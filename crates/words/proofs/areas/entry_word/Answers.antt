@@ -1,6 +1,5 @@
 -- `words::areas::entry_word` meets its contract: each way through the tests reads what `entry_field` reads. Assumes nothing.
 use Rattle.words.proofs.Entries.{at_most, at_least, field_in, field_past, field_beside, field_wide}
-use borrow.Author.Rules.{rules}
 use native.Mathlib.Omega.{arith}
 use Rattle.words.proofs.areas.entry_word.Goals as goal
 

@@ -2,7 +2,6 @@
 use mathlib.Core.Path.{sym}
 use lib.ListN.{get_or-eq_default}
 use Rattle.words.specs.Areas.{widths}
-use borrow.Author.Rules.{rules}
 use Rattle.words.proofs.areas.width_of.Goals as goal
 
 pub returns : goal.returns

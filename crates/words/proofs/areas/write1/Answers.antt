@@ -5,7 +5,6 @@ use mathlib.Core.List.{[], ◌∷◌}
 use lib.ListN.{set}
 use lib.Dec.{lit<, lit≤}
 use Rattle.words.proofs.Entries.{stored, written, write_past}
-use borrow.Author.Rules.{rules}
 use native.Mathlib.Omega.{arith}
 use Rattle.words.proofs.areas.write1.Goals as goal
 

@@ -4,7 +4,6 @@ use mathlib.Core.List.{[], ◌∷◌}
 use lib.ListN.{length-set}
 use Rattle.words.proofs.Entries.{stored, written, write_past}
 use lib.Dec.{lit<, lit≤}
-use borrow.Author.Rules.{rules}
 use native.Mathlib.Omega.{arith}
 use Rattle.words.proofs.areas.write2.Goals as goal
 

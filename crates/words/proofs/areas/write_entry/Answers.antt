@@ -1,9 +1,9 @@
 -- `words::areas::write_entry` meets its contract. The loop's invariant: the first k words of the entry are stored, and the length is as it was.
 -- The measure is the words that are left. Assumes nothing.
-use Prim.Native.Nat.{ℕ, ◌+◌, ◌-◌, ◌*◌, ◌≤◌}
+use Prim.Native.Nat.{ℕ, ◌+◌, ◌*◌}
 use mathlib.Core.Path.{◌≡◌, refl, ap, ◌∙◌}
 use mathlib.Core.List.{List}
-use lib.ListN.{length, take, set, get_or, length-set}
+use lib.ListN.{take, set, get_or, length-set}
 use lib.Seq.{paste, paste-zero}
 use Rattle.words.proofs.Entries.{at_most, at_least, written, write_past, write_none, write_wide, paste_more, paste_entry}
 use borrow.Author.Rules.{rules}

@@ -1,6 +1,5 @@
 -- `words::areas::write_word` meets its contract: each way through the tests writes what `Patched` says. Assumes nothing.
 use Rattle.words.proofs.Entries.{at_most, at_least, patched, patch_past, patch_beside, patch_wide}
-use borrow.Author.Rules.{rules}
 use native.Mathlib.Omega.{arith}
 use Rattle.words.proofs.areas.write_word.Goals as goal
 

@@ -1,6 +1,5 @@
 -- `words::object::constant_at` meets its contract: the first two words of the entry, decoded. Assumes nothing.
 use Rattle.words.specs.Areas.{entry_field}
-use borrow.Author.Rules.{rules}
 use Rattle.words.proofs.object.constant_at.Goals as goal
 
 pub returns : goal.returns

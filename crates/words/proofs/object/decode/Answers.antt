@@ -9,7 +9,6 @@ use Rattle.words.specs.Constants.{decode_of}
 use Rattle.words.proofs.Integers.{machine, integer_fits}
 use Rattle.words.specs.declared.object.Constant.TheVariants.{Integer, Float}
 use Rattle.words.specs.declared.object.Decoded.TheVariants.{Is}
-use borrow.Author.Rules.{rules}
 use native.Mathlib.Omega.{arith}
 use Rattle.words.proofs.object.decode.Goals as goal
 

@@ -1,6 +1,5 @@
 -- `words::object::float_of_word` meets its contract: every NaN pattern is the one NaN. Assumes nothing.
 use Rattle.words.proofs.Floats.{nan_pattern, other_pattern}
-use borrow.Author.Rules.{rules}
 use Rattle.words.proofs.object.float_of_word.Goals as goal
 
 pub returns-then-word-gt-INFINITY_BITS : goal.returns-then-word-gt-INFINITY_BITS

@@ -1,6 +1,5 @@
 -- `words::object::integer_of_word` meets its contract: from 2^63 on the integer is -1 less what the word is short of the greatest. Assumes nothing.
 use Rattle.words.proofs.Integers.{high, high_fits, high_is}
-use borrow.Author.Rules.{rules}
 use native.Mathlib.Omega.{arith}
 use Rattle.words.proofs.object.integer_of_word.Goals as goal
 

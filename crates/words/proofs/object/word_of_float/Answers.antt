@@ -1,6 +1,5 @@
 -- `words::object::word_of_float` meets its contract: the NaN differs from itself, and has its pattern. Assumes nothing.
 use Rattle.words.proofs.Floats.{nan_word, no_nan}
-use borrow.Author.Rules.{rules}
 use Rattle.words.proofs.object.word_of_float.Goals as goal
 
 pub returns-then-float : goal.returns-then-float

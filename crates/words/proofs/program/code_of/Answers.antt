@@ -1,6 +1,5 @@
 -- `words::program::code_of` meets its contract: the part from its first entry to its last, and nothing where it would pass the end. Assumes nothing.
 use Rattle.words.proofs.Parts.{part_in, part_none}
-use borrow.Author.Rules.{rules}
 use native.Mathlib.Omega.{arith}
 use Rattle.words.proofs.program.code_of.Goals as goal
 use Rattle.words.proofs.program.code_of.Goals.{then-start-entries+else-length-entries, else-start-entries}

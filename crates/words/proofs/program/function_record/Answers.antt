@@ -1,6 +1,5 @@
 -- `words::program::function_record` meets its contract: its words are read one by one. Assumes nothing.
 use Rattle.words.specs.Areas.{entry_field}
-use borrow.Author.Rules.{rules}
 use Rattle.words.proofs.program.function_record.Goals as goal
 
 pub returns : goal.returns

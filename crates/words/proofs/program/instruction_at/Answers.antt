@@ -2,7 +2,6 @@
 use mathlib.Core.Path.{ap, ◌∙◌}
 use Rattle.words.specs.Areas.{entry_field}
 use Rattle.words.specs.Codes.{read_word}
-use borrow.Author.Rules.{rules}
 use Rattle.words.proofs.program.instruction_at.Goals as goal
 
 pub returns : goal.returns

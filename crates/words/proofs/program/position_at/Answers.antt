@@ -1,6 +1,5 @@
 -- `words::program::position_at` meets its contract: the second word of the entry. Assumes nothing.
 use Rattle.words.specs.Areas.{entry_field}
-use borrow.Author.Rules.{rules}
 use Rattle.words.proofs.program.position_at.Goals as goal
 
 pub returns : goal.returns

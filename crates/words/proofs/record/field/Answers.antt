@@ -1,14 +1,11 @@
 -- `words::record::field` meets its contract: each way through the tests reads what `field_of` reads. Assumes nothing.
-use Prim.Native.Nat.{◌+◌, ◌*◌}
 use lib.ListN.{get_or-eq_default}
-use mathlib.Core.Path.{◌≡◌, refl, sym, ap, ◌∙◌}
+use mathlib.Core.Path.{sym}
 use Rattle.words.specs.Record.{field_of}
 use native.Mathlib.Omega.{arith}
-use borrow.Author.Tests.{lt-ltb, le-ltb, le-leb, lt-leb, eq-eqb, ne_eqb}
+use borrow.Author.Tests.{lt-ltb, le-ltb}
 use Rattle.words.proofs.Fields.{field_past}
 use borrow.Author.Rules.{rules}
-use Rattle.words.proofs.record.field.Reads as reads
-use Rattle.words.proofs.record.field.Lts as lts
 use Rattle.words.proofs.record.field.Goals as goal
 
 pub overflow_mul-i : goal.overflow_mul-i

@@ -4,7 +4,6 @@ use mathlib.Core.Path.{ap, ◌∙◌}
 use Rattle.words.specs.declared.opcode.OpCode.{OpCode}
 use Rattle.words.specs.Opcode.{word, to_instruction}
 use Rattle.words.specs.Codes.{number_of, read_word}
-use borrow.Author.Rules.{rules}
 use Rattle.words.proofs.opcode.Instruction.from.Goals as goal
 
 pub returns : goal.returns

@@ -1,7 +1,6 @@
 -- `words::opcode::OpCode::to_instruction` meets its contract. An opcode's number is a byte, so that the word fits. Assumes nothing.
 use Rattle.words.specs.Opcode.{word}
 use Rattle.words.proofs.Codes.{numbered}
-use borrow.Author.Rules.{rules}
 use native.Mathlib.Omega.{arith}
 use Rattle.words.proofs.opcode.OpCode.to_instruction.Goals as goal
 

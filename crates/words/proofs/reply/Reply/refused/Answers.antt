@@ -1,5 +1,4 @@
 -- `words::reply::Reply::refused` meets its contract: no totals beside the number and the place. Assumes nothing.
-use borrow.Author.Rules.{rules}
 use Rattle.words.proofs.reply.Reply.refused.Goals as goal
 
 pub returns : goal.returns

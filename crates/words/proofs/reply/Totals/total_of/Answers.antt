@@ -2,7 +2,6 @@
 use mathlib.Core.Path.{sym}
 use lib.ListN.{get_or-eq_default}
 use Rattle.words.specs.Reply.{area_totals}
-use borrow.Author.Rules.{rules}
 use Rattle.words.proofs.reply.Totals.total_of.Goals as goal
 
 pub returns : goal.returns

@@ -1,0 +1,12 @@
+-- `method_line` meets its contract: the words are read one by one. Assumes nothing.
+use Rattle.words.specs.Areas.{entry_field}
+use Rattle.listings.proofs.lines.method_line.Goals as goal
+
+pub returns : goal.returns
+unfolding entry_field
+returns c = simp (
+  c.entry_word-model.ensures,
+  c.entry_word-name.ensures,
+  c.entry_word-function.ensures,
+  c.short_line.ensures,
+)

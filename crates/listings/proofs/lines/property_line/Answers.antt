@@ -1,0 +1,12 @@
+-- `property_line` meets its contract: the words are read one by one, the index as it is counted. Assumes nothing.
+use Rattle.words.specs.Areas.{entry_field}
+use Rattle.listings.proofs.lines.property_line.Goals as goal
+
+pub returns : goal.returns
+unfolding entry_field
+returns c = simp (
+  c.entry_word-model.ensures,
+  c.property_index-index.ensures,
+  c.entry_word-name.ensures,
+  c.short_line.ensures,
+)
