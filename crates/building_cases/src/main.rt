@@ -1,5 +1,5 @@
 // The routines of `building` on stored cases, each part a module: areas without room, with room for one, one entry short, with room for all, and with the mark
-// set. Then two forms beside their covered neighbours: the state lent (`emitters`), and the writer of lines that carries its buffer (`line_writer`). `stdout`
+// set. Then two forms beside their plain neighbours: the state lent (`emitters`), and the writer of lines that carries its buffer (`line_writer`). `stdout`
 // has what must be written.
 #![tactic(auto)]
 

@@ -38,7 +38,7 @@ pub record NoneBetween (bits : List ℕ) (n r : ℕ) : Type 0 where
   pub last : r ≤ set_size
   pub between : (m : ℕ) → n < m → m < r → bit_of bits m ≡ false
 
--- `next_in`: the first number from a place on that is in the set, else setSize
+-- `next_in`: the first number from a place on that is in the set, else `set_size`
 pub record NextIn (bits : List ℕ) (from r : ℕ) : Type 0 where
   pub on : from ≤ r
   pub last : r ≤ set_size

@@ -141,16 +141,16 @@ pub record TakesBooks (tree : List ℕ) (end : ℕ) (set : List ℕ) (full stand
       → stand ≤ entries_in 1 (length books) → entries_in 1 (length books) < stand + length numbers → r.full ≡ books_area
   pub named : (k : ℕ) → k < stand → get_or after k 0 ≡ get_or books k 0
 
--- `narrow_includes`: the includes among the definitions from a place up to the end are below narrowSize
+-- `narrow_includes`: the includes among the definitions from a place up to the end are below `narrow_size`
 pub record NarrowIncludes (tree : List ℕ) (at end : ℕ) (r : Bool) : Type 0 where
   pub below : r ≡ true → (defs : List Definition) → RunAt DefinitionAt size_d defs tree at → at + run_size size_d defs ≡ end
       → Below narrow_size (dependencies defs)
 
--- `narrow`: the file numbers of the documents from a place up to the end, and the numbers they include, are below narrowSize
+-- `narrow`: the file numbers of the documents from a place up to the end, and the numbers they include, are below `narrow_size`
 pub record Narrows (tree : List ℕ) (at end : ℕ) (r : Bool) : Type 0 where
   pub below : r ≡ true → (ds : List Document) → Bundle ds tree at end → InSets narrow_size ds
 
--- `narrow_books`: whether numbers are all below narrowSize
+-- `narrow_books`: whether numbers are all below `narrow_size`
 pub record NarrowNumbers (numbers : List ℕ) (r : Bool) : Type 0 where
   pub below : r ≡ true → Below narrow_size numbers
   pub above : r ≡ false → Below narrow_size numbers → ⊥

@@ -32,7 +32,7 @@ pub record Log : Type 0 where
   pub trace : List Event
   pub this_reads : List ℕ
 
--- scopes and breakScopes: the innermost first, and in a scope the newest name first
+-- scopes and break_scopes: the innermost first, and in a scope the newest name first
 pub record FunctionState : Type 0 where
   pub header : Header
   pub depth : ℕ
