@@ -1,6 +1,7 @@
 -- `rule_row` gives the row at a number by its key, and 0 where no key is: each row is that of the table. Assumes nothing.
 use mathlib.Core.Path.{sym, ap}
 use Rattle.tree.proofs.Tables.{rule_at, no_rule}
+use borrow.Author.Rules.{rules}
 use Rattle.tree.proofs.rule_row.Goals as goal
 
 pub returns-in-1 : goal.returns-in-1
@@ -103,4 +104,4 @@ pub returns-in-47 : goal.returns-in-47
 returns-in-47 c = sym (ap rule_at c.in-47.is)
 
 pub returns-in_default : goal.returns-in_default
-returns-in_default c = no_rule c.args.kind c.in_default.in_default-own.rest
+returns-in_default c = no_rule c.args.kind (search rules)

@@ -1,6 +1,7 @@
 -- `slot_row` gives the row at a number by its key, and 0 where no key is: each row is that of the table. Assumes nothing.
 use mathlib.Core.Path.{sym, ap}
 use Rattle.tree.proofs.Tables.{slot_at, no_slot}
+use borrow.Author.Rules.{rules}
 use Rattle.tree.proofs.slot_row.Goals as goal
 
 pub returns-in-1 : goal.returns-in-1
@@ -73,4 +74,4 @@ pub returns-in-23 : goal.returns-in-23
 returns-in-23 c = sym (ap slot_at c.in-23.is)
 
 pub returns-in_default : goal.returns-in_default
-returns-in_default c = no_slot c.args.slot c.in_default.in_default-own.rest
+returns-in_default c = no_slot c.args.slot (search rules)

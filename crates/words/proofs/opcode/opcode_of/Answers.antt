@@ -3,6 +3,7 @@
 use mathlib.Core.Path.{sym, ap}
 use Rattle.words.specs.Codes.{opcodes, opcode_of}
 use Rattle.words.proofs.Codes.{none_unknown}
+use borrow.Author.Rules.{rules}
 use Rattle.words.proofs.opcode.opcode_of.Goals as goal
 
 pub returns-in-1 : goal.returns-in-1
@@ -107,4 +108,4 @@ returns-in-87 c = sym (ap opcode_of c.in-87.is)
 
 pub returns-in_default : goal.returns-in_default
 unfolding opcode_of
-returns-in_default c = none_unknown (Unit {0}) opcodes c.args.number c.in_default.in_default-own.rest
+returns-in_default c = none_unknown (Unit {0}) opcodes c.args.number (search rules)
