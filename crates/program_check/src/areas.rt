@@ -16,6 +16,7 @@ use words::areas::{
 };
 use words::reply::Totals;
 
+#[tactic(auto, using(crate::proofs::AreaTests::zeros_turn, crate::proofs::AreaTests::zeros_no, crate::proofs::AreaTests::zeros_end))]
 pub(crate) fn zeros_from(words: &[u64], from: usize) -> bool
     ensures { result ≡ zeros (drop from words.now) }
 {
