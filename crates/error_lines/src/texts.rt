@@ -65,7 +65,8 @@ fn put_escape(out: &mut [u8], at: usize, byte: u8) -> usize
         let next = put(out, at, BACKSLASH);
         return put(out, next, byte);
     }
-    if byte == BACKSLASH {
+    let is_backslash = byte == BACKSLASH;
+    if is_backslash {
         let next = put(out, at, BACKSLASH);
         return put(out, next, byte);
     }

@@ -1,2 +1,2 @@
-// No code: what the proofs by hand of `emitters` share.
+// No code: what `LentState` of `emitters` cites.
 #![tactic(auto)]
