@@ -1,7 +1,8 @@
 -- The work begins over one memory: one that stands for a context, with an entry for each book that is needed behind those that stand, is ready for the first
 -- book; a memory of zeros with three constants and their slots stands for the definition's fresh context. By the lemmas over areas, of the parts. Assumes
 -- nothing.
-use Rattle.std.proofs.Common.{◌≡◌, ℕ, suc, ◌+◌, ◌*◌, ◌/◌, ◌<◌, Bool, true, false, cond, eqb, List, [], ◌∷◌, ◌++◌, length, take, drop, replicate, sym, refl, ap, ◌∙◌, subst, arith, eqb-true}
+use Rattle.std.proofs.Common.{◌≡◌, ℕ, suc, ◌+◌, ◌*◌, ◌/◌, ◌<◌, Bool, true, false, cond, eqb, List, [], ◌∷◌, ◌++◌, length, take, drop, replicate, sym, refl, ap}
+use Rattle.std.proofs.Common.{◌∙◌, subst, arith, eqb-true}
 use lib.ListN.{length-replicate}
 use borrow.Author.Tests.{eqb-false}
 use Rattle.memory.specs.Layout.{part, Fits}
@@ -340,7 +341,8 @@ module _ (strict : Bool) {a w w₁ w₂ : List ℕ} {x : Taken} (C : LentPart co
           last 11 (omega arith) ∙ at 11 (omega arith),
         ) refl
 
-    resting : Resting κ start (part a 1 w) (plain_marks (part a 2 w₁)) (part a 3 w) (part a 4 w) (part a 5 w) (part a 6 w) (part a 7 w) (part a 8 w) (part a 9 w)
+    resting : Resting κ start (part a 1 w) (plain_marks (part a 2 w₁)) (part a 3 w) (part a 4 w) (part a 5 w) (part a 6 w) (part a 7 w) (part a 8 w)
+        (part a 9 w)
         (part a 10 w) (part a 11 w) (new_context strict) (using' constants_area 3 ∷ [])
     resting =
         let k = part a constants_area w in
@@ -410,7 +412,8 @@ module _ (strict : Bool) {a w w₁ w₂ : List ℕ} {x : Taken} (C : LentPart co
 
   -- the definition's work from there
   as_work : (root : Document) (others : List Document)
-      → compile_needed (needed [] root others) (root ∷ others) (new_context strict) ≡ needed_work root others (new_context strict) (using' constants_area 3 ∷ [])
+      → compile_needed (needed [] root others) (root ∷ others) (new_context strict) ≡ needed_work root others (new_context strict)
+      (using' constants_area 3 ∷ [])
   unfolding compile_needed
   as_work root others = refl
 

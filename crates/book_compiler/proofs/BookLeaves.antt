@@ -3,7 +3,8 @@ use Rattle.std.proofs.Common.{◌≡◌, ℕ, ◌*◌, ◌^◌, ◌<◌, ◌≤�
 use mathlib.Core.Option.{Option, none, some}
 use Rattle.words.specs.Ast.{Token}
 use Rattle.words.specs.Object.{constant_of}
-use Rattle.words.specs.Areas.{constants_area, context_locals_area, public_names_area, errors_area, methods_area, code_area, functions_area, models_area, properties_area}
+use Rattle.words.specs.Areas.{constants_area, context_locals_area, public_names_area, errors_area, methods_area, code_area, functions_area, models_area}
+use Rattle.words.specs.Areas.{properties_area}
 use Rattle.words.specs.Areas.{scope_names_area, breaks_area}
 use Rattle.definition.specs.Uses.{Limits}
 use Rattle.definition.specs.Book.{Book, Placed, push_book_error, add_book_constant, define_context_local, set_local_value, add_methods, methods_in, publish}
@@ -125,7 +126,8 @@ module _ {m m' : BookMemory} where
       area_seeks (omega arith) refl d.counts d.acts (λ κ ps others b H l r.
       stood_spared (H.preserves.stood context_locals_area (omega arith) refl) (locals_behind H) r.1)
       (λ x r. r.0.seeks (area_of m code_area) (said_by m constants_area) (area_of m functions_area) (area_of m models_area)
-      (area_of m properties_area) (said_by m methods_area) (area_of m public_names_area) (area_of m scope_names_area) (area_of m breaks_area) (area_of m errors_area))
+      (area_of m properties_area) (said_by m methods_area) (area_of m public_names_area) (area_of m scope_names_area) (area_of m breaks_area)
+      (area_of m errors_area))
       (local_grows name)
 
   pub value_set : {κ : Limits} {ps : List ℕ} {others : ℕ → List ℕ} {found : Found} {constant : ℕ} {x : Book} (o : Option ℕ) (v : ℕ)
@@ -140,7 +142,8 @@ module _ {m m' : BookMemory} where
       (r.1.words (length (others context_locals_area)) (λ z i at. let (is, same, below) = A.agrees z in
       value_behind i (length (others context_locals_area)) (length x.context.prior.locals) (length x.context.locals.names) o (sym at ∙ is) below
       (H.behind z).locals))) (value_grows o v x) (λ l r. rw d.same (r.0.values (area_of m code_area) (said_by m constants_area) (area_of m functions_area)
-      (area_of m models_area) (area_of m properties_area) (said_by m methods_area) (area_of m public_names_area) (area_of m scope_names_area) (area_of m breaks_area)
+      (area_of m models_area) (area_of m properties_area) (said_by m methods_area) (area_of m public_names_area) (area_of m scope_names_area)
+      (area_of m breaks_area)
       (area_of m errors_area) κ ps x o v A H.keeping))
 
   pub method_inserted : {model name function : ℕ} → InsertsBookMethod model name function m m' → function < 2 ^ 56
@@ -174,5 +177,6 @@ module _ {m m' : BookMemory} where
       (H.preserves.stood public_names_area (omega arith) refl) (λ z. omega arith)
       (r.1.words (length (others public_names_area)) (own_publics_behind H) (publics_behind H))) (publish_grows name q)
       (λ u r. r.0.meets (area_of m code_area) (said_by m constants_area) (area_of m functions_area) (area_of m models_area)
-      (area_of m properties_area) (said_by m methods_area) (area_of m context_locals_area) (area_of m scope_names_area) (area_of m breaks_area) (area_of m errors_area)
+      (area_of m properties_area) (said_by m methods_area) (area_of m context_locals_area) (area_of m scope_names_area) (area_of m breaks_area)
+      (area_of m errors_area)
       κ ps q H.keeping is)

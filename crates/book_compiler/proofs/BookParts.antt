@@ -1,5 +1,6 @@
 -- A routine that is lent one part of the memory does to the book what it does to its area. One law over the part's number. Assumes nothing.
-use Rattle.std.proofs.Common.{◌≡◌, ℕ, suc, ◌*◌, ◌<◌, Bool, true, false, cond, not, ◌&&◌, eqb, List, length, get_or, sym, refl, ap, ◌∙◌, subst, arith, ne_eqb, eqb-true}
+use Rattle.std.proofs.Common.{◌≡◌, ℕ, suc, ◌*◌, ◌<◌, Bool, true, false, cond, not, ◌&&◌, eqb, List, length, get_or, sym, refl, ap, ◌∙◌, subst, arith, ne_eqb}
+use Rattle.std.proofs.Common.{eqb-true}
 use borrow.Author.Tests.{eqb-false}
 use Rattle.memory.specs.Layout.{part, with_part, Fits}
 use Rattle.memory.proofs.Parts.{put_part, put_fits, ends_within}
@@ -25,7 +26,8 @@ use Rattle.book_compiler.proofs.Parts.{slots_same}
 -- the counts and areas that a memory is with other counts and another part i
 abbrev pub with_book_area : ℕ → struct.Book → List ℕ → BookMemory → BookAreas
 with_book_area i s x m =
-    book_areas s (cond (eqb i 1) x (area_of m 1)) (plain_marks (cond (eqb i 2) x (area_of m 2))) (cond (eqb i 3) x (area_of m 3)) (cond (eqb i 4) x (area_of m 4))
+    book_areas s (cond (eqb i 1) x (area_of m 1)) (plain_marks (cond (eqb i 2) x (area_of m 2))) (cond (eqb i 3) x (area_of m 3))
+    (cond (eqb i 4) x (area_of m 4))
     (cond (eqb i 5) x (area_of m 5)) (plain_methods m.book.standing_methods (cond (eqb i 6) x (area_of m 6))) (cond (eqb i 7) x (area_of m 7))
     (cond (eqb i 8) x (area_of m 8)) (cond (eqb i 9) x (area_of m 9)) (cond (eqb i 10) x (area_of m 10)) (cond (eqb i 11) x (area_of m 11))
 

@@ -89,7 +89,8 @@ define_count name g = go (eqb g.state.full 0)
     go false = refl
 
 -- the errors
-pub error_count : (number position kind value : ℕ) (s : FunctionState) (e : List ℕ) → (push_error_c number position kind value s e).state.constants ≡ s.constants
+pub error_count : (number position kind value : ℕ) (s : FunctionState) (e : List ℕ) → (push_error_c number position kind value s e).state.constants ≡
+    s.constants
 unfolding push_error_c
 error_count number position kind value s e = refl
 

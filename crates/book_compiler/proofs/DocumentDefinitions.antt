@@ -5,7 +5,8 @@ use Rattle.words.specs.Ast.{Token, Definition, Document}
 use Rattle.words.specs.Areas.{books_area}
 use Rattle.words.specs.Record.{kind_at, value_at}
 use Rattle.tree.specs.At.{DefinitionAt, size_d, kind_d, RunAt, run_size}
-use Rattle.tree.proofs.View.{ViewD, v_Local_definition, v_Include_definition, v_Model_definition, v_Public_model_definition, v_Apply_definition, view_d, head_d, see_d}
+use Rattle.tree.proofs.View.{ViewD, v_Local_definition, v_Include_definition, v_Model_definition, v_Public_model_definition, v_Apply_definition, view_d, head_d}
+use Rattle.tree.proofs.View.{see_d}
 use Rattle.tree.proofs.View.{v_Plain_function, v_Public_function, v_Implement_definition, size_d_pos}
 use Rattle.definition.specs.Uses.{Use, Limits}
 use Rattle.definition.specs.Book.{Context, Book, opened, compile_definition, compile_definitions}
@@ -183,7 +184,8 @@ named d H = record {
 
 -- `compile_document`
 module _ {tree : List ℕ} {at end index : ℕ} {s : struct.Book} {a w : List ℕ} {m' : BookMemory} where
-  pub document_compiled : CompilesDefinitions tree (at + 1) end (book_laid (opened_book s index) a w) m' → CompilesDocument tree at end index (book_laid s a w) m'
+  pub document_compiled : CompilesDefinitions tree (at + 1) end (book_laid (opened_book s index) a w) m' → CompilesDocument tree at end index (book_laid s a w)
+      m'
   document_compiled M = record {
     meets = λ d h q limited κ others context uses i books-named R.
         let H : RepresentsBook κ [] others (book_laid (opened_book s index) a w) (opened nobody context uses) =

@@ -1,11 +1,13 @@
 -- One lemma for each way through `compile_infix_expression` and `compile_assign_expression_left_part`. Assumes nothing.
-use Rattle.std.proofs.Common.{◌≡◌, ℕ, ◌+◌, ◌-◌, ◌<◌, ◌≤◌, Bool, true, false, eqb, ltb, List, sym, refl, ap, ◌∙◌, subst, arith, ltb-false, ltb-true, le-ltb, lt-ltb, eq-eqb, ne_eqb}
+use Rattle.std.proofs.Common.{◌≡◌, ℕ, ◌+◌, ◌-◌, ◌<◌, ◌≤◌, Bool, true, false, eqb, ltb, List, sym, refl, ap, ◌∙◌, subst, arith, ltb-false, ltb-true, le-ltb}
+use Rattle.std.proofs.Common.{lt-ltb, eq-eqb, ne_eqb}
 use borrow.Author.Tests.{eqb-false}
 use Rattle.words.specs.Ast.{Token, Expression, Identifier, This, Null, Integer, Float, Text, Boolean, Array, Prefix, Infix, If, IfElse, Call}
 use Rattle.words.specs.Ast.{InstanceGet, IndexGet}
 use Rattle.words.specs.Opcode.{to_instruction, word, InstanceSet, IndexSet, LocalSet, ContextSet, GlobalSet, Operation, Not}
 use Rattle.words.specs.Record.{token_at, kind_at, position_at, value_at}
-use Rattle.definition.specs.Compiler.{and_then, emit_name, push_error, compile_pair, compile_expression, compile_assign_name, compile_assign_expression_left_part}
+use Rattle.definition.specs.Compiler.{and_then, emit_name, push_error, compile_pair, compile_expression, compile_assign_name}
+use Rattle.definition.specs.Compiler.{compile_assign_expression_left_part}
 use Rattle.definition.specs.Compiler.{InfixKind, Plain, Negated, Compound, Unknown, infix_kind, compile_infix_by, compile_infix_expression}
 use Rattle.definition.specs.Compiler.{compile_operation, compile_assign_expression, skip}
 use Rattle.definition_laws.proofs.StepPreserves.{preserves_target, preserves_expression, preserves_operation}
@@ -226,7 +228,8 @@ module _ {tree : List ℕ} {at end position value start count : ℕ} where
   -- by the value, with the token's words
   by_value : {m m' : Memory} → ((x y : Expression) → ExpressionAt x tree at → ExpressionAt y tree (at + size_e x) → at + size_e x + size_e y ≡ end
       → let t = token position 39 value in
-      SimulatesInside start count m m' (compile_infix_by (infix_kind value) t (compile_expression x) (compile_expression y) (compile_assign_expression_left_part x t)))
+      SimulatesInside start count m m' (compile_infix_by (infix_kind value) t (compile_expression x) (compile_expression y)
+      (compile_assign_expression_left_part x t)))
       → CompilesInfixExpression tree at end position value start count m m'
   unfolding compile_infix_expression
   by_value A = record { meets = λ x y t q hx hy l. rw q (A x y hx hy l) }
@@ -272,7 +275,8 @@ module _ {tree : List ℕ} {at end position value start count : ℕ} where
       infix_plain out = by_value (λ x y hx hy l.
           let t = token position 39 value in
           plain_kind value (positive value ne) (omega arith) out
-          (λ (i : InfixKind). Simulates m₂ m₃ (operated i t) → SimulatesInside start count m m₃ (compile_infix_by i t (compile_expression x) (compile_expression y)
+          (λ (i : InfixKind). Simulates m₂ m₃ (operated i t) → SimulatesInside start count m m₃
+          (compile_infix_by i t (compile_expression x) (compile_expression y)
           (compile_assign_expression_left_part x t)))
           (λ o P. record {
             meets = λ κ E others w I H. P.meets κ E others (compile_expression y (compile_expression x w)) ((sides x y hx hy l).meets κ E others w I H);
@@ -312,5 +316,6 @@ module _ {tree : List ℕ} {at end position value start count : ℕ} where
   pub infix_unknown : {m m' : Memory} → 18 < value → PushesError 3 position 39 value m m' → CompilesInfixExpression tree at end position value start count m m'
   infix_unknown {m} {m'} g F = by_value (λ x y hx hy l.
       let t = token position 39 value in
-      subst (λ (i : InfixKind). SimulatesInside start count m m' (compile_infix_by i t (compile_expression x) (compile_expression y) (compile_assign_expression_left_part x t)))
+      subst (λ (i : InfixKind). SimulatesInside start count m m' (compile_infix_by i t (compile_expression x) (compile_expression y)
+      (compile_assign_expression_left_part x t)))
       (sym (unknown_kind value g)) (record { meets = λ κ E others w I H. pushed 3 t F H }))

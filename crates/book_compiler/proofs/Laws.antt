@@ -8,11 +8,13 @@ use Rattle.constant_slots.specs.Plain.{pool_of}
 use Rattle.definition.specs.FunctionState.{find_local, tail, get_last_position, define_local}
 use Rattle.definition.specs.FunctionState as method
 use Rattle.definition.specs.Uses.{Limits, total}
-use Rattle.definition.specs.Compiler.{Work, emit, emit_opcode_without_position, replace_instruction, next, doing, with_function, push_error, add_constant, mark_global}
+use Rattle.definition.specs.Compiler.{Work, emit, emit_opcode_without_position, replace_instruction, next, doing, with_function, push_error, add_constant}
+use Rattle.definition.specs.Compiler.{mark_global}
 use Rattle.definition.specs.Program.{Entries, code_entries}
 use Rattle.building.specs.declared.function_state.FunctionState.{FunctionState}
 use Rattle.building.specs.declared.scopes.Found.{Found}
-use Rattle.building.specs.Emission.{Coded, coded, next_c, emit_c, emit_last_c, emit_null_c, remove_pop_c, emit_return_c, replace_c, enter_break_c, deeper_c, depth_c}
+use Rattle.building.specs.Emission.{Coded, coded, next_c, emit_c, emit_last_c, emit_null_c, remove_pop_c, emit_return_c, replace_c, enter_break_c, deeper_c}
+use Rattle.building.specs.Emission.{depth_c}
 use Rattle.building.specs.Emission.{unless_full}
 use Rattle.building.specs.State.{most_depth, with_scope, with_loop, with_depth, with_local_count}
 use Rattle.building.specs.Found.{found_of, wrapped}

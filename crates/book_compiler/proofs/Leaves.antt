@@ -11,7 +11,8 @@ use Rattle.words.specs.Areas.{context_locals_area}
 use Rattle.definition.specs.FunctionState.{find_local, find_name, get_next_instruction_index}
 use Rattle.definition.specs.Uses.{Limits}
 use Rattle.definition.specs.Compiler.{Work, emit, push_error, add_constant, emit_constant, emit_global, emit_name, emit_name_by}
-use Rattle.definition.specs.Compiler.{emit_name_in_context, compile_expression, compile_prefix_expression, skip, compile_identifier_expression, compile_this_expression}
+use Rattle.definition.specs.Compiler.{emit_name_in_context, compile_expression, compile_prefix_expression, skip, compile_identifier_expression}
+use Rattle.definition.specs.Compiler.{compile_this_expression}
 use Rattle.definition.specs.Compiler.{compile_null_expression, compile_integer_expression, compile_float_expression, compile_string_expression}
 use Rattle.definition.specs.Compiler.{compile_boolean_expression}
 use Rattle.definition.specs.Program.{Entries}
@@ -97,7 +98,8 @@ module _ {start count : ℕ} {m : Memory} (l x g text p : ℕ) where
       go κ E others w I H (some j) q = absurd (let y : ◌≡◌ {A = ℕ} 0 1 = cc in omega arith)
 
   pub name_context : m.state.full ≡ 0 → {f : Found} → FindsLocal text f m → f ≡ Nothing → {h : Found} → FindsContextLocal start count text h m
-      → {i v : ℕ} → h ≡ At i → v ≡ word (to_instruction x i) → {m' : Memory} → OnCode (emit_c v p) m m' → SimulatesInside start count m m' (emit_name l x g text p)
+      → {i v : ℕ} → h ≡ At i → v ≡ word (to_instruction x i) → {m' : Memory} → OnCode (emit_c v p) m m' → SimulatesInside start count m m'
+      (emit_name l x g text p)
   name_context z searched lost {h} there {i} {v} at as-word {m'} d = elsewhere z searched lost there go
     where
       go : (κ : Limits) (E : Entries) (others : ℕ → List ℕ) (w : Work) → Represents κ E others m w → (o : Option ℕ) → h ≡ found_of o

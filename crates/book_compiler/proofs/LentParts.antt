@@ -1,6 +1,7 @@
 -- A routine that is lent one part of a memory: that part is what it left, every other is as it was; the memory between two books stands for the same context
 -- after a routine that is lent area 12. By the law of parts. Assumes nothing.
-use Rattle.std.proofs.Common.{◌≡◌, ℕ, zero, suc, ◌-◌, ◌<◌, Bool, true, false, cond, eqb, List, [], ◌∷◌, length, get_or, take, drop, replicate, sym, refl, ap, ◌∙◌, subst, arith, eqb-true}
+use Rattle.std.proofs.Common.{◌≡◌, ℕ, zero, suc, ◌-◌, ◌<◌, Bool, true, false, cond, eqb, List, [], ◌∷◌, length, get_or, take, drop, replicate, sym, refl, ap}
+use Rattle.std.proofs.Common.{◌∙◌, subst, arith, eqb-true}
 use borrow.Author.Tests.{eqb-false}
 use Rattle.memory.specs.Layout.{part, with_part, part_count, Fits}
 use Rattle.memory.proofs.Parts.{put_part, put_same, put_other, put_length, ends_within, part_length}
@@ -115,7 +116,8 @@ still_at_rest {κ} {others} {R} {s} {a} {w} {w'} {context} {uses} L H =
                 locals = B.locals;
                 publics = B.publics;
               };
-          keeping = subst (λ (v : BookAreas). RepresentsAreas κ [] v (opened nobody context uses)) (sym (books_view {s = opened_book s (book_count context)} f L))
+          keeping = subst (λ (v : BookAreas). RepresentsAreas κ [] v (opened nobody context uses))
+              (sym (books_view {s = opened_book s (book_count context)} f L))
               before.keeping;
           standing = before.standing;
           slots = slots_same (lent_part (omega arith) f L 13 (omega arith))
@@ -153,5 +155,6 @@ take_zeros (suc n) (suc k) = ap (λ (l : List ℕ). 0 ∷ l) (take_zeros n k)
 pub zero_part : (a w : List ℕ) (i : ℕ) → Zero w → Zero (part a i w)
 unfolding part
 zero_part a w i z =
-    let zs : drop (get_or a i 0) w ≡ replicate (length w - get_or a i 0) 0 = ap (λ (y : List ℕ). drop (get_or a i 0) y) z ∙ drop_zeros (get_or a i 0) (length w) in
+    let zs : drop (get_or a i 0) w ≡ replicate (length w - get_or a i 0) 0 = ap (λ (y : List ℕ). drop (get_or a i 0) y) z ∙ drop_zeros (get_or a i 0)
+    (length w) in
     rw zs (take_zeros (get_or a (suc i) 0 - get_or a i 0) (length w - get_or a i 0))

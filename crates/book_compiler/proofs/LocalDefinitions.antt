@@ -39,7 +39,8 @@ adds_value kind value P L = record {
 
 -- `give_value`
 module _ (tree : List ℕ) (at : ℕ) {kind value : ℕ} (hk : kind ≡ kind_at tree at) (hv : value ≡ value_at tree at) {m m' : BookMemory} {found : Found} where
-  gives_standing : (constant : ℕ) → ((o : Option ℕ) (x : Book) → compile_value (value_of (token_at tree at)) (token_at tree at) o x ≡ set_local_value o constant x)
+  gives_standing : (constant : ℕ) → ((o : Option ℕ) (x : Book) → compile_value (value_of (token_at tree at)) (token_at tree at) o x ≡ set_local_value o constant
+      x)
       → SetsLocalValue found constant m m' → GivesLocalValue tree at found m m'
   gives_standing constant computes L = record {
     gives = λ v leaf. record {

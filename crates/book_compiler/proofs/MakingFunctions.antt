@@ -1,6 +1,7 @@
 -- A function of a book made to its end on one memory, and added to the book or dropped: one lemma for each way. By the laws of a function's begin and
 -- end, and by what a function leaves as it was. Assumes nothing.
-use Rattle.std.proofs.Common.{◌≡◌, ℕ, ◌*◌, ◌<◌, ◌≤◌, Bool, true, false, cond, ◌||◌, eqb, List, [], ◌∷◌, length, sym, refl, ap, ◌∙◌, subst, arith, eq-eqb, ne_eqb, eqb-true}
+use Rattle.std.proofs.Common.{◌≡◌, ℕ, ◌*◌, ◌<◌, ◌≤◌, Bool, true, false, cond, ◌||◌, eqb, List, [], ◌∷◌, length, sym, refl, ap, ◌∙◌, subst, arith, eq-eqb}
+use Rattle.std.proofs.Common.{ne_eqb, eqb-true}
 use mathlib.Core.Option.{Option}
 use lib.Seq.{length-sets}
 use Rattle.memory.specs.Layout.{part}

@@ -1,5 +1,7 @@
--- The areas in a memory are the parts by the table of starts, and the memory is its areas one after the other. By the definition of `areas_of`. Assumes nothing.
-use Rattle.std.proofs.Common.{◌≡◌, ℕ, zero, suc, ◌<◌, List, [], ◌∷◌, ◌++◌, length, get_or, take, drop, sym, refl, ap, ◌∙◌, append_assoc, append-nil, arith, take-append-drop, drop_of_length-le, drop-cons}
+-- The areas in a memory are the parts by the table of starts, and the memory is its areas one after the other. By the definition of `areas_of`. Assumes
+-- nothing.
+use Rattle.std.proofs.Common.{◌≡◌, ℕ, zero, suc, ◌<◌, List, [], ◌∷◌, ◌++◌, length, get_or, take, drop, sym, refl, ap, ◌∙◌, append_assoc, append-nil, arith}
+use Rattle.std.proofs.Common.{take-append-drop, drop_of_length-le, drop-cons}
 use Rattle.memory.specs.Layout.{areas_of, starts_of, part}
 use Rattle.memory.proofs.Starts.{part_is_area}
 use Rattle.definition.specs.Program.{flat}
@@ -11,7 +13,8 @@ module _ {A : Type 0} (l : List A) (d : A) (long : length l ≡ 13) where
   item : (i : ℕ) → i < 13 → {xs : List A} → drop (suc i) l ≡ xs → drop i l ≡ get_or l i d ∷ xs
   item i h q = drop-cons l i d (omega (arith, long)) ∙ ap (λ (t : List A). get_or l i d ∷ t) q
 
-  thirteen : l ≡ get_or l 0 d ∷ get_or l 1 d ∷ get_or l 2 d ∷ get_or l 3 d ∷ get_or l 4 d ∷ get_or l 5 d ∷ get_or l 6 d ∷ get_or l 7 d ∷ get_or l 8 d ∷ get_or l 9 d ∷ get_or l 10 d
+  thirteen : l ≡ get_or l 0 d ∷ get_or l 1 d ∷ get_or l 2 d ∷ get_or l 3 d ∷ get_or l 4 d ∷ get_or l 5 d ∷ get_or l 6 d ∷ get_or l 7 d ∷ get_or l 8 d ∷ get_or l
+      9 d ∷ get_or l 10 d
       ∷ get_or l 11 d ∷ get_or l 12 d ∷ []
   thirteen =
       item 0 (omega arith) (item 1 (omega arith) (item 2 (omega arith) (item 3 (omega arith) (item 4 (omega arith) (item 5 (omega arith)

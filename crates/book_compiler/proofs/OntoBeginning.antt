@@ -1,6 +1,7 @@
 -- A memory whose areas are a program that passes 2026-01's check, made ready (`Ready`), is ready for a bundle's books: it stands for the context that the
 -- program spells, and what stood in each area is in place. By the lemmas over areas, of what the parts say whatever is noted in them. Assumes nothing.
-use Rattle.std.proofs.Common.{◌≡◌, ℕ, ◌*◌, ◌<◌, ◌≤◌, Bool, true, false, cond, eqb, ltb, List, [], length, take, drop, sym, refl, ap, ◌∙◌, subst, arith, length-take, length-take-le, get_or-take, eqb-true}
+use Rattle.std.proofs.Common.{◌≡◌, ℕ, ◌*◌, ◌<◌, ◌≤◌, Bool, true, false, cond, eqb, ltb, List, [], length, take, drop, sym, refl, ap, ◌∙◌, subst, arith}
+use Rattle.std.proofs.Common.{length-take, length-take-le, get_or-take, eqb-true}
 use mathlib.Core.Option.{none}
 use Rattle.memory.specs.Layout.{part, Fits}
 use Rattle.memory.proofs.Parts.{part_length}

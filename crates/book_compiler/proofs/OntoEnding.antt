@@ -1,7 +1,8 @@
 -- The ways to the end of laying on, a trial and a commit over one memory: refused before the work, an area too short, a book with errors or a ring, other
 -- totals than a trial's, a trial, and a delivery that is kept. What stood is given back at each refusal and at a trial, word for word; where a delivery is
 -- kept what is noted goes, and the areas are what they said. By the lemmas over areas. Assumes nothing.
-use Rattle.std.proofs.Common.{◌≡◌, ℕ, zero, suc, ◌+◌, ◌*◌, ◌<◌, Bool, true, false, cond, ◌&&◌, ltb, leb, List, [], length, get_or, take, drop, set, sym, refl, ap, ◌∙◌, subst, zero-mul, arith, eqb→eq, length-take, get_or-take, set-set, lt-ltb, leb-true}
+use Rattle.std.proofs.Common.{◌≡◌, ℕ, zero, suc, ◌+◌, ◌*◌, ◌<◌, Bool, true, false, cond, ◌&&◌, ltb, leb, List, [], length, get_or, take, drop, set, sym, refl}
+use Rattle.std.proofs.Common.{ap, ◌∙◌, subst, zero-mul, arith, eqb→eq, length-take, get_or-take, set-set, lt-ltb, leb-true}
 use native.Mathlib.Decide.{dec_lt, ℕ_discrete}
 use mathlib.Core.Option.{none, some}
 use Rattle.memory.specs.Layout.{part, part_count, Fits}
@@ -87,7 +88,8 @@ module _ {t : Totals} {a w w₁ : List ℕ} (f : Fits a (length w)) (passed : pr
   as_long w' q i h = part_lengths w w' f q i h
 
   -- a refusal: what stood is given back
-  module _ {w₂ w₃ : List ℕ} (long₂ : length w₂ ≡ length w₁) (kept : (i : ℕ) → i < part_count → is_book_area i ≡ true → Stood i (stood_in t a w₁ i) (part a i w₂))
+  module _ {w₂ w₃ : List ℕ} (long₂ : length w₂ ≡ length w₁) (kept : (i : ℕ) → i < part_count → is_book_area i ≡ true → Stood i (stood_in t a w₁ i)
+      (part a i w₂))
       (named : (k : ℕ) → k < t.books → get_or (part a books_area w₂) k 0 ≡ get_or (part a books_area w₁) k 0) (G : GivenBack t a w₂ w₃) where
     long : length w₂ ≡ length w
     long = long₂ ∙ R.long

@@ -1,6 +1,7 @@
 -- Calls on a program over one memory: the set of the books that stand has room for their file numbers, and what is promised of the parts is promised of the
 -- areas in the memory; a program that fails the check is left as it is, and a stale commit leaves no errors. By the laws of the layout. Assumes nothing.
-use Rattle.std.proofs.Common.{◌≡◌, ℕ, zero, suc, ◌+◌, ◌*◌, ◌<◌, Bool, true, false, ◌&&◌, T, ltb, leb, List, [], ◌∷◌, ◌++◌, length, get_or, take, replicate, sym, refl, ap, ◌∙◌, subst, arith, leb-true}
+use Rattle.std.proofs.Common.{◌≡◌, ℕ, zero, suc, ◌+◌, ◌*◌, ◌<◌, Bool, true, false, ◌&&◌, T, ltb, leb, List, [], ◌∷◌, ◌++◌, length, get_or, take, replicate, sym}
+use Rattle.std.proofs.Common.{refl, ap, ◌∙◌, subst, arith, leb-true}
 use mathlib.Core.Option.{Option, none, some}
 use Rattle.memory.specs.Layout.{part, starts_of, Fits}
 use Rattle.memory.proofs.Starts.{starts_fit}

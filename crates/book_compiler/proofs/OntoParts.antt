@@ -1,6 +1,7 @@
 -- A program that stands made ready for a bundle, and given back: one lemma for each way through the routines of `onto.rt` that do it. By the law of parts, and
 -- of the words of one part by what each routine of `undo` leaves. Assumes nothing.
-use Rattle.std.proofs.Common.{◌≡◌, ℕ, ◌+◌, ◌-◌, ◌*◌, ◌/◌, ◌<◌, ◌≤◌, Bool, true, false, cond, ◌||◌, eqb, List, ◌++◌, length, take, replicate, sym, refl, ap, ◌∙◌, subst, append-nil, div-lt_iff_lt-mul, mul-zero, le-div_iff_mul-le, arith, take_all, eq-eqb, ne_eqb}
+use Rattle.std.proofs.Common.{◌≡◌, ℕ, ◌+◌, ◌-◌, ◌*◌, ◌/◌, ◌<◌, ◌≤◌, Bool, true, false, cond, ◌||◌, eqb, List, ◌++◌, length, take, replicate, sym, refl, ap, ◌∙◌}
+use Rattle.std.proofs.Common.{subst, append-nil, div-lt_iff_lt-mul, mul-zero, le-div_iff_mul-le, arith, take_all, eq-eqb, ne_eqb}
 use borrow.Author.Tests.{eqb-false}
 use Rattle.memory.specs.Layout.{part, Fits}
 use Rattle.words.specs.Areas.{constants_area, methods_area, errors_area, width_of, cleared_from}
@@ -69,7 +70,8 @@ made_ready t {a} {w} {w₁} {w₂} {w₃} {w₄} E K T S = record {
             ∙ ap (noted_methods t.methods)
             (by-constants methods_area (omega arith) (λ e. omega arith) ∙ by-errors methods_area (omega arith) (λ e. omega arith));
         errors = cleared_zero (part a errors_area w) (by_slots errors_area (omega arith) (λ e. omega arith)
-            ∙ by-methods errors_area (omega arith) (λ e. omega arith) ∙ by-constants errors_area (omega arith) (λ e. omega arith) ∙ lent_does (omega arith) f E);
+            ∙ by-methods errors_area (omega arith) (λ e. omega arith) ∙ by-constants errors_area (omega arith) (λ e. omega arith) ∙ lent_does (omega arith) f
+            E);
         slots = slots_filled S f₃;
         others = λ i h q.
             by_slots i h (λ e. not_slots i q (sym e)) ∙ by-methods i h (λ e. eqb-false i methods_area (not_methods i q) (sym e))

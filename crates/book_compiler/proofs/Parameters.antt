@@ -8,7 +8,8 @@ use Rattle.words.specs.Record.{token_at, kind_at, position_at, value_at}
 use Rattle.definition.specs.FunctionState.{define_local, new_function_state, get_last_position}
 use Rattle.definition.specs.FunctionState as method
 use Rattle.definition.specs.Uses.{Limits}
-use Rattle.definition.specs.Compiler.{Work, doing, with_function, skip, bare_by, compile_bare, compile_parameter, compile_parameters, compile_statements, and_then}
+use Rattle.definition.specs.Compiler.{Work, doing, with_function, skip, bare_by, compile_bare, compile_parameter, compile_parameters, compile_statements}
+use Rattle.definition.specs.Compiler.{and_then}
 use Rattle.definition.specs.Compiler.{compile_function_definition_base}
 use Rattle.definition.specs.Program.{Entries}
 use Rattle.definition_laws.proofs.StepPreserves.{preserves_parameter, preserves_parameters}

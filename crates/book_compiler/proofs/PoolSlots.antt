@@ -1,6 +1,7 @@
 -- The constants' pool as a list, and its table of slots: an entry more is a constant more at the end, a mark changes no constant, and the search through a
 -- table that filling anew gives is the search of `building`. By the words of the entries. Assumes nothing.
-use Rattle.std.proofs.Common.{◌≡◌, ℕ, zero, suc, ◌+◌, ◌*◌, ◌<◌, ◌≤◌, Bool, true, false, cond, eqb, ltb, ◌≢◌, List, [], ◌∷◌, ◌++◌, length, get_or, take, drop, set, sym, refl, ap, ◌∙◌, arith, length-take-le, get_or-set_other, get_or-take, get_or-append-add, ltb-true, lt-ltb}
+use Rattle.std.proofs.Common.{◌≡◌, ℕ, zero, suc, ◌+◌, ◌*◌, ◌<◌, ◌≤◌, Bool, true, false, cond, eqb, ltb, ◌≢◌, List, [], ◌∷◌, ◌++◌, length, get_or, take, drop}
+use Rattle.std.proofs.Common.{set, sym, refl, ap, ◌∙◌, arith, length-take-le, get_or-set_other, get_or-take, get_or-append-add, ltb-true, lt-ltb}
 use lib.ListN.{get_or-append}
 use Rattle.words.specs.Areas.{entries_in, entry_field, set_entry, word_fits}
 use Rattle.words.specs.Object.{Constant, constant_of}

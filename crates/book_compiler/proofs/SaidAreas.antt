@@ -16,7 +16,8 @@ use Rattle.book_compiler.specs.BookOrder.{Came, came_delivered, came_faulty, cam
 -- what the parts are is what the areas were
 pub came_parts : {κ : Limits} {others : ℕ → List ℕ} {m : BookMemory} {rest : List ℕ} {row place : ℕ} {us : List Use} {x : Ending}
     → Came κ others m rest row place us x
-    → slices.Came κ m.book (area_of m 1) (said_by m 2) (area_of m 3) (area_of m 4) (area_of m 5) (said_by m 6) (area_of m 7) (area_of m 8) (area_of m 9) (area_of m 10)
+    → slices.Came κ m.book (area_of m 1) (said_by m 2) (area_of m 3) (area_of m 4) (area_of m 5) (said_by m 6) (area_of m 7) (area_of m 8) (area_of m 9)
+    (area_of m 10)
     (area_of m 11) (area_of m 12) rest row place us x
 came_parts (came_delivered h i R b) = slices.came_delivered h i (record { ready = R.represents.ready.keeping }) b
 came_parts (came_faulty h i F) = slices.came_faulty h i F

@@ -141,7 +141,8 @@ module _ {tree : List ℕ} {at end start count : ℕ} {s s₁ s₂ s' : Function
     unfolding StatementAt size_s compile_expression_statement
     statement_expression {m} q M d = around (record { meets = λ st h k. go st (see_s st tree at h kind_is q) h k })
       where
-        go : (st : Statement) → ViewS 25 st → StatementAt st tree at → at + size_s st ≡ end → SimulatesInside start count (laid s₁ a l) (laid s₂ a l₂) (inner st)
+        go : (st : Statement) → ViewS 25 st → StatementAt st tree at → at + size_s st ≡ end → SimulatesInside start count (laid s₁ a l) (laid s₂ a l₂)
+            (inner st)
         go (Expr x) v_Expr h k = record { meets = λ κ E others w I H. last_emitted Pop d ((M.meets x h.1 (omega arith)).meets κ E others w I H) }
         go (Local _) seen h k = elim seen [ ]
         go (Return _) seen h k = elim seen [ ]
@@ -154,7 +155,8 @@ module _ {tree : List ℕ} {at end start count : ℕ} {s s₁ s₂ s' : Function
     unfolding StatementAt size_s
     statement_local q M = around (record { meets = λ st h k. go st (see_s st tree at h kind_is q) h k })
       where
-        go : (st : Statement) → ViewS 20 st → StatementAt st tree at → at + size_s st ≡ end → SimulatesInside start count (laid s₁ a l) (laid s₂ a l₂) (inner st)
+        go : (st : Statement) → ViewS 20 st → StatementAt st tree at → at + size_s st ≡ end → SimulatesInside start count (laid s₁ a l) (laid s₂ a l₂)
+            (inner st)
         go (Local vs) v_Local h k = M.meets vs h.1 (omega arith)
         go (Return _) seen h k = elim seen [ ]
         go (For _ _ _ _) seen h k = elim seen [ ]
@@ -168,7 +170,8 @@ module _ {tree : List ℕ} {at end start count : ℕ} {s s₁ s₂ s' : Function
     unfolding StatementAt size_s
     statement_for position-is q M = around (record { meets = λ st h k. go st (see_s st tree at h kind_is q) h k })
       where
-        go : (st : Statement) → ViewS 24 st → StatementAt st tree at → at + size_s st ≡ end → SimulatesInside start count (laid s₁ a l) (laid s₂ a l₂) (inner st)
+        go : (st : Statement) → ViewS 24 st → StatementAt st tree at → at + size_s st ≡ end → SimulatesInside start count (laid s₁ a l) (laid s₂ a l₂)
+            (inner st)
         go (For t i x ss) v_For h k =
             let z : at + 2 ≡ at + 1 + 1 = omega arith in
             M.meets t i x ss (ap (λ (u : Token). u.position) h.0.token ∙ sym position-is) h.1 (rw (← z) h.2) (rw (← z) h.3) (omega arith)

@@ -1,5 +1,6 @@
 -- Words below a place stay: by what each write leaves of the other words. Assumes nothing.
-use Rattle.std.proofs.Common.{◌≡◌, ℕ, zero, suc, ◌+◌, ◌-◌, ◌*◌, ◌<◌, ◌≤◌, Bool, true, false, cond, eqb, leb, List, [], ◌∷◌, ◌++◌, length, get_or, take, set, replicate, sym, refl, ap, ◌∙◌, subst, arith, get_or-set_other, ltb-true, eqb-true, leb-true}
+use Rattle.std.proofs.Common.{◌≡◌, ℕ, zero, suc, ◌+◌, ◌-◌, ◌*◌, ◌<◌, ◌≤◌, Bool, true, false, cond, eqb, leb, List, [], ◌∷◌, ◌++◌, length, get_or, take, set}
+use Rattle.std.proofs.Common.{replicate, sym, refl, ap, ◌∙◌, subst, arith, get_or-set_other, ltb-true, eqb-true, leb-true}
 use lib.Seq.{sets}
 use Rattle.words.specs.Areas.{set_entry, write_entry, write_word, word_fits, most_width}
 use Rattle.building.specs.declared.taking.Taken.{Taken}

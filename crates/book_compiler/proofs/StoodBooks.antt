@@ -1,16 +1,19 @@
 -- Each routine of a book's definitions leaves what stood before the call: it writes nothing with the mark set, and else behind a count, or to an entry of the
 -- book's own. By cases over each, and by what a step leaves of the context. Assumes nothing.
-use Rattle.std.proofs.Common.{◌≡◌, ℕ, zero, suc, ◌+◌, ◌-◌, ◌*◌, ◌^◌, ◌<◌, ◌≤◌, Bool, true, false, cond, eqb, ltb, List, [], ◌∷◌, ◌++◌, length, sym, refl, ap, ◌∙◌, subst, arith, length-append}
+use Rattle.std.proofs.Common.{◌≡◌, ℕ, zero, suc, ◌+◌, ◌-◌, ◌*◌, ◌^◌, ◌<◌, ◌≤◌, Bool, true, false, cond, eqb, ltb, List, [], ◌∷◌, ◌++◌, length, sym, refl, ap}
+use Rattle.std.proofs.Common.{◌∙◌, subst, arith, length-append}
 use mathlib.Core.Option.{Option, none, some}
 use Rattle.words.specs.Ast.{Token}
-use Rattle.words.specs.Areas.{code_area, constants_area, functions_area, models_area, properties_area, methods_area, context_locals_area, public_names_area, write_word}
+use Rattle.words.specs.Areas.{code_area, constants_area, functions_area, models_area, properties_area, methods_area, context_locals_area, public_names_area}
+use Rattle.words.specs.Areas.{write_word}
 use Rattle.words.specs.Areas.{Patched}
 use Rattle.words.specs.Object.{Constant, is_shared}
 use Rattle.definition.specs.FunctionState.{Entry, find_name}
 use Rattle.definition.specs.Prior.{Prior}
 use Rattle.definition.specs.Uses.{Limits}
 use Rattle.definition.specs.Compiler.{Work, find_constant, add_constant_by, add_constant_no_check, add_constant}
-use Rattle.definition.specs.Book.{Context, Book, working, push_book_error, add_book_constant, define_context_local_by, define_context_local, set_local_value, add_methods}
+use Rattle.definition.specs.Book.{Context, Book, working, push_book_error, add_book_constant, define_context_local_by, define_context_local, set_local_value}
+use Rattle.definition.specs.Book.{add_methods}
 use Rattle.definition.specs.Book.{Method, Placed, Properties, has_text, noted, property_count, add_property, add_model, publish}
 use Rattle.definition.specs.Program.{function_code, function_entries, model_entry, model_properties, property_entries, local_entry, entries_from}
 use Rattle.definition.specs.Program.{bit, public_entries, assembly_publics, constant_table, property_table, method_table, public_table}

@@ -1,6 +1,7 @@
 -- Each routine of `building` leaves what stood before the function: it writes nothing with the mark set, and else behind the function's base or a count.
 -- By cases over each. Assumes nothing.
-use Rattle.std.proofs.Common.{◌≡◌, ℕ, zero, suc, ◌+◌, ◌-◌, ◌*◌, ◌/◌, ◌^◌, ◌<◌, ◌≤◌, min, Bool, true, false, cond, eqb, ltb, List, [], ◌∷◌, length, refl, ◌∙◌, subst, arith, ltb-true, eqb-true}
+use Rattle.std.proofs.Common.{◌≡◌, ℕ, zero, suc, ◌+◌, ◌-◌, ◌*◌, ◌/◌, ◌^◌, ◌<◌, ◌≤◌, min, Bool, true, false, cond, eqb, ltb, List, [], ◌∷◌, length, refl, ◌∙◌}
+use Rattle.std.proofs.Common.{subst, arith, ltb-true, eqb-true}
 use mathlib.Core.Option.{Option, none, some}
 use Rattle.words.specs.Areas.{code_area, constants_area, breaks_area, errors_area, scope_names_area, entry_field, write_word}
 use Rattle.words.specs.Object.{constant_of, is_shared, NULL}

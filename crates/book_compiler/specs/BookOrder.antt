@@ -4,7 +4,8 @@ use Rattle.std.specs.Prelude.{◌≡◌, ℕ, ◌+◌, ◌/◌, ◌%◌, ◌<◌
 use Rattle.memory.specs.Layout.{part, part_count, Fits}
 use Rattle.words.specs.Ast.{Document}
 use Rattle.words.specs.Areas.{entries_in, entry_field, constants_area, errors_area, books_area}
-use Rattle.words.specs.Areas.{code_area, functions_area, models_area, properties_area, methods_area, context_locals_area, public_names_area, scope_names_area, breaks_area}
+use Rattle.words.specs.Areas.{code_area, functions_area, models_area, properties_area, methods_area, context_locals_area, public_names_area, scope_names_area}
+use Rattle.words.specs.Areas.{breaks_area}
 use Rattle.words.specs.declared.reply.Reply as reply
 use Rattle.words.specs.Reply.{delivery, refusal}
 use Rattle.definition.specs.Uses.{Use, using', Limits, first_over}
@@ -67,7 +68,8 @@ pub record PushesRingErrorsIn (i count : ℕ) (t : Taken) (starts before : List 
 
 -- how the books end, where nothing is full: `rest` is what stands in area 12 behind the books; of a delivery `place` is the number of books
 pub data Came (κ : Limits) (others : ℕ → List ℕ) (m : BookMemory) (rest : List ℕ) (row place : ℕ) (uses : List Use) : Ending → Type 0 where
-  came_delivered : {context : Context} → row ≡ 0 → place ≡ book_count context → AtRest κ others m context uses → area_of m books_area ≡ loaded_of context ++ rest
+  came_delivered : {context : Context} → row ≡ 0 → place ≡ book_count context → AtRest κ others m context uses → area_of m books_area ≡ loaded_of context ++
+      rest
       → Came κ others m rest row place uses (Delivered context)
   came_faulty : {file : ℕ} {es : List Error} → row ≡ 7 → place ≡ file → Filled 4 (area_of m errors_area) (entries_from error_entry 0 es) m.book.errors
       → Came κ others m rest row place uses (Faulty file es)
@@ -105,7 +107,8 @@ pub record Drives (tree : List ℕ) (end done count : ℕ) (set : List ℕ) (m m
 pub record Lent (κ : Limits) (m : BookMemory) : Type 0 where
   pub fitted : Fitted κ
       (book_areas m.book (area_of m code_area) (area_of m constants_area) (area_of m functions_area) (area_of m models_area) (area_of m properties_area)
-      (area_of m methods_area) (area_of m context_locals_area) (area_of m public_names_area) (area_of m scope_names_area) (area_of m breaks_area) (area_of m errors_area))
+      (area_of m methods_area) (area_of m context_locals_area) (area_of m public_names_area) (area_of m scope_names_area) (area_of m breaks_area)
+      (area_of m errors_area))
   pub books : Sized κ books_area (area_of m books_area)
 
 -- before the books that are needed: in area 12 the file numbers of those that stand, and the rest; and the set of those that stand
@@ -176,7 +179,8 @@ pub record Finishes (m : BookMemory) (row place : ℕ) (after : List ℕ) (r : r
 abbrev pub parts_of : List ℕ → List ℕ → Areas
 parts_of starts w =
     areas (part starts code_area w) (part starts constants_area w) (part starts functions_area w) (part starts models_area w) (part starts properties_area w)
-    (part starts methods_area w) (part starts context_locals_area w) (part starts public_names_area w) (part starts scope_names_area w) (part starts breaks_area w)
+    (part starts methods_area w) (part starts context_locals_area w) (part starts public_names_area w) (part starts scope_names_area w)
+    (part starts breaks_area w)
     (part starts errors_area w) (part starts books_area w)
 
 -- `run`: from a memory of zeros, what the call promises of its parts

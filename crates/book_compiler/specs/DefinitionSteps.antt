@@ -8,7 +8,8 @@ use Rattle.words.specs.Object.{constant_of}
 use Rattle.words.specs.Record.{token_at}
 use Rattle.tree.specs.At.{Leaf, Headed, ValueAt, BindingAt, AliasAt, NameAt, FunctionAt, DefinitionAt, RunAt, run_size, size_f, size_d, single, double}
 use Rattle.definition.specs.Uses.{Limits}
-use Rattle.definition.specs.Book.{Book, BookStep, Placed, set_local_value, add_book_constant, value_of, compile_value, compile_binding, compile_local_definition}
+use Rattle.definition.specs.Book.{Book, BookStep, Placed, set_local_value, add_book_constant, value_of, compile_value, compile_binding}
+use Rattle.definition.specs.Book.{compile_local_definition}
 use Rattle.definition.specs.Book.{compile_alias, compile_include_definition, compile_include, property_count, add_property, compile_properties}
 use Rattle.definition.specs.Book.{compile_model_definition, find_model_index_by_local_name, compile_apply_definition, compile_function_definition}
 use Rattle.definition.specs.Book.{add_methods, compile_implement_definition}

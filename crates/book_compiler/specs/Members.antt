@@ -6,8 +6,10 @@ use Rattle.words.specs.Opcode.{to_instruction, ArrayOp, CallOp, InstanceGetOp, I
 use Rattle.words.specs.Record.{kind_at, position_at, value_at}
 use Rattle.definition.specs.Uses.{Limits}
 use Rattle.definition.specs.Program.{Entries}
-use Rattle.definition.specs.Compiler.{Work, next, emit, emit_opcode, skip, infix_kind, compile_expression, compile_expressions, compile_assign_expression_left_part}
-use Rattle.definition.specs.Compiler.{compile_prefix_expression, compile_infix_expression, compile_if_expression, compile_part, compile_no_part, compile_statement}
+use Rattle.definition.specs.Compiler.{Work, next, emit, emit_opcode, skip, infix_kind, compile_expression, compile_expressions}
+use Rattle.definition.specs.Compiler.{compile_assign_expression_left_part}
+use Rattle.definition.specs.Compiler.{compile_prefix_expression, compile_infix_expression, compile_if_expression, compile_part, compile_no_part}
+use Rattle.definition.specs.Compiler.{compile_statement}
 use Rattle.definition.specs.Compiler.{compile_statements, compile_variables, compile_bare, compile_valued, compile_for_statement}
 use Rattle.tree.specs.At.{Head, Leaf, ExpressionAt, ExpressionsAt, VariablesAt, StatementAt, StatementsAt, size_e, size_es, size_vs, size_s, size_ss}
 use Rattle.compiler_laws.specs.InsideFunction.{Counted, operated}
@@ -65,7 +67,8 @@ pub record CompilesIfExpression (tree : List ℕ) (at end start count : ℕ) (m 
   pub other : (c : Expression) (t f : Statements) → ExpressionAt c tree at → Head tree (at + size_e c) 43 (1 + size_ss t)
       → StatementsAt t tree (at + size_e c + 1) → Head tree (at + size_e c + (1 + size_ss t)) 43 (1 + size_ss f)
       → StatementsAt f tree (at + size_e c + (1 + size_ss t) + 1) → at + size_e c + (1 + size_ss t) + (1 + size_ss f) ≡ end
-      → SimulatesInside start count m m' (compile_if_expression (compile_expression c) (compile_part (compile_statements t)) (compile_part (compile_statements f)))
+      → SimulatesInside start count m m' (compile_if_expression (compile_expression c) (compile_part (compile_statements t))
+      (compile_part (compile_statements f)))
 
 -- `compile_assign_expression_left_part`: the three words are the assignment's
 pub record CompilesAssignLeftPart (tree : List ℕ) (at end position value start count : ℕ) (m m' : Memory) : Type 0 where

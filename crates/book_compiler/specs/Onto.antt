@@ -94,7 +94,8 @@ pub record RunsOnto (o : Order) (strict : Bool) (tree : List ℕ) (t : Totals) (
       → Answers o strict tree t (parts_of starts before) (parts_of starts after) r
   pub left_over : Fits starts (length before) → counted_fault (lent_counted (parts_of starts before) t) ≡ none → Zero (part starts slots_part after)
 
--- `answer_onto`, of any order: demands 1 and 2 of the areas in the memory, and every word; demand 3 follows from them (`lays_on`, `commits` of `definition_laws`)
+-- `answer_onto`, of any order: demands 1 and 2 of the areas in the memory, and every word; demand 3 follows from them (`lays_on`, `commits` of
+-- `definition_laws`)
 pub record AnswersInto (o : Order) (strict : Bool) (tree : List ℕ) (t : Totals) (lengths before after : List ℕ) (r : Reply) : Type 0 where
   pub answers : Answers o strict tree t (areas_in lengths before) (areas_in lengths after) r
   pub words : after ≡ words_after o strict tree t lengths before

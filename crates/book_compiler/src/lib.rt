@@ -72,7 +72,8 @@ pub fn trial(
     grown::answer_onto(tree, strict, Order::Trial, standing, lengths, memory)
 }
 
-// Lays on what a trial was answered `tried` for (2026-08): row 12 where the program has another number of bundles since, row 13 where the totals of the listing's
+// Lays on what a trial was answered `tried` for (2026-08): row 12 where the program has another number of bundles since, row 13 where the totals of the
+// listing's
 // line 1 are others; the program then stays as it stands.
 pub fn commit(
     tree: &[u64],

@@ -1,6 +1,8 @@
 -- Instructions replaced, breaks, and code given back: what `replace_instruction`, `emit_break`, `exit_break_scope` and `drop_function` do to memory is
 -- what the definition's steps of the same names do. The breaks of the innermost loop are patched one by one, by induction over them. Assumes nothing.
-use Rattle.std.proofs.Common.{◌≡◌, ℕ, zero, suc, ◌+◌, ◌-◌, ◌*◌, ◌<◌, ◌≤◌, min, Bool, true, false, cond, eqb, ltb, List, [], ◌∷◌, ◌++◌, length, get_or, set, sym, refl, ap, ◌∙◌, subst, append_assoc, arith, length-append, length-set, get_or-append-add, ltb-false, ltb-true, lt-ltb, ne_eqb, eqb-true}
+use Rattle.std.proofs.Common.{◌≡◌, ℕ, zero, suc, ◌+◌, ◌-◌, ◌*◌, ◌<◌, ◌≤◌, min, Bool, true, false, cond, eqb, ltb, List, [], ◌∷◌, ◌++◌, length, get_or, set, sym}
+use Rattle.std.proofs.Common.{refl, ap, ◌∙◌, subst, append_assoc, arith, length-append, length-set, get_or-append-add, ltb-false, ltb-true, lt-ltb, ne_eqb}
+use Rattle.std.proofs.Common.{eqb-true}
 use native.Mathlib.Decide.{dec_lt}
 use lib.Seq.{set_out, length-sets}
 use borrow.Author.Tests.{eqb-false}

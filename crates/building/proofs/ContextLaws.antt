@@ -1,6 +1,7 @@
 -- What the routines of `context.rt` do to areas 7 and 3, over the entries that fill them: a search finds what the definition's list has, an entry more
 -- stands behind the others or the mark is the area's, and a value changes no name. Assumes nothing.
-use Rattle.std.proofs.Common.{◌≡◌, ℕ, ◌+◌, ◌-◌, ◌*◌, ◌^◌, ◌<◌, ◌≤◌, Bool, true, false, cond, eqb, ltb, List, [], ◌∷◌, ◌++◌, length, get_or, set, sym, refl, ap, ◌∙◌, arith, length-append, get_or-set_other, get_or-set_same, set-set, ltb-false, ltb-true, lt-ltb, eq-eqb, ne_eqb, eqb-true}
+use Rattle.std.proofs.Common.{◌≡◌, ℕ, ◌+◌, ◌-◌, ◌*◌, ◌^◌, ◌<◌, ◌≤◌, Bool, true, false, cond, eqb, ltb, List, [], ◌∷◌, ◌++◌, length, get_or, set, sym, refl, ap}
+use Rattle.std.proofs.Common.{◌∙◌, arith, length-append, get_or-set_other, get_or-set_same, set-set, ltb-false, ltb-true, lt-ltb, eq-eqb, ne_eqb, eqb-true}
 use native.Mathlib.Decide.{dec_lt}
 use mathlib.Core.Option.{Option, none, some}
 use lib.ListN.{get_or-append}

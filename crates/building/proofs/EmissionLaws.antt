@@ -2,7 +2,9 @@
 -- With
 -- the mark set nothing changes and only notes come; where an area is full its note is the first beyond; else the areas hold the function after the
 -- step. By cases of the mark and of room, and by the laws of `Filling`. Assumes nothing.
-use Rattle.std.proofs.Common.{◌≡◌, ℕ, zero, suc, ◌+◌, ◌-◌, ◌*◌, ◌/◌, ◌^◌, ◌<◌, ◌≤◌, Bool, true, false, cond, eqb, ltb, List, [], ◌∷◌, ◌++◌, length, get_or, take, sym, refl, ap, ◌∙◌, subst, append_assoc, arith, length-append, length-take, take-suc, get_or-append-add, ltb-false, ltb-true, le-ltb, lt-ltb, eq-eqb, ne_eqb, eqb-true, le-leb}
+use Rattle.std.proofs.Common.{◌≡◌, ℕ, zero, suc, ◌+◌, ◌-◌, ◌*◌, ◌/◌, ◌^◌, ◌<◌, ◌≤◌, Bool, true, false, cond, eqb, ltb, List, [], ◌∷◌, ◌++◌, length, get_or}
+use Rattle.std.proofs.Common.{take, sym, refl, ap, ◌∙◌, subst, append_assoc, arith, length-append, length-take, take-suc, get_or-append-add, ltb-false}
+use Rattle.std.proofs.Common.{ltb-true, le-ltb, lt-ltb, eq-eqb, ne_eqb, eqb-true, le-leb}
 use native.Mathlib.Decide.{dec_lt}
 use mathlib.Core.Option.{Option, none}
 use lib.ListN.{get_or-eq_default}
@@ -20,7 +22,8 @@ use Rattle.definition.specs.Program.{Entries, code_entries}
 use Rattle.building.specs.declared.function_state.FunctionState as struct
 use Rattle.building.specs.State.{with_code, with_code_count}
 use Rattle.building.specs.Taking.{taken}
-use Rattle.building.specs.Emission.{Coded, coded, next_c, last_c, last_position_c, last_opcode_c, emit_c, emit_last_c, emit_null_c, pop_c, remove_pop_c, emit_return_c}
+use Rattle.building.specs.Emission.{Coded, coded, next_c, last_c, last_position_c, last_opcode_c, emit_c, emit_last_c, emit_null_c, pop_c, remove_pop_c}
+use Rattle.building.specs.Emission.{emit_return_c}
 use Rattle.building.specs.RepresentsMachine.{Machine, machine, Filled, Contents, Marks, unmarked, marked, RepresentsMachine}
 use Rattle.building.proofs.Filling.{filled_more, filled_field, filled_back, room_fits, set_entry_length, all_front, code_length}
 use Rattle.building.proofs.Filling.{over_stays, over_here, held_full, Capped, capped, held_step}
@@ -338,7 +341,8 @@ module _ {κ : Limits} {earlier : Entries} {s : struct.FunctionState} {c k n b e
   pub remove_law : RepresentsMachine κ earlier (coded_machine (remove_pop_c (coded s c)) k n b e) (doing method.remove_pop_or_push_null w)
   remove_law = go (eqb s.full 0) refl
     where
-      go : (t : Bool) → eqb s.full 0 ≡ t → RepresentsMachine κ earlier (coded_machine (remove_pop_c (coded s c)) k n b e) (doing method.remove_pop_or_push_null w)
+      go : (t : Bool) → eqb s.full 0 ≡ t → RepresentsMachine κ earlier (coded_machine (remove_pop_c (coded s c)) k n b e)
+          (doing method.remove_pop_or_push_null w)
       go true d = remove_go (eqb-true s.full 0 d) (eqb (last_opcode w.function) Pop) refl (eqb (last_opcode w.function) ReturnOp) refl
       go false d =
           let ne = eqb-false s.full 0 d in

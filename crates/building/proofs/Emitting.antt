@@ -1,6 +1,7 @@
 -- What the routines of `function_state.rt` make of the state and the areas, by the ways through their code: one lemma for each way, from what the
 -- callees ensure and the tests on the way. Assumes nothing.
-use Rattle.std.proofs.Common.{◌≡◌, ℕ, suc, ◌+◌, ◌-◌, ◌/◌, ◌^◌, ◌<◌, ◌≤◌, min, Bool, true, false, cond, eqb, ltb, List, [], ◌∷◌, sym, refl, ap, ◌∙◌, arith, ltb-true, le-ltb, lt-ltb, eq-eqb, ne_eqb}
+use Rattle.std.proofs.Common.{◌≡◌, ℕ, suc, ◌+◌, ◌-◌, ◌/◌, ◌^◌, ◌<◌, ◌≤◌, min, Bool, true, false, cond, eqb, ltb, List, [], ◌∷◌, sym, refl, ap, ◌∙◌, arith}
+use Rattle.std.proofs.Common.{ltb-true, le-ltb, lt-ltb, eq-eqb, ne_eqb}
 use Rattle.words.specs.Areas.{code_area, breaks_area, entry_field, write_word}
 use Rattle.words.specs.Opcode.{to_instruction, word, Pop, PushConstant, ReturnOp, Jump}
 use Rattle.words.specs.Object.{NULL}
@@ -8,7 +9,8 @@ use Rattle.building.specs.declared.taking.Taken.{Taken}
 use Rattle.building.specs.declared.function_state.FunctionState.{FunctionState}
 use Rattle.building.specs.State.{with_code, with_code_count, with_breaks, with_loop}
 use Rattle.building.specs.Taking.{Took, given_up}
-use Rattle.building.specs.Emission.{Coded, coded, next_c, last_position_c, last_opcode_c, emit_c, emit_null_c, pop_c, remove_pop_c, emit_return_c, replace_c, drop_c}
+use Rattle.building.specs.Emission.{Coded, coded, next_c, last_position_c, last_opcode_c, emit_c, emit_null_c, pop_c, remove_pop_c, emit_return_c, replace_c}
+use Rattle.building.specs.Emission.{drop_c}
 use Rattle.building.specs.Emission.{breaking, mark_break_c, emit_break_c, patch_c, exit_break_c}
 
 -- `emit`

@@ -1,7 +1,9 @@
 -- Areas that hold entries and then zeros, at any width: an entry more, the last ones given up, a word set anew, a word read; what one note more makes
 -- of the first full area; and that under `Contents` every count that a step notes is within its limit. By splitting the area at its entries, and by
 -- induction over the entries. Assumes nothing.
-use Rattle.std.proofs.Common.{◌≡◌, ℕ, zero, suc, ◌+◌, ◌-◌, ◌*◌, ◌/◌, ◌<◌, ◌≤◌, List, [], ◌∷◌, ◌++◌, length, get_or, drop, set, replicate, sym, refl, ap, ◌∙◌, append_assoc, append-nil, mul-le-mul_right, suc-mul, suc-add, zero-add, zero-mul, div-mul-le_self, arith, length-append, length-drop, length-set, length-take, drop_at, le-ltb, lt-ltb, le-leb}
+use Rattle.std.proofs.Common.{◌≡◌, ℕ, zero, suc, ◌+◌, ◌-◌, ◌*◌, ◌/◌, ◌<◌, ◌≤◌, List, [], ◌∷◌, ◌++◌, length, get_or, drop, set, replicate, sym, refl, ap, ◌∙◌}
+use Rattle.std.proofs.Common.{append_assoc, append-nil, mul-le-mul_right, suc-mul, suc-add, zero-add, zero-mul, div-mul-le_self, arith, length-append}
+use Rattle.std.proofs.Common.{length-drop, length-set, length-take, drop_at, le-ltb, lt-ltb, le-leb}
 use native.Mathlib.Nat.{sub-zero, zero-sub, suc-sub-suc}
 use mathlib.Core.Option.{Option, none, some}
 use lib.ListN.{length-replicate, replicate-append-replicate}

@@ -1,6 +1,7 @@
 -- An entry more of an area at any width, by the way that the code goes; and entries given up, by the run of stores that the code makes: what is left to
 -- clear from i is what was to clear at first. Assumes nothing.
-use Rattle.std.proofs.Common.{◌≡◌, ℕ, suc, ◌+◌, ◌-◌, ◌*◌, ◌<◌, ◌≤◌, min, Bool, true, false, cond, leb, List, [], ◌∷◌, ◌++◌, length, set, replicate, sym, refl, mul-zero, le-mul_of_pos_right, add-one, arith, le-ltb, lt-ltb, eq-eqb, ne_eqb, le-leb}
+use Rattle.std.proofs.Common.{◌≡◌, ℕ, suc, ◌+◌, ◌-◌, ◌*◌, ◌<◌, ◌≤◌, min, Bool, true, false, cond, leb, List, [], ◌∷◌, ◌++◌, length, set, replicate, sym, refl}
+use Rattle.std.proofs.Common.{mul-zero, le-mul_of_pos_right, add-one, arith, le-ltb, lt-ltb, eq-eqb, ne_eqb, le-leb}
 use native.Mathlib.Decide.{dec_le}
 use lib.ListN.{length-replicate, replicate-append-replicate}
 use lib.Seq.{sets, length-sets, set_out}

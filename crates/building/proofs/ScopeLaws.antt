@@ -1,6 +1,7 @@
 -- Scopes and locals: what the routines of `scopes.rt` make of memory is what the definition's methods of the same name make of its state, and what they
 -- find is what those find. By the mark, by what the innermost scope has, and by whether area 9 has room. Assumes nothing.
-use Rattle.std.proofs.Common.{◌≡◌, ℕ, ◌+◌, ◌-◌, ◌%◌, ◌^◌, ◌<◌, min, Bool, true, false, cond, eqb, ltb, List, [], ◌∷◌, ◌++◌, length, sym, refl, ap, ◌∙◌, append-nil, arith, ltb-false, ltb-true, eq-eqb, eqb-true}
+use Rattle.std.proofs.Common.{◌≡◌, ℕ, ◌+◌, ◌-◌, ◌%◌, ◌^◌, ◌<◌, min, Bool, true, false, cond, eqb, ltb, List, [], ◌∷◌, ◌++◌, length, sym, refl, ap, ◌∙◌}
+use Rattle.std.proofs.Common.{append-nil, arith, ltb-false, ltb-true, eq-eqb, eqb-true}
 use native.Mathlib.Nat.{mod-add-mod}
 use mathlib.Core.Option.{Option, none, some}
 use lib.Seq.{length-sets}
@@ -157,7 +158,8 @@ module _ {κ : Limits} {E : Entries} {s : struct.FunctionState} {c k n b e : Lis
           (tail w.function.scopes) w.function.header.local_count (simp length-sets) (ended z) (around z) (H.rest z).locals
 
   -- the function's end: no name is left, and the definition's state goes
-  pub end_law : {s' : struct.FunctionState} {n' : List ℕ} → naming s' n' ≡ end_function_c (naming s n) → RepresentsMachine κ E (machine s' c k n' b e) (unnamed w)
+  pub end_law : {s' : struct.FunctionState} {n' : List ℕ} → naming s' n' ≡ end_function_c (naming s n) → RepresentsMachine κ E (machine s' c k n' b e)
+      (unnamed w)
   unfolding end_function_c
   end_law {s'} {n'} q = rw (ap (λ (m : Naming). m.state) q, ap (λ (m : Naming). m.names) q) (go (eqb s.full 0) refl)
     where
@@ -248,7 +250,8 @@ module _ {κ : Limits} {E : Entries} {s : struct.FunctionState} {c k n b e : Lis
     found_go z (some i) (some j) h = refl
 
     -- where a scope is open, by what the innermost one has
-    define_in : (f : FunctionState) (ss : List (List Entry)) → is_open ss ≡ true → define_local_in ss name f ≡ define_local_by (find_name name (innermost ss)) name f
+    define_in : (f : FunctionState) (ss : List (List Entry)) → is_open ss ≡ true → define_local_in ss name f ≡ define_local_by (find_name name (innermost ss))
+        name f
     define_in f [] op = absurd (let z : ◌≡◌ {A = ℕ} 0 1 = cc in omega arith)
     define_in f (x ∷ ss) op = refl
 

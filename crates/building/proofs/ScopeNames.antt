@@ -1,6 +1,7 @@
 -- The names of area 9 and the definition's scopes: a search of a scope's entries, the newest first, is `find_name`, and one of all live entries is
 -- `find_scopes`; entries are those of the scopes around, then the innermost's. By induction over a scope and over the scopes. Assumes nothing.
-use Rattle.std.proofs.Common.{◌≡◌, ℕ, zero, suc, ◌+◌, ◌%◌, ◌^◌, ◌<◌, Bool, true, false, cond, eqb, List, [], ◌∷◌, ◌++◌, length, get_or, sym, refl, ap, ◌∙◌, append_assoc, suc-add, zero-add, arith, length-append, get_or-append-add}
+use Rattle.std.proofs.Common.{◌≡◌, ℕ, zero, suc, ◌+◌, ◌%◌, ◌^◌, ◌<◌, Bool, true, false, cond, eqb, List, [], ◌∷◌, ◌++◌, length, get_or, sym, refl, ap, ◌∙◌}
+use Rattle.std.proofs.Common.{append_assoc, suc-add, zero-add, arith, length-append, get_or-append-add}
 use mathlib.Core.Option.{Option, none, some}
 use lib.Seq.{get_or_at}
 use Rattle.words.specs.Areas.{entry_field}

@@ -27,4 +27,8 @@ module _ (byte : ℕ) (text : List ℕ) (i : ℕ) where
 
     pub place_next : (get_or text i 0 ≡ byte → ⊥) → place_from byte i text ≡ place_from byte (i + 1) text
     place_next e =
-        omega (arith, (let p : first_place byte (drop i text) ≡ suc (first_place byte (drop (i + 1) text)) = at_byte ∙ simp (ne_eqb (get_or text i 0) byte e) in p))
+        omega (
+          arith,
+          (let p : first_place byte (drop i text) ≡ suc (first_place byte (drop (i + 1) text)) = at_byte ∙ simp (ne_eqb (get_or text i 0) byte e) in
+              p),
+        )

@@ -27,7 +27,8 @@ module _ (text other : List ℕ) (i : ℕ) where
       at_byte : is_same (drop i text) (drop i other) ≡ (eqb (get_or text i 0) (get_or other i 0) && is_same (drop (i + 1) text) (drop (i + 1) other))
       unfolding is_same
       at_byte =
-          of_both (drop i text) (drop i other) (get_or text i 0 ∷ drop (i + 1) text) (get_or other i 0 ∷ drop (i + 1) other) (cut text i here) (cut other i there)
+          of_both (drop i text) (drop i other) (get_or text i 0 ∷ drop (i + 1) text) (get_or other i 0 ∷ drop (i + 1) other) (cut text i here)
+          (cut other i there)
 
       pub bytes_differ : (get_or text i 0 ≡ get_or other i 0 → ⊥) → is_same (drop i text) (drop i other) ≡ false
       bytes_differ e = at_byte ∙ simp (ne_eqb (get_or text i 0) (get_or other i 0) e)

@@ -42,7 +42,8 @@ record_put tree out at {part} {r} h w =
     let n : length (mid_of (at * line_length) (at * line_length + line_length - at * line_length) out) ≡ line_length = mid_len (at * line_length)
     (at * line_length + line_length) out (omega arith) ∙ omega arith in
     let t : eqb (length (mid_of (at * line_length) (at * line_length + line_length - at * line_length) out)) line_length ≡ true = eq-eqb _ line_length n in
-    let b : part ≡ record_line (get_or tree (at * 4) 0) (get_or tree (at * 4 + 1) 0) (get_or tree (at * 4 + 2) 0) (get_or tree (at * 4 + 3) 0) = simp t at w.bytes in
+    let b : part ≡ record_line (get_or tree (at * 4) 0) (get_or tree (at * 4 + 1) 0) (get_or tree (at * 4 + 2) 0) (get_or tree (at * 4 + 3) 0) = simp t at
+    w.bytes in
     let z : at * 4 + 0 ≡ at * 4 = omega arith in
     record { is = rw (b, Post-is (at * line_length) (at * line_length + line_length) out (omega arith)) (simp (get_or-drop, z, append-nil)) }
 
@@ -94,7 +95,8 @@ module _ (file before out : List ℕ) (i : ℕ) (B : first_bad file ≡ bad_by (
   pub lines_bad : {l : Line} → i < lines_in file → l ≡ read_line (line_of i file) → l ≡ Bad → LinesRead file before out (i + 1)
   lines_bad h L e = record { first = sym (B ∙ bad_here file i h L e); words = λ z. absurd (omega (arith, z)) }
 
-  pub lines_good : Begun (words_by i file) before out (i * 4) → lines_in file ≤ i → i ≤ lines_in file → length file % line_length ≡ 0 → LinesRead file before out 0
+  pub lines_good : Begun (words_by i file) before out (i * 4) → lines_in file ≤ i → i ≤ lines_in file → length file % line_length ≡ 0 → LinesRead file before
+      out 0
   lines_good b h l z =
       let e : i ≡ lines_in file = omega arith in
       record { first = sym (B ∙ bad_none file i h l z); words = λ _. b.rest ∙ ap (λ (k : ℕ). words_by k file ++ drop (k * 4) before) e }

@@ -178,7 +178,8 @@ lines_more (suc n) w =
     ∙ sym (append_assoc r (lines_by n (drop 4 w)) (lines_by 1 (drop (suc n * 4) w))))
 
 -- the part of a file that is a line
-pub line_part : (file : List ℕ) (i : ℕ) → read_line (take (i * line_length + line_length - i * line_length) (drop (i * line_length) file)) ≡ read_line (line_of i file)
+pub line_part : (file : List ℕ) (i : ℕ) → read_line (take (i * line_length + line_length - i * line_length) (drop (i * line_length) file)) ≡ read_line
+    (line_of i file)
 line_part file i = let e : i * line_length + line_length - i * line_length ≡ line_length = omega arith in ap
     (λ (n : ℕ). read_line (take n (drop (i * line_length) file))) e
 
@@ -202,7 +203,8 @@ words_none file h = let e = records_is file in omega (arith, e, h)
 pub words_some : (file : List ℕ) → (lines_in file ≡ 0 → ⊥) → records_of (words_of file) ≡ 0 → ⊥
 words_some file h x = h (let e = records_is file in omega (arith, e, x))
 
-pub words_walk : (file : List ℕ) {o : Outcome} → o ≡ walk_of (words_of file) 1 1 0 0 (lines_in file) → o ≡ walk_of (words_of file) 1 1 0 0 (records_of (words_of file))
+pub words_walk : (file : List ℕ) {o : Outcome} → o ≡ walk_of (words_of file) 1 1 0 0 (lines_in file) → o ≡ walk_of (words_of file) 1 1 0 0
+    (records_of (words_of file))
 words_walk file e = e ∙ ap (λ (n : ℕ). walk_of (words_of file) 1 1 0 0 n) (sym (records_is file))
 
 pub lines_length : (n : ℕ) (w : List ℕ) → length (lines_by n w) ≡ n * line_length

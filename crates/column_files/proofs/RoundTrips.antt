@@ -124,7 +124,8 @@ good_first w g =
     let k = g.kind in
     let s = g.span in
     let p = in_place_lem (get_or w (0 * 4 + 2) 0) g.position in
-    line_read (get_or w 0 0) (get_or w 1 0) (get_or w 2 0) (get_or w 3 0) (omega (arith, k)) (omega (arith, s)) (omega (arith, p.0)) (omega (arith, p.1)) g.value
+    line_read (get_or w 0 0) (get_or w 1 0) (get_or w 2 0) (get_or w 3 0) (omega (arith, k)) (omega (arith, s)) (omega (arith, p.0)) (omega (arith, p.1))
+    g.value
 
 good_rest : (w : List ℕ) (j : ℕ) → Good w (suc j) → Good (drop 4 w) j
 unfolding field_of

@@ -170,7 +170,8 @@ module _ (s : Bool) (word : ℕ) where
 
   pub numeral_spelled : (w : ℕ) → numeral w s word ≡ spelled w (negative_of s word) (magnitude_of s word)
   numeral_spelled w =
-      ap (right_justified w) written_signed ∙ sym (spelled_digits w (magnitude_of s word) (negative_of s word) (magnitude_of s word) (same (magnitude_of s word)))
+      ap (right_justified w) written_signed ∙ sym (spelled_digits w (magnitude_of s word) (negative_of s word) (magnitude_of s word)
+      (same (magnitude_of s word)))
 
   pub fits_spelled : (w : ℕ) → numeral_fits w s word ≡ spell_fits w (negative_of s word) (magnitude_of s word)
   fits_spelled w =

@@ -51,7 +51,8 @@ pub line_newline : (l : List ℕ) → length l ≡ line_length → (get_or l new
 unfolding read_line
 line_newline l e n = simp (eq-eqb (length l) line_length e, ne_eqb (get_or l newline_place 0) newline n)
 
-pub line_whole : (l : List ℕ) → length l ≡ line_length → get_or l newline_place 0 ≡ newline → record_in (kind_in l) (span_in l) (place_in l) (value_in l) ≡ read_line l
+pub line_whole : (l : List ℕ) → length l ≡ line_length → get_or l newline_place 0 ≡ newline → record_in (kind_in l) (span_in l) (place_in l) (value_in l) ≡
+    read_line l
 unfolding read_line
 line_whole l e n = simp (eq-eqb (length l) line_length e, eq-eqb (get_or l newline_place 0) newline n)
 

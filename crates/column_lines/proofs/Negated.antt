@@ -62,7 +62,8 @@ negated_start n H out some d z D Z =
     let l : size_held n / 10 ≤ least_size = omega (arith, H.small) in
     (write_start true (size_held n) out some D (size_of z _ Z l), held_of z _ Z l)
 
-pub negated_turn : (number width : ℕ) (out : List ℕ) (k : ℕ) (n : ℤ) (d : ℕ) (z : ℤ) → Writing true number width out k (size_held n) → Held n → (size_held n ≡ 0 → ⊥)
+pub negated_turn : (number width : ℕ) (out : List ℕ) (k : ℕ) (n : ℤ) (d : ℕ) (z : ℤ) → Writing true number width out k (size_held n) → Held n →
+    (size_held n ≡ 0 → ⊥)
     → (k ≡ 0 → ⊥) → d ≡ size_held n % 10 → z ≡ neg (size_held n / 10)
     → Writing true number width (set out (k - 1) (48 + d)) (k - 1) (size_held (kept z)) × Held (kept z)
 negated_turn number width out k n d z w H some r D Z =

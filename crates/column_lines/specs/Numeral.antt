@@ -1,6 +1,7 @@
 -- Right-justified numbers, one pair for every width and sign (01, 'Column file': right-justified in widths .., blanks pad; no leading zeros; a value
 -- past its 64 bits and -0 are off the form; signed, from -9,223,372,036,854,775,808 upward). `numeral` writes a word, `read_numeral` reads a field
-use Rattle.std.specs.Prelude.{ℕ, zero, suc, ◌+◌, ◌-◌, ◌*◌, ◌/◌, ◌%◌, Bool, true, false, cond, ◌&&◌, List, [], ◌∷◌, ◌++◌, replicate, length, drop, eqb, leb, ltb, ◌≡◌}
+use Rattle.std.specs.Prelude.{ℕ, zero, suc, ◌+◌, ◌-◌, ◌*◌, ◌/◌, ◌%◌, Bool, true, false, cond, ◌&&◌, List, [], ◌∷◌, ◌++◌, replicate, length, drop, eqb, leb, ltb}
+use Rattle.std.specs.Prelude.{◌≡◌}
 use Rattle.column_lines.specs.declared.number.Number.{Number}
 use Rattle.column_lines.specs.declared.number.Number.TheVariants.{Word, Off}
 

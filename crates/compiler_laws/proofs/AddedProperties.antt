@@ -147,7 +147,8 @@ module _ {tree : List ℕ} {at first : ℕ} {s : struct.Book} {p e : List ℕ} w
           let front = property_table w.context in
           let models : s.models ≡ index = models_count S in
           let count = property_count_lem index name front ps S.properties in
-          let entries : (front ++ property_entries index ps) ++ ((s.models ∷ name ∷ []) ∷ []) ≡ front ++ property_entries index (ps ++ (value_at tree at ∷ [])) =
+          let entries : (front ++ property_entries index ps) ++ ((s.models ∷ name ∷ []) ∷ []) ≡ front ++ property_entries index
+          (ps ++ (value_at tree at ∷ [])) =
           rw (models, value) (more_in index (value_at tree at) front ps) in
           keeping_grown H z properties_area (property_count w.context + length ps + 1) _ refl
           (took_law T z S.properties) (omega arith) refl H.fitted.properties (omega (arith, before_length w.context)) refl

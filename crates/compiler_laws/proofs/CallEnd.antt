@@ -148,7 +148,8 @@ module _ (strict : Bool) (tree : List ℕ) (before : Areas) where
         }
 
     -- an area is too short
-    module _ {c'' k'' f'' m'' p'' t'' l'' u'' n'' b'' e'' o'' : List ℕ} {r : struct.Reply} (long'' : lengths_of before ≡ lengths_of (areas c'' k'' f'' m'' p'' t'' l'' u''
+    module _ {c'' k'' f'' m'' p'' t'' l'' u'' n'' b'' e'' o'' : List ℕ} {r : struct.Reply}
+        (long'' : lengths_of before ≡ lengths_of (areas c'' k'' f'' m'' p'' t'' l'' u''
         n'' b'' e'' o''))
       where
         pub compile_full : (s'.full ≡ 0 → ⊥) → Cleared c'' k'' f'' m'' p'' t'' l'' u'' n'' b'' e'' o'' → r ≡ mark_refusal s'.full
@@ -157,7 +158,8 @@ module _ (strict : Bool) (tree : List ℕ) (before : Areas) where
             let X = work in by (ltb s'.full first_not_public) (answer_full X.answers X.outcome ne) says y.emptied (zero_filled y.errors)
           where
             by : (area : Bool) → answering strict tree before ≡ cond area (Refusal 9 s'.full []) (Refusal 11 (s'.full - first_not_public) [])
-                → r ≡ cond area (refusal 9 s'.full) (refusal 11 (s'.full - first_not_public)) → Emptied c'' k'' f'' m'' p'' t'' l'' u'' n'' b'' o'' → {errors : ℕ}
+                → r ≡ cond area (refusal 9 s'.full) (refusal 11 (s'.full - first_not_public)) → Emptied c'' k'' f'' m'' p'' t'' l'' u'' n'' b'' o'' →
+                {errors : ℕ}
                 → Filled 4 e'' (entries_from error_entry 0 []) errors → Compiles strict tree before (areas c'' k'' f'' m'' p'' t'' l'' u'' n'' b'' e'' o'') r
             by true q says E z =
                 subst (λ (x : struct.Reply). Compiles strict tree before (areas c'' k'' f'' m'' p'' t'' l'' u'' n'' b'' e'' o'') x) (sym says)
@@ -169,9 +171,11 @@ module _ (strict : Bool) (tree : List ℕ) (before : Areas) where
                 E.locals E.publics E.names E.breaks z E.books)
 
     -- a book with errors, or a ring: the errors stay
-    module _ {c'' k'' f'' m'' p'' t'' l'' u'' n'' b'' o'' : List ℕ} {r : struct.Reply} (long'' : lengths_of before ≡ lengths_of (areas c'' k'' f'' m'' p'' t'' l'' u'' n'' b'' e' o''))
+    module _ {c'' k'' f'' m'' p'' t'' l'' u'' n'' b'' o'' : List ℕ} {r : struct.Reply}
+        (long'' : lengths_of before ≡ lengths_of (areas c'' k'' f'' m'' p'' t'' l'' u'' n'' b'' e' o''))
       where
-        pub compile_errors : s'.full ≡ 0 → (row ≡ 0 → ⊥) → Zero c'' → Zero k'' → Zero f'' → Zero m'' → Zero p'' → Zero t'' → Zero l'' → Zero u'' → Zero n'' → Zero b''
+        pub compile_errors : s'.full ≡ 0 → (row ≡ 0 → ⊥) → Zero c'' → Zero k'' → Zero f'' → Zero m'' → Zero p'' → Zero t'' → Zero l'' → Zero u'' → Zero n'' →
+            Zero b''
             → Zero o'' → r ≡ refusal row place → Compiles strict tree before (areas c'' k'' f'' m'' p'' t'' l'' u'' n'' b'' e' o'') r
         compile_errors y ne zc zk zf zm zp zt zl zu zn zb zo says =
             let L = answer_errors work.answers work.outcome y ne in
@@ -179,7 +183,8 @@ module _ (strict : Bool) (tree : List ℕ) (before : Areas) where
             (refuses row place L.errors thirteen long'' L.is zc zk zf zm zp zt zl zu zn zb L.area zo)
 
     -- a delivery
-    pub compile_delivered : {globals : ℕ} {r : struct.Reply} → lengths_of before ≡ lengths_of (areas c' k' f' m' p' t' l' u' n' b' e' o') → s'.full ≡ 0 → row ≡ 0
+    pub compile_delivered : {globals : ℕ} {r : struct.Reply} → lengths_of before ≡ lengths_of (areas c' k' f' m' p' t' l' u' n' b' e' o') → s'.full ≡ 0 → row ≡
+        0
         → MarkedFrom k' 0 s'.constants 0 globals → r ≡ delivery (totals s' place globals 1)
         → Compiles strict tree before (areas c' k' f' m' p' t' l' u' n' b' e' o') r
     compile_delivered long' y zero_row M says =
@@ -262,7 +267,8 @@ module _ {strict : Bool} {tree c k f m p t l u n b e o : List ℕ} where
       → Runs strict tree c k f m p t l u n b e o c k f m p t l u n b e o r
   run_row F ne says = record { runs = λ z. compile_refused strict tree (areas c k f m p t l u n b e o) refl refl z F ne says }
 
-  module _ {set : List ℕ} {s' : book.Book} {c' k' f' m' p' t' l' u' n' b' e' o' c'' k'' f'' m'' p'' t'' l'' u'' n'' b'' e'' o'' : List ℕ} {row place number at : ℕ}
+  module _ {set : List ℕ} {s' : book.Book} {c' k' f' m' p' t' l' u' n' b' e' o' c'' k'' f'' m'' p'' t'' l'' u'' n'' b'' e'' o'' : List ℕ}
+      {row place number at : ℕ}
       {r : struct.Reply}
       (F : FrontRows tree number at set []) (went : number ≡ 0)
       (W : Works strict tree set c k f m p t l u n b e o s' c' k' f' m' p' t' l' u' n' b' e' o' row place)
@@ -281,7 +287,8 @@ module _ {strict : Bool} {tree c k f m p t l u n b e o : List ℕ} where
         let X = E.refused y ne in
         let Z = X.0 in
         let long : lengths_of (areas c k f m p t l u n b e o) ≡ lengths_of (areas c'' k'' f'' m'' p'' t'' l'' u'' n'' b'' e' o'') =
-        subst (λ (x : List ℕ). lengths_of (areas c k f m p t l u n b e o) ≡ lengths_of (areas c'' k'' f'' m'' p'' t'' l'' u'' n'' b'' x o'')) X.1.0 (same_lengths S) in
+        subst (λ (x : List ℕ). lengths_of (areas c k f m p t l u n b e o) ≡ lengths_of (areas c'' k'' f'' m'' p'' t'' l'' u'' n'' b'' x o'')) X.1.0
+        (same_lengths S) in
         subst (λ (x : List ℕ). Compiles strict tree (areas c k f m p t l u n b e o) (areas c'' k'' f'' m'' p'' t'' l'' u'' n'' b'' x o'') r) (sym X.1.0)
         (compile_errors strict tree (areas c k f m p t l u n b e o) refl refl z F went W long y ne Z.code Z.constants Z.functions Z.models
         Z.properties Z.methods Z.locals

@@ -13,12 +13,14 @@ use Rattle.compiler_laws.specs.InsideFunction.{OnErrors}
 
 -- `fault`
 pub fault_words : (tree : List ℕ) (at number : ℕ) (s : FunctionState) (e : List ℕ) {kind position value : ℕ} → kind ≡ kind_at tree at
-    → position ≡ position_at tree at → value ≡ value_at tree at → {s' : FunctionState} {e' : List ℕ} → erring s' e' ≡ push_error_c number position kind value s e
+    → position ≡ position_at tree at → value ≡ value_at tree at → {s' : FunctionState} {e' : List ℕ} → erring s' e' ≡ push_error_c number position kind value s
+    e
     → erring s' e' ≡ push_error_c number (position_at tree at) (kind_at tree at) (value_at tree at) s e
 fault_words tree at number s e hk hp hv d = rw (← hk, ← hp, ← hv) d
 
 pub faults : (tree : List ℕ) (at number : ℕ) {s s' : FunctionState} {e e' : List ℕ}
-    → erring s' e' ≡ push_error_c number (position_at tree at) (kind_at tree at) (value_at tree at) s e → OnErrors s e s' e' (push_error number (token_at tree at))
+    → erring s' e' ≡ push_error_c number (position_at tree at) (kind_at tree at) (value_at tree at) s e → OnErrors s e s' e'
+    (push_error number (token_at tree at))
 faults tree at number d = record {
   acts = λ c k n b. record { meets = λ κ E w H. push_error_law number (token_at tree at) d H };
 }

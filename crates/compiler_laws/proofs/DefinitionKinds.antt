@@ -13,7 +13,8 @@ unfolding compile_definition
 unchanged_definition (LocalDefinition bs) b = unchanged_local_definition bs b
 unchanged_definition (IncludeDefinition index file as') b = unchanged_include_or_row_11 index file.value as' b
 unchanged_definition (ModelDefinition n ps) b = unchanged_model_definition n ps b
-unchanged_definition (PublicModelDefinition n ps) b = unchanged_trans (unchanged_model_definition n ps b) (unchanged_publish n.value (compile_model_definition n ps b))
+unchanged_definition (PublicModelDefinition n ps) b = unchanged_trans (unchanged_model_definition n ps b)
+    (unchanged_publish n.value (compile_model_definition n ps b))
 unchanged_definition (PlainFunction f) b = unchanged_function f b
 unchanged_definition (PublicFunction f) b = unchanged_trans (unchanged_function f b) (unchanged_publish f.name.value (compile_function_definition f b))
 unchanged_definition (ImplementDefinition m fs) b = unchanged_implement m fs b

@@ -292,7 +292,8 @@ add_bits_lem standing bits [] m b = go (bit_of standing m)
 add_bits_lem standing bits (n ∷ ns) m b = go (bit_of standing n) refl (λ k w. add_bits_lem standing k ns m w)
   where
     go : (t : Bool) → bit_of standing n ≡ t
-        → ((k : List ℕ) → Below (length k * 64) ns → bit_of (add_bits standing k ns) m ≡ cond (cond (bit_of standing m) false (has_text m ns)) true (bit_of k m))
+        → ((k : List ℕ) → Below (length k * 64) ns → bit_of (add_bits standing k ns) m ≡ cond (cond (bit_of standing m) false (has_text m ns)) true
+        (bit_of k m))
         → bit_of (add_bits standing bits (n ∷ ns)) m ≡ cond (cond (bit_of standing m) false (has_text m (n ∷ ns))) true (bit_of bits m)
     go true q ih =
         rw q (ih bits b.1 ∙ one_stands (bit_of standing m) (eqb n m) (has_text m ns) (bit_of bits m) (is_same n m (λ k. bit_of standing k) q))
@@ -379,17 +380,20 @@ reach_grows standing set (d ∷ ds) next w =
     deps : List ℕ
     deps = dependencies d.definitions
 
-    go : (t : Bool) → Grows (add_bits standing next deps) (reach_bits standing set ds (add_bits standing next deps)) → Grows next (reach_bits standing set ds next)
+    go : (t : Bool) → Grows (add_bits standing next deps) (reach_bits standing set ds (add_bits standing next deps)) → Grows next
+        (reach_bits standing set ds next)
         → Grows next (reach_bits standing set ds (cond t (add_bits standing next deps) next))
     go true a b = record { stays = λ m h. a.stays m ((adds_grow standing next deps w.1).stays m h) }
     go false a b = b
 
 -- numbers that stand or are in a set
-all_of : (standing bits ns : List ℕ) → ((m : ℕ) → has_text m ns ≡ true → cond (bit_of standing m) true (bit_of bits m) ≡ true) → all_known standing bits ns ≡ true
+all_of : (standing bits ns : List ℕ) → ((m : ℕ) → has_text m ns ≡ true → cond (bit_of standing m) true (bit_of bits m) ≡ true) → all_known standing bits ns ≡
+    true
 all_of standing bits [] h = refl
 all_of standing bits (n ∷ ns) h = rw (h n (has_head n ns)) (all_of standing bits ns (λ m e. h m (or_true (eqb n m) e)))
 
-all_stay : (standing : List ℕ) {bits larger : List ℕ} (ns : List ℕ) → Grows bits larger → all_known standing bits ns ≡ true → all_known standing larger ns ≡ true
+all_stay : (standing : List ℕ) {bits larger : List ℕ} (ns : List ℕ) → Grows bits larger → all_known standing bits ns ≡ true → all_known standing larger ns ≡
+    true
 all_stay standing [] g h = refl
 all_stay standing {bits} {larger} (n ∷ ns) g h = go (bit_of standing n) (bit_of bits n) refl h (λ e. all_stay standing ns g e)
   where
@@ -441,7 +445,8 @@ covers_reached standing set (d ∷ ds) next w = go (bit_of set d.filename) refl 
 
     there : (m : ℕ) → has_text m deps ≡ true → cond (bit_of standing m) true (bit_of (add_bits standing next deps) m) ≡ true
     there m e =
-        ap (λ (t : Bool). cond (bit_of standing m) true t) (add_bits_lem standing next deps m w.1) ∙ known (bit_of standing m) (has_text m deps) (bit_of next m) e
+        ap (λ (t : Bool). cond (bit_of standing m) true t) (add_bits_lem standing next deps m w.1) ∙ known (bit_of standing m) (has_text m deps) (bit_of next m)
+        e
 
     go : (t : Bool) → bit_of set d.filename ≡ t
         → ((next' : List ℕ) → Room next' ds → Covers standing set (reach_bits standing set ds next') ds)

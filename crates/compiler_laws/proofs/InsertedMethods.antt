@@ -64,7 +64,10 @@ module _ (model name function : ℕ) where
 
   module _ {s : struct.Book} {t : List ℕ} where
     pub insert_full : (s.full ≡ 0 → ⊥) → InsertsMethod model name function s t s t
-    insert_full ne = record { simulates = λ c k f m p l u n b e. full_simulates (unchanged_methods (some model) (record { name = name; index = function } ∷ [])) ne }
+    insert_full ne = record {
+      simulates = λ c k f m p l u n b e. full_simulates (unchanged_methods (some model) (record { name = name; index = function } ∷ []))
+          ne;
+    }
 
     pub insert_there : s.full ≡ 0 → {g : Found} {i : ℕ} → g ≡ found_of (find_pair_c 3 0 s.methods model name t) → g ≡ At i → {t' : List ℕ} {a : Bool}
         → Patched 3 i 2 function t t' a → InsertsMethod model name function s t s t'
@@ -113,7 +116,8 @@ module _ (model name function : ℕ) where
         go : (c k f m p l u n b e : List ℕ) (κ : Limits) (ps : List ℕ) (w : Book) → RepresentsAreas κ ps (book_areas s c k f m p t l u n b e) w
             → BookContents ps (book_areas s c k f m p t l u n b e) w
             → Inserting no_method (λ x. same_method x (method_of model name function)) (method_of model name function) w.context.program.methods 0 none
-            → RepresentsAreas κ ps (book_areas (with_method_count r s) c k f m p t' l u n b e) (add_methods (some model) (record { name = name; index = function } ∷ []) w)
+            → RepresentsAreas κ ps (book_areas (with_method_count r s) c k f m p t' l u n b e)
+            (add_methods (some model) (record { name = name; index = function } ∷ []) w)
         go c k f m p l u n b e κ ps w H S (new more-is) =
             let xs = w.context.program.methods in
             let is : insert_method (method_of model name function) xs ≡ xs ++ (method_of model name function ∷ []) =

@@ -137,7 +137,8 @@ module _ (a t i : ℕ) (ys : List Method) (own : (get_or ys i no_method).model �
       go : Dec (j ≡ k) → SameFor a (get_or ys j no_method) (get_or (insert_method moved ys) j no_method)
       go (no ne) = alike (sym (ap (λ (l : List Method). get_or l j no_method) is ∙ get_or-set_other ys k j moved no_method ne))
       go (yes e) =
-          let model : (get_or ys k no_method).model ≡ t = same_model (get_or ys k no_method) t (get_or ys i no_method).name (get_or ys i no_method).function match in
+          let model : (get_or ys k no_method).model ≡ t = same_model (get_or ys k no_method) t (get_or ys i no_method).name (get_or ys i no_method).function
+          match in
           let here : get_or (insert_method moved ys) j no_method ≡ moved =
           ap (λ (l : List Method). get_or l j no_method) is ∙ rw e (get_or-set_same ys k moved no_method below) in
           let apart : t ≡ a → ⊥ = λ same. early same (first i (omega arith)) in

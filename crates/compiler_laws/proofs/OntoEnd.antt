@@ -215,7 +215,8 @@ module _ (o : Order) (strict : Bool) (tree : List ℕ) (before : Areas) (standin
 
             -- a trial: the program as it stood, and the count as lent
             pub answer_tried : {after : Areas} {e' : List ℕ} {r : struct.Reply} → is_trial o ≡ true → r ≡ delivery (totals s place globals standing.bundles)
-                → Zero e' → length e' ≡ length (get_or before errors_area []) → after ≡ set before errors_area e' → Answers o strict tree standing before after r
+                → Zero e' → length e' ≡ length (get_or before errors_area []) → after ≡ set before errors_area e' → Answers o strict tree standing before after
+                r
             answer_tried {after} {e'} {r} tried says z long holds =
                 answered (Checked delivered) (judged_is ∙ ap Checked (judged_trial o D.context tried))
                 (ap counted says ∙ ap (λ (x : Reply). record { reply = x; bundles = standing.bundles }) (D.reply standing.bundles)

@@ -42,7 +42,8 @@ public_search index name w (e ∷ es) i each =
   where
     go : (b : Bool) → entry_field 3 i 2 w ≡ get_or e 2 0
         → public_constant (first_from (is_pair 3 index name w) (length es) (i + 1)) w ≡ find_public index name es
-        → public_constant (cond b (some i) (first_from (is_pair 3 index name w) (length es) (i + 1))) w ≡ cond b (some (get_or e 2 0)) (find_public index name es)
+        → public_constant (cond b (some i) (first_from (is_pair 3 index name w) (length es) (i + 1))) w ≡ cond b (some (get_or e 2 0))
+        (find_public index name es)
     go true q r = ap some q
     go false q r = r
 

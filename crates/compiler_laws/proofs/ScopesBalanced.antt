@@ -15,7 +15,8 @@ use Rattle.definition.specs.FunctionState.{FunctionState, Entry, remove_pop_or_p
 use Rattle.definition.specs.FunctionState.{find_name, tail}
 use Rattle.definition.specs.Compiler
 use Rattle.definition.specs.Compiler.{Work, Step, Added, with_function, doing, emit, push_error, add_constant, add_constant_no_check, find_constant}
-use Rattle.definition.specs.Compiler.{emit_constant, emit_global, emit_name, InfixKind, Assigning, Plain, Negated, Compound, Unknown, infix_kind, compile_infix_by}
+use Rattle.definition.specs.Compiler.{emit_constant, emit_global, emit_name, InfixKind, Assigning, Plain, Negated, Compound, Unknown, infix_kind}
+use Rattle.definition.specs.Compiler.{compile_infix_by}
 use Rattle.definition.specs.Compiler.{compile_statement, compile_statements, compile_expression, compile_expressions, compile_variables}
 use Rattle.definition.specs.Compiler.{compile_assign_expression_left_part, skip, and_then, deeper, compile_rescue, compile_bare}
 use Rattle.definition.specs.Compiler.{compile_valued, compile_expression_statement, compile_for_statement, compile_if_expression, compile_part, compile_no_part}
@@ -219,7 +220,8 @@ scopes_if {c} {t} {f} C R F w =
     let s₂ : ScopesPreserved w₁ w₂ = scopes_function w₁ _ refl refl refl in
     let s₄ : ScopesPreserved w₃ w₄ = scopes_function w₃ _ refl refl refl in
     let s₅ : ScopesPreserved w₄ w₅ = scopes_function w₄ _ refl refl refl in
-    let s₇ : ScopesPreserved w₆ (Compiler.replace_instruction (Compiler.next w₃) (to_instruction Jump (Compiler.next w₆)) w₆) = scopes_function w₆ _ refl refl refl in
+    let s₇ : ScopesPreserved w₆ (Compiler.replace_instruction (Compiler.next w₃) (to_instruction Jump (Compiler.next w₆)) w₆) = scopes_function w₆ _ refl refl
+    refl in
     scopes_trans (C w) (scopes_trans s₂ (scopes_trans (F w₂) (scopes_trans s₄ (scopes_trans s₅ (scopes_trans (R w₅) s₇)))))
 
 pub scopes_for : {a b : Step} → PreservesScopes a → PreservesScopes b → (t i : Token) → PreservesScopes (compile_for_statement t i a b)

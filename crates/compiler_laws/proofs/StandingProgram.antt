@@ -177,9 +177,11 @@ module _ (strict : Bool) {p : Program} (s : ProgramPasses p) (safe : ProgramSafe
   -- the areas, with an area of zeros for the errors, stand for the context
   pub standing_resting : {κ : Limits} {us : List Use} {e : List ℕ} → Zero e → Marks (first_over κ us) 0
       → Fitted κ
-      (book_areas (standing_book strict p) (words_in p 1) (words_in p 2) (words_in p 3) (words_in p 4) (words_in p 5) (words_in p 6) (words_in p 7) (words_in p 8)
+      (book_areas (standing_book strict p) (words_in p 1) (words_in p 2) (words_in p 3) (words_in p 4) (words_in p 5) (words_in p 6) (words_in p 7)
+      (words_in p 8)
       (words_in p 9) (words_in p 10) e)
-      → Resting κ (standing_book strict p) (words_in p 1) (words_in p 2) (words_in p 3) (words_in p 4) (words_in p 5) (words_in p 6) (words_in p 7) (words_in p 8)
+      → Resting κ (standing_book strict p) (words_in p 1) (words_in p 2) (words_in p 3) (words_in p 4) (words_in p 5) (words_in p 6) (words_in p 7)
+      (words_in p 8)
       (words_in p 9) (words_in p 10) e (context_of strict p) us
   unfolding context_of
   standing_resting z marks F = record {

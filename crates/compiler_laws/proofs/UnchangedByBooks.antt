@@ -9,8 +9,10 @@ use Rattle.words.specs.Object.{Constant}
 use Rattle.definition.specs.FunctionState.{find_name}
 use Rattle.definition.specs.Prior.{Prior, book_index, find_public}
 use Rattle.definition.specs.Book.{Assembly, find_assembly, public_of, included_from}
-use Rattle.definition.specs.Book.{Book, BookStep, working, push_book_error, add_book_constant, noted, define_context_local_by, define_context_local, set_local_value}
-use Rattle.definition.specs.Book.{give_value, included_name, compile_alias, compile_include_definition, Value, Standing, Adding, NoConstant, value_of, compile_value}
+use Rattle.definition.specs.Book.{Book, BookStep, working, push_book_error, add_book_constant, noted, define_context_local_by, define_context_local}
+use Rattle.definition.specs.Book.{set_local_value}
+use Rattle.definition.specs.Book.{give_value, included_name, compile_alias, compile_include_definition, Value, Standing, Adding, NoConstant, value_of}
+use Rattle.definition.specs.Book.{compile_value}
 use Rattle.definition.specs.Book.{gives_values, compile_include}
 use Rattle.definition.specs.Book.{compile_binding_by, compile_binding, compile_local_definition}
 use Rattle.definition_laws.proofs.Lists.{cond_case}
@@ -88,7 +90,8 @@ unchanged_include file (a ∷ as') b = unchanged_trans (unchanged_alias file a b
 
 pub unchanged_include_or_row_11 : (index file : ℕ) (as' : List Alias) → Unchanged (compile_include index file as')
 unfolding compile_include
-unchanged_include_or_row_11 index file as' b = cond_case (BookUnchanged b) (gives_values file as' b.context) (λ t. unchanged_include file as' b) (λ t. unchanged_noted _ 1 b)
+unchanged_include_or_row_11 index file as' b = cond_case (BookUnchanged b) (gives_values file as' b.context) (λ t. unchanged_include file as' b)
+    (λ t. unchanged_noted _ 1 b)
 
 pub unchanged_compile_value : (v : Value) (t : Token) (o : Option ℕ) → Unchanged (compile_value v t o)
 unchanged_compile_value (Standing c) t o b = unchanged_value o c b

@@ -53,7 +53,8 @@ differs Trial t = false
 differs (Commit c) t = not (same_numbers (line_one c.reply) (line_one (saying (delivery t))))
 
 -- `finish`: after a full area all is cleared; after a row all but the errors; else the areas stay, and the reply has their totals
-pub record Finishes (s : book.Book) (row place : ℕ) (c k f m p t l u n b e o c'' k'' f'' m'' p'' t'' l'' u'' n'' b'' e'' o'' : List ℕ) (r : struct.Reply) : Type 0 where
+pub record Finishes (s : book.Book) (row place : ℕ) (c k f m p t l u n b e o c'' k'' f'' m'' p'' t'' l'' u'' n'' b'' e'' o'' : List ℕ) (r : struct.Reply) : Type
+    0 where
   pub full : (s.full ≡ 0 → ⊥) → Emptied c'' k'' f'' m'' p'' t'' l'' u'' n'' b'' o'' × (Zero e'' × (r ≡ mark_refusal s.full))
   pub refused : s.full ≡ 0 → (row ≡ 0 → ⊥) → Emptied c'' k'' f'' m'' p'' t'' l'' u'' n'' b'' o'' × ((e'' ≡ e) × (r ≡ refusal row place))
   pub whole : s.full ≡ 0 → row ≡ 0 → (areas c'' k'' f'' m'' p'' t'' l'' u'' n'' b'' e'' o'' ≡ areas c k f m p t l u n b e o)

@@ -55,7 +55,8 @@ unfolding count_leading_zeros home float_homes
 close_floats_differ = refl
 
 -- 4096.0, 4096.5, 4097.0 and 4097.5, as in a catalogue of 10,000, lie side by side
-pub halves_are_near : float_homes 20011 (4661225614328463360 ∷ 4661226164084277248 ∷ 4661226713840091136 ∷ 4661227263595905024 ∷ []) ≡ 10275 ∷ 10288 ∷ 10301 ∷ 10314 ∷ []
+pub halves_are_near : float_homes 20011 (4661225614328463360 ∷ 4661226164084277248 ∷ 4661226713840091136 ∷ 4661227263595905024 ∷ []) ≡ 10275 ∷ 10288 ∷ 10301 ∷
+    10314 ∷ []
 unfolding count_leading_zeros home float_homes
 halves_are_near = refl
 

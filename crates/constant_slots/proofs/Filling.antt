@@ -117,7 +117,8 @@ unfolding fill
 fills_all n slots l [] i f e h = rw append-nil f
 fills_all n slots l (c ∷ cs) i f e h =
     let g : Fills n (put_slot slots i c) (l ++ (c ∷ [])) = rw e (fills_put n slots l c f (omega arith)) in
-    rw append_assoc at (fills_all n (put_slot slots i c) (l ++ (c ∷ [])) cs (i + 1) g (omega (arith, length-append l (c ∷ []))) (omega (arith, length-append l (c ∷ []))))
+    rw append_assoc at (fills_all n (put_slot slots i c) (l ++ (c ∷ [])) cs (i + 1) g (omega (arith, length-append l (c ∷ [])))
+    (omega (arith, length-append l (c ∷ []))))
 
 pub fills : (n : ℕ) (l : List Constant) → length l ≤ n → Fills n (slots_of n l) l
 fills n l h = fills_all n (replicate n 0) [] l 0 (fills_none n) refl (omega arith)

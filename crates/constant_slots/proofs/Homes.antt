@@ -1,4 +1,5 @@
--- Homes: a home is a slot, the same constant has the same one, and rows of integers and of round floats have different ones. By the remainders. Assumes nothing.
+-- Homes: a home is a slot, the same constant has the same one, and rows of integers and of round floats have different ones. By the remainders. Assumes
+-- nothing.
 use Prim.Native.Nat.{ℕ, zero, suc, ◌+◌, ◌-◌, ◌*◌, ◌/◌, ◌%◌, ◌≤◌, ◌<◌}
 use native.Mathlib.Nat.{mod-lt, mod-add-mod, mul-mod_left, mod-eq_of_lt, mod-eq-sub-mod, div-add-mod', add-mul, mul_comm, mul-le-mul_right}
 use native.Mathlib.Decide.{dec_lt, ℕ_discrete}

@@ -118,7 +118,8 @@ begins_next table before out after i {text} {kind} {value} h b n L e d = record 
         let p = d.words (omega (arith, h, r, n)) in
         let s = begun_more (take 4 before ++ definitions_of (list_from (line_entry table) 0 i)) before out (definition_of (entry text kind value)) after
         (i * 12 + 4) (i * 12 + 4 + 12) (b.room r) (omega arith) (omega arith) p in
-        let q : definitions_of (list_from (line_entry table) 0 (i + 1)) ≡ definitions_of (list_from (line_entry table) 0 i) ++ definition_of (entry text kind value)
+        let q : definitions_of (list_from (line_entry table) 0 (i + 1)) ≡ definitions_of (list_from (line_entry table) 0 i) ++ definition_of
+        (entry text kind value)
         = ap definitions_of (list_more (line_entry table) 0 i ∙ ap (λ (m : ℕ). list_from (line_entry table) 0 i ++ (line_entry table m ∷ [])) z
         ∙ ap (λ (x : Entry). list_from (line_entry table) 0 i ++ (x ∷ [])) f)
         ∙ definitions_more (list_from (line_entry table) 0 i) (entry text kind value) in

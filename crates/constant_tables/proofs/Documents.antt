@@ -483,7 +483,8 @@ unfolding record_kind
 record-value k is_integer = integer_value
 record-value k is_float = float_value
 
-pub table_tabular : (file : ℕ) (es : List Entry) → Text file → ((j : ℕ) → j < length es → Good (get_or es j no_entry)) → Tabular (table_records file es) (length es)
+pub table_tabular : (file : ℕ) (es : List Entry) → Text file → ((j : ℕ) → j < length es → Good (get_or es j no_entry)) → Tabular (table_records file es)
+    (length es)
 unfolding field_of
 table_tabular file es t g =
     record {

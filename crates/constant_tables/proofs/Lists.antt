@@ -32,7 +32,8 @@ unfolding table_bytes
 bytes_more [] e = append-nil (entry_line e)
 bytes_more (x ∷ es) e = ap (λ (l : List ℕ). entry_line x ++ l) (bytes_more es e) ∙ sym (append_assoc (entry_line x) (table_bytes es) (entry_line e))
 
-pub bytes_line : (es : List Entry) (j : ℕ) → j < length es → take table_line_length (drop (j * table_line_length) (table_bytes es)) ≡ entry_line (get_or es j no_entry)
+pub bytes_line : (es : List Entry) (j : ℕ) → j < length es → take table_line_length (drop (j * table_line_length) (table_bytes es)) ≡ entry_line
+    (get_or es j no_entry)
 unfolding table_bytes
 bytes_line [] j h = absurd (omega arith)
 bytes_line (e ∷ es) zero h = take_at (entry_line e) (table_bytes es) 34 (entry_length e)

@@ -123,7 +123,8 @@ module _ (es : List Entry) (g : (j : ℕ) → j < length es → Good (get_or es 
       let t : eqb (length (table_bytes es) % 34) 0 ≡ true = eq-eqb (length (table_bytes es) % 34) 0 (omega (arith, n)) in
       rw t (omega (arith, n))
 
-  line_is : (j : ℕ) → j < length es → table_line (table_bytes es) j ≡ Constant (get_or es j no_entry).text (get_or es j no_entry).kind (get_or es j no_entry).value
+  line_is : (j : ℕ) → j < length es → table_line (table_bytes es) j ≡ Constant (get_or es j no_entry).text (get_or es j no_entry).kind
+      (get_or es j no_entry).value
   line_is j h = ap read_entry (bytes_line es j h) ∙ entry_read (get_or es j no_entry) (g j h)
 
   pub table_lines : line_count (table_bytes es) ≤ first_off (table_bytes es)

@@ -6,7 +6,8 @@ use Rattle.column_lines.specs.Numeral.{numeral, read_numeral}
 use Rattle.column_lines.specs.Line.{field_in}
 use Rattle.column_lines.specs.declared.number.Number.{Number}
 use Rattle.column_lines.specs.declared.number.Number.TheVariants.{Word, Off}
-use Rattle.constant_tables.specs.Form.{text_width, table_kind_width, table_value_width, table_kind_place, table_value_place, table_newline_place, table_line_length}
+use Rattle.constant_tables.specs.Form.{text_width, table_kind_width, table_value_width, table_kind_place, table_value_place, table_newline_place}
+use Rattle.constant_tables.specs.Form.{table_line_length}
 use Rattle.constant_tables.specs.Form.{table_integer, table_float, document_kind, local_definition_kind, integer_kind, float_kind, name_kind}
 use Rattle.constant_tables.specs.declared.line.TableLine.{TableLine}
 use Rattle.constant_tables.specs.declared.line.TableLine.TheVariants.{Constant, Bad}

@@ -99,10 +99,14 @@ ample = 0 ∷ replicate 12 100
 
 -- the call on words in a mode, with areas of these lengths. Its line unfolds all that the call computes with, for whoever unfolds it
 unfoldable pub run_as : Bool → List ℕ → List ℕ → Result
-unfolding shape_of walk_by head_at sound_at this_after same_this lacks_by within_of field_of may_stand slot_after is_due first_slot goes_on in_range may_be_at in_place
-    expression_of list_of pairs_of parameters_of definition_of document_of documents_of remove_pop_or_push_null emit_return emit_break exit_break_scope define_local first_over
-    add_constant emit_constant emit_global compile_integer_expression compile_float_expression compile_string_expression compile_boolean_expression compile_null_expression
-    emit_name compile_identifier_expression compile_this_expression compile_assign_name compile_pair compile_assign_expression compile_operation compile_infix_expression
+unfolding shape_of walk_by head_at sound_at this_after same_this lacks_by within_of field_of may_stand slot_after is_due first_slot goes_on in_range may_be_at
+    in_place
+    expression_of list_of pairs_of parameters_of definition_of document_of documents_of remove_pop_or_push_null emit_return emit_break exit_break_scope
+    define_local first_over
+    add_constant emit_constant emit_global compile_integer_expression compile_float_expression compile_string_expression compile_boolean_expression
+    compile_null_expression
+    emit_name compile_identifier_expression compile_this_expression compile_assign_name compile_pair compile_assign_expression compile_operation
+    compile_infix_expression
     compile_prefix_expression compile_call_expression compile_array_expression compile_part compile_no_part compile_if_expression compile_for_statement
     compile_expression_statement compile_valued compile_bare compile_rescue deeper skip and_then compile_expression compile_parameter compile_parameters
     compile_function_definition_base define_context_local compile_alias compile_include_definition compile_include compile_binding compile_local_definition
@@ -451,7 +455,8 @@ pub record Cases : Type 0 where
   pub include_not_needed : table 12 (bundle (r 1 1 0 2 ∷ r 1 2 0 3 ∷ r 11 1 0 4 ∷ [])) ≡ (2 ∷ []) ∷ []
   -- two books, the included one first: its functions come first
   pub smallest_first : run (bundle (r 1 3 0 2 ∷ r 11 1 0 5 ∷ r 14 1 0 3 ∷ r 1 3 0 5 ∷ r 14 2 0 4 ∷ r 21 1 8 0 ∷ []))
-      ≡ delivered (plain 0 0 0 null_returned (0 ∷ 8 ∷ []) ∷ plain 0 0 0 null_returned (0 ∷ 0 ∷ []) ∷ []) (constant function_kind 0 ∷ constant function_kind 1 ∷ [])
+      ≡ delivered (plain 0 0 0 null_returned (0 ∷ 8 ∷ []) ∷ plain 0 0 0 null_returned (0 ∷ 0 ∷ []) ∷ [])
+      (constant function_kind 0 ∷ constant function_kind 1 ∷ [])
   -- a break in the inner of two loops lands just after the inner one, and one after it just after the outer one
   pub innermost_break : map (λ f. map (λ i. (get_or f.code i (op₀ 0)).operand) (7 ∷ 17 ∷ 20 ∷ 23 ∷ []))
       (run (function (r 40 1 0 4 ∷ r 24 9 1 0 ∷ r 40 1 2 5 ∷ r 30 1 3 4 ∷ r 24 4 4 0 ∷ r 40 1 5 6 ∷ r 30 1 6 4 ∷ r 22 1 7 0 ∷ r 22 1 8 0 ∷ r 21 1 9 0 ∷ []))

@@ -9,7 +9,8 @@ use Rattle.definition.specs.Trial.{CountedProgram, CountedReply, fresh_bundles, 
 use Rattle.definition.specs.Trial.{counted_fault, judged, ordered, reply_ordered, areas_ordered}
 use Rattle.definition.specs.Bench.{r, bundle, ample}
 use Rattle.definition.specs.PriorBench.{code}
-use Rattle.definition.specs.OntoBench.{After, laid, refused, standing, with_old_errors, wrong_entry_point, word_set, lent_in, listing, grown, standing_constants}
+use Rattle.definition.specs.OntoBench.{After, laid, refused, standing, with_old_errors, wrong_entry_point, word_set, lent_in, listing, grown}
+use Rattle.definition.specs.OntoBench.{standing_constants}
 use Rattle.definition.specs.OntoBench.{book7, including, reading, faulty, copy_of2}
 
 -- a program with a count of bundles

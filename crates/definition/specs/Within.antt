@@ -2,7 +2,8 @@
 -- What words show is a test that computes, a Boolean for each area (`area_bound`). What no word shows, the loops and the reads of `this`, comes from the
 -- definition's logs (01, 'Emission': a loop is one compiling of a 24; just after it is the number following the last instruction that demand 2's
 -- definition emits for it)
-use Rattle.std.specs.Prelude.{ℕ, zero, suc, ◌+◌, ◌*◌, ◌≤◌, ◌<◌, min, ◌≡◌, Bool, true, cond, ◌&&◌, ◌||◌, List, [], ◌∷◌, ◌++◌, map, length, get_or, T, eqb, ltb, leb}
+use Rattle.std.specs.Prelude.{ℕ, zero, suc, ◌+◌, ◌*◌, ◌≤◌, ◌<◌, min, ◌≡◌, Bool, true, cond, ◌&&◌, ◌||◌, List, [], ◌∷◌, ◌++◌, map, length, get_or, T, eqb, ltb}
+use Rattle.std.specs.Prelude.{leb}
 use Rattle.words.specs.Areas.{width_of, entries_in, entry_word, code_area, constants_area, functions_area, models_area, properties_area, methods_area}
 use Rattle.words.specs.Areas.{context_locals_area, public_names_area, books_area, locals_word, rescue_word, start_word, length_word, function_file_word}
 use Rattle.words.specs.Object.{model_kind, function_kind}

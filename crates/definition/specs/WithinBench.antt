@@ -6,7 +6,8 @@ use Rattle.words.specs.Areas.{width_of, code_area, constants_area, functions_are
 use Rattle.words.specs.Areas.{public_names_area, books_area, locals_word, rescue_word, start_word, length_word, function_file_word}
 use Rattle.words.specs.Object.{null_kind, boolean_kind, text_kind, model_kind, function_kind}
 use Rattle.words.specs.Record.{in_place}
-use Rattle.words.specs.Opcode.{to_instruction, word, unword, PushConstant, ReturnOp, LocalSet, LocalGet, LocalInit, ContextGet, ContextSet, GlobalGet, GlobalSet}
+use Rattle.words.specs.Opcode.{to_instruction, word, unword, PushConstant, ReturnOp, LocalSet, LocalGet, LocalInit, ContextGet, ContextSet, GlobalGet}
+use Rattle.words.specs.Opcode.{GlobalSet}
 use Rattle.words.specs.Opcode.{Jump, JumpIf, ForNext, Iterate}
 use Rattle.definition.specs.FunctionState.{Event, Entered, Broke, Left, Log}
 use Rattle.definition.specs.Answer.{answer}
@@ -132,7 +133,8 @@ unknown =
     instruction 11 0xFF 0 ∷ instruction 11 0x21 10 ∷ change code_area 11 1 0xFFFF_FFFF ∷ change code_area 11 1 100000000
     ∷ change code_area 11 1 429496729600000000 ∷ change constants_area 5 0 7 ∷ change constants_area 0 1 1
     ∷ change constants_area 1 1 2 ∷ change constants_area 5 1 0 ∷ change functions_area 0 3 2 ∷ change functions_area 0 7 0 ∷ change models_area 0 1 1048576
-    ∷ change properties_area 0 1 0 ∷ change methods_area 0 1 0 ∷ change context_locals_area 0 1 0 ∷ change context_locals_area 0 2 0 ∷ change public_names_area 0 1 0
+    ∷ change properties_area 0 1 0 ∷ change methods_area 0 1 0 ∷ change context_locals_area 0 1 0 ∷ change context_locals_area 0 2 0 ∷ change public_names_area
+    0 1 0
     ∷ change books_area 0 0 0 ∷ change books_area 1 0 3 ∷ []
 
 unknown_faults : map (λ (c : Change). program_fault (changed kept c)) unknown ≡ map (λ (c : Change). some c.area) unknown

@@ -240,7 +240,8 @@ module _ {S : ℕ → ℕ} {P : Prior} {left : ℕ} where
       let k₁ = kept_value o a.place a.book (kept_constant (constant_of 6 (function_count b.context)) (add_function s n b) k) in
       cond_case (BookKept S P left) (eqb n 1) (λ t. record { prior = k₁.prior; functions = k₁.functions; counted = k₁.counted }) (λ t. k₁)
 
-  kept_function : (f : FunctionDefinition) → LimitedFunction f → (b : Book.Book) → BookKept S P left b → BookKept S P left (compile_function_definition f b).book
+  kept_function : (f : FunctionDefinition) → LimitedFunction f → (b : Book.Book) → BookKept S P left b → BookKept S P left
+      (compile_function_definition f b).book
   unfolding compile_function_definition
   kept_function f l b k =
       let d = define_context_local f.name.value b in

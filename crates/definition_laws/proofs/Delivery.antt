@@ -41,7 +41,8 @@ limits_capped (k ∷ ks) (n ∷ ns) zero = omega arith
 limits_capped (k ∷ ks) (n ∷ ns) (suc area) = limits_capped ks ns area
 
 -- an area's length in entries
-pub limits_at : (ks ns : List ℕ) (area : ℕ) → area < length ks → area < length ns → limit_of (limits_by ks ns) area ≡ entries_in (get_or ks area 0) (get_or ns area 0)
+pub limits_at : (ks ns : List ℕ) (area : ℕ) → area < length ks → area < length ns → limit_of (limits_by ks ns) area ≡ entries_in (get_or ks area 0)
+    (get_or ns area 0)
 limits_at [] ns area h l = absurd (omega arith)
 limits_at (k ∷ ks) [] area h l = absurd (omega arith)
 limits_at (k ∷ ks) (n ∷ ns) zero h l = refl

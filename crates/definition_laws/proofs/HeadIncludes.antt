@@ -78,7 +78,8 @@ rest_of : {n : ℕ} {ns : List ℕ} {ds : List Document} → ComeFirst (n ∷ ns
 rest_of {n} c = record { first = λ m h. c.first m (or_true (eqb n m) h) }
 
 -- the books needed
-reached_before_lem : (standing : List ℕ) (ds : List Document) (ns l : List ℕ) → ComeFirst ns ds → reached_before standing ds ns l ≡ reached_from standing ds ns l
+reached_before_lem : (standing : List ℕ) (ds : List Document) (ns l : List ℕ) → ComeFirst ns ds → reached_before standing ds ns l ≡ reached_from standing ds ns
+    l
 reached_before_lem standing ds [] l c = refl
 reached_before_lem standing ds (n ∷ ns) l c = rw (first_of c) (reached_before_lem standing ds ns _ (rest_of c))
 

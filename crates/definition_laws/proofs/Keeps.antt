@@ -78,7 +78,8 @@ module _ {p : Program} {this : List ℕ} {j : ℕ} (f : FunctionWithin p this j)
   function_bound_lem : Test (function_bound p j)
   function_bound_lem =
       both (both (where_holds (ltb 0 (length_of p j)) (λ t. at_most (start_of p j + length_of p j) (total p code_area) (f.inside (ltb→lt 0 (length_of p j) t))))
-      (at_most (field p functions_area j rescue_word) (length_of p j) f.rescue)) (less (field p functions_area j function_file_word) (total p books_area) f.file)
+      (at_most (field p functions_area j rescue_word) (length_of p j) f.rescue))
+      (less (field p functions_area j function_file_word) (total p books_area) f.file)
 
   -- an entry of area 1 that the function has
   operand_bound : (i : ℕ) → T (has_instruction p j i)
@@ -421,7 +422,8 @@ module _ {m : Areas} {t : Totals} (c : Context) (holds : (area : ℕ) → Holds 
       book_total : total_of t books_area ≡ A
       book_total = (holds books_area).total ∙ length-append c.prior.books _ ∙ ap (λ k. length c.prior.books + k) (single_length _ 0 c.assemblies)
 
-      constants_named : All (λ (e : List ℕ). (get_or e 0 0 ≡ model_kind → get_or e 1 0 < M) × (get_or e 0 0 ≡ function_kind → get_or e 1 0 < F) × (get_or e 2 0 ≤ 1))
+      constants_named : All (λ (e : List ℕ). (get_or e 0 0 ≡ model_kind → get_or e 1 0 < M) × (get_or e 0 0 ≡ function_kind → get_or e 1 0 < F) ×
+          (get_or e 2 0 ≤ 1))
           (entries_from (constant_entry c.pool.globals) 0 c.pool.constants)
       constants_named = entries_all (constant_entry c.pool.globals) K 0
           (λ j x h n. (n.0, n.1, bit_small (has_text j c.pool.globals)) & nil) (omega arith) safe.parts.constants
@@ -594,5 +596,6 @@ program_keeps lengths c n safe fit = holds_within c holds whole safe fit
     holds : (area : ℕ) → Holds (filled_all lengths (tables_of c)) (map (λ (es : Entries). length es) (tables_of c)) area (get_or (tables_of c) area [])
     holds area = record { total = total area; cells = λ i k h q. table_word lengths (tables_wide c safe.wide) (omega arith) area i k h q }
 
-    whole : (area : ℕ) → get_or (map (λ (es : Entries). length es) (tables_of c)) area 0 * width_of area ≤ length (get_or (filled_all lengths (tables_of c)) area [])
+    whole : (area : ℕ) → get_or (map (λ (es : Entries). length es) (tables_of c)) area 0 * width_of area ≤ length
+        (get_or (filled_all lengths (tables_of c)) area [])
     whole area = rw (total area) (table_whole lengths (tables_wide c safe.wide) (omega arith) area)

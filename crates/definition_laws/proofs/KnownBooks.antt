@@ -16,12 +16,15 @@ use Rattle.definition.specs.Uses.{Use}
 use Rattle.definition.specs.Compiler.{Error, Added, compile_function_definition_base}
 use Rattle.definition.specs.Book
 use Rattle.definition.specs.Book.{Function, Model, Method, Context, Placed, Properties, Methods, Made, Value, Standing, Adding, NoConstant}
-use Rattle.definition.specs.Book.{working, resumed, add_book_constant, define_context_local, define_context_local_by, set_local_value, included_name, give_value}
+use Rattle.definition.specs.Book.{working, resumed, add_book_constant, define_context_local, define_context_local_by, set_local_value, included_name}
+use Rattle.definition.specs.Book.{give_value}
 use Rattle.definition.specs.Book.{compile_alias, compile_include_definition, gives_values, compile_include, value_of, compile_value, compile_binding_by}
 use Rattle.definition.specs.Book.{compile_binding, compile_local_definition, has_text, add_property, compile_properties, add_model, compile_model_definition}
 use Rattle.definition.specs.Book.{insert_entry, publish, compile_base, add_function, add_plain_function, compile_function_definition, model_of, get_local_value}
-use Rattle.definition.specs.Book.{find_model_by, find_model_in, find_model_index_by_local_name, insert_methods, add_methods, compile_methods, model_count, function_count}
-use Rattle.definition.specs.Book.{compile_implement_definition, methods_in, methods_of, compile_apply_definition, compile_definition, compile_definitions, opened}
+use Rattle.definition.specs.Book.{find_model_by, find_model_in, find_model_index_by_local_name, insert_methods, add_methods, compile_methods, model_count}
+use Rattle.definition.specs.Book.{function_count}
+use Rattle.definition.specs.Book.{compile_implement_definition, methods_in, methods_of, compile_apply_definition, compile_definition, compile_definitions}
+use Rattle.definition.specs.Book.{opened}
 use Rattle.definition.specs.Within.{All, nil, ◌&◌}
 use Rattle.definition.specs.ProgramCheck.{value_known}
 use Rattle.definition_laws.proofs.Lists.{all_append, cond_case}
@@ -356,7 +359,8 @@ module _ (w : List ℕ) (here : (i : ℕ) → 0 < span_at w i → KnownToken Any
     entries : TextNames m.entries
     book : KnownBook n m.book
 
-  methods_known : (fs : List FunctionDefinition) (i : ℕ) → RunAt (FunctionAt 14) size_f fs w i → (es : List Entry) (b : Book.Book) → TextNames es → KnownBook n b
+  methods_known : (fs : List FunctionDefinition) (i : ℕ) → RunAt (FunctionAt 14) size_f fs w i → (es : List Entry) (b : Book.Book) → TextNames es → KnownBook n
+      b
       → KnownMethods (compile_methods fs es b)
   unfolding compile_methods RunAt
   methods_known [] i x es b e k = record { entries = e; book = k }
@@ -399,7 +403,8 @@ module _ (w : List ℕ) (here : (i : ℕ) → 0 < span_at w i → KnownToken Any
       known_add_methods n e.place (methods_of d.place d.book.context) e.book (methods_of_lem n d.place d.book.context r.parts)
       (known_find n t d.book r)
 
-  definitions_known : (ds : List Definition) (i : ℕ) → RunAt DefinitionAt size_d ds w i → (b : Book.Book) → KnownBook n b → KnownBook n (compile_definitions ds b)
+  definitions_known : (ds : List Definition) (i : ℕ) → RunAt DefinitionAt size_d ds w i → (b : Book.Book) → KnownBook n b → KnownBook n
+      (compile_definitions ds b)
   unfolding compile_definitions RunAt
   definitions_known [] i x b k = k
   definitions_known (d ∷ ds) i x b k = definitions_known ds (i + size_d d) x.1 (compile_definition d b) (definition_known d i x.0 b k)

@@ -186,7 +186,8 @@ module _ {E : Error → Type 0} {C : Constant → Type 0} where
   unfolding emit_constant
   emit_constant_known o c p h q l = record { keeps = λ w k. known_emit (add_constant c w).work _ p (h (add_constant c w).index) l (known_constant c w q k) }
 
-  global_known : (o n p : ℕ) → ((i : ℕ) → KnownInstruction (to_instruction o i)) → C (constant_of text_kind n) → IsPosition p → KeepsKnown E C (emit_global o n p)
+  global_known : (o n p : ℕ) → ((i : ℕ) → KnownInstruction (to_instruction o i)) → C (constant_of text_kind n) → IsPosition p → KeepsKnown E C
+      (emit_global o n p)
   unfolding emit_global
   global_known o n p h q l = record {
     keeps = λ w k.

@@ -182,7 +182,8 @@ opcode_set l j x k e = go (ℕ_discrete k j) (dec_lt j (length l))
     go (yes q) (yes h) = rw (q, get_or-set_same l j x nothing h) (sym e)
     go (yes q) (no h) = ap (λ (y : List Instruction). (at y k).opcode) (set_out l j x (omega arith))
 
-pub opcode_patch : (bs : List ℕ) (t : ℕ) (l : List Instruction) (k : ℕ) → All (λ b. (at l b).opcode ≡ Jump) bs → (at (patch_all bs t l) k).opcode ≡ (at l k).opcode
+pub opcode_patch : (bs : List ℕ) (t : ℕ) (l : List Instruction) (k : ℕ) → All (λ b. (at l b).opcode ≡ Jump) bs → (at (patch_all bs t l) k).opcode ≡
+    (at l k).opcode
 opcode_patch [] t l k nil = refl
 opcode_patch (b ∷ bs) t l k (p & ps) = opcode_patch bs t l' k (all_map (λ c q. opcode_set l b J c p ∙ q) ps) ∙ opcode_set l b J k p
   where

@@ -17,7 +17,8 @@ use Rattle.definition.specs.Book.{function_count, model_count, Context, BookStep
 use Rattle.definition.specs.Book.{define_context_local_by, set_local_value, in_mode, with_constant}
 use Rattle.definition.specs.Book.{included_from, included_names, only_one, with_context, property_count}
 use Rattle.definition.specs.Book.{included_name, give_value, compile_alias, compile_include_definition, Value, Standing, Adding, NoConstant, value_of}
-use Rattle.definition.specs.Book.{compile_value, compile_binding_by, compile_binding, compile_local_definition, has_text, Properties, add_property, push_book_error}
+use Rattle.definition.specs.Book.{compile_value, compile_binding_by, compile_binding, compile_local_definition, has_text, Properties, add_property}
+use Rattle.definition.specs.Book.{push_book_error}
 use Rattle.definition.specs.Book.{compile_properties, add_model, compile_model_definition, compile_base, add_function, add_plain_function, Made, Methods}
 use Rattle.definition.specs.Book.{compile_function_definition, model_of, get_local_value, find_model_by, find_model_in, find_model_index_by_local_name, publish}
 use Rattle.definition.specs.Book.{add_methods, compile_methods, compile_implement_definition, methods_of, compile_apply_definition, with_entry_point}
@@ -261,7 +262,8 @@ alike_alias file a b =
 pub alike_include : (file : ℕ) (l : List Alias) (b : Book.Book) → compile_include_definition file l (present b) ≡ present (compile_include_definition file l b)
 unfolding compile_include_definition
 alike_include file [] b = refl
-alike_include file (a ∷ l) b = ap (λ (x : Book.Book). compile_include_definition file l x) (alike_alias file a b) ∙ alike_include file l (compile_alias file a b)
+alike_include file (a ∷ l) b = ap (λ (x : Book.Book). compile_include_definition file l x) (alike_alias file a b) ∙ alike_include file l
+    (compile_alias file a b)
 
 alike_compile_value : (v : Value) (t : Token) (o : Option ℕ) (b : Book.Book) → compile_value v t o (present b) ≡ present (compile_value v t o b)
 alike_compile_value (Standing n) t o b = alike_value o n b
@@ -372,7 +374,8 @@ alike_methods : (o : Option ℕ) (es : List Entry) (b : Book.Book) → add_metho
 alike_methods none es b = refl
 alike_methods (some m) es b = refl
 
-alike_compile_methods : (fs : List FunctionDefinition) (es : List Entry) (b : Book.Book) → compile_methods fs es (present b) ≡ entries' (compile_methods fs es b)
+alike_compile_methods : (fs : List FunctionDefinition) (es : List Entry) (b : Book.Book) → compile_methods fs es (present b) ≡ entries'
+    (compile_methods fs es b)
 unfolding compile_methods compile_base
 alike_compile_methods [] es b = refl
 alike_compile_methods (f ∷ fs) es b = alike_compile_methods fs _ (add_function (compile_base f b).state f.name.value (compile_base f b).book)

@@ -523,7 +523,8 @@ this_moves t w = moves_function w _ (kept_append _ _) refl (le_refl _) refl (emi
 -- every piece moves
 
 mutual
-  unfolding compile_expression compile_identifier_expression compile_null_expression compile_integer_expression compile_float_expression compile_string_expression
+  unfolding compile_expression compile_identifier_expression compile_null_expression compile_integer_expression compile_float_expression
+      compile_string_expression
       compile_boolean_expression compile_assign_name
 
   pub expression_moves : (e : Expression) → Moving (compile_expression e)

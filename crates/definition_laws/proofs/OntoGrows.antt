@@ -26,8 +26,10 @@ use Rattle.definition.specs.Book.{define_context_local_by, set_local_value, give
 use Rattle.definition.specs.Book.{included_name, give_value, compile_alias, compile_include_definition, Value, Standing, Adding, NoConstant, value_of}
 use Rattle.definition.specs.Book.{compile_value, compile_binding_by, compile_binding, compile_local_definition, has_text, Properties, add_property}
 use Rattle.definition.specs.Book.{compile_properties, add_model, compile_model_definition, compile_base, add_function, add_plain_function}
-use Rattle.definition.specs.Book.{compile_function_definition, model_of, get_local_value, find_model_by, find_model_in, find_model_index_by_local_name, same_method}
-use Rattle.definition.specs.Book.{insert_method, insert_methods, add_methods, compile_methods, compile_implement_definition, methods_of, compile_apply_definition}
+use Rattle.definition.specs.Book.{compile_function_definition, model_of, get_local_value, find_model_by, find_model_in, find_model_index_by_local_name}
+use Rattle.definition.specs.Book.{same_method}
+use Rattle.definition.specs.Book.{insert_method, insert_methods, add_methods, compile_methods, compile_implement_definition, methods_of}
+use Rattle.definition.specs.Book.{compile_apply_definition}
 use Rattle.definition.specs.Book.{compile_definition, compile_definitions, opened, compile_document}
 use Rattle.definition.specs.Program.{Entries, bit, entries_from, constant_entry, method_entry, code_table, constant_table, function_table, model_table}
 use Rattle.definition.specs.Program.{property_table, method_table, local_table, public_table, book_table}

@@ -53,7 +53,8 @@ fresh_words lengths n (Refusal row place es) =
     let m = filled_all lengths (replicate 13 []) in
     let long : length (get_or m errors_area []) ≡ get_or lengths errors_area 0 =
     sym (get_or-map (λ (l : List ℕ). length l) m errors_area []) ∙ ap (λ (l : List ℕ). get_or l errors_area 0) (zeros_lengths lengths 13 n) in
-    ap (λ k. set m errors_area (filled k (entries_from error_entry 0 es))) long ∙ set_filled lengths (replicate 13 []) errors_area (entries_from error_entry 0 es)
+    ap (λ k. set m errors_area (filled k (entries_from error_entry 0 es))) long ∙ set_filled lengths (replicate 13 []) errors_area
+    (entries_from error_entry 0 es)
 
 cons_same : {m n : ℕ} {l k : List ℕ} → m ≡ n → l ≡ k → m ∷ l ≡ n ∷ k
 cons_same {n = n} {l = l} a b = ap (λ x. x ∷ l) a ∙ ap (λ (x : List ℕ). n ∷ x) b
@@ -67,7 +68,12 @@ abbrev least_tables : List Entries
 least_tables = [] ∷ [] ∷ three_constants ∷ [] ∷ [] ∷ [] ∷ [] ∷ [] ∷ [] ∷ [] ∷ [] ∷ [] ∷ [] ∷ []
 
 abbrev pub least_program : List ℕ → Program
-least_program lengths = record { areas = filled_all lengths least_tables; totals = map (λ (es : Entries). length es) least_tables; entry_point = 0; globals = 0 }
+least_program lengths = record {
+  areas = filled_all lengths least_tables;
+  totals = map (λ (es : Entries). length es) least_tables;
+  entry_point = 0;
+  globals = 0;
+}
 
 -- areas that pass
 

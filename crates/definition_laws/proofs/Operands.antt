@@ -356,7 +356,8 @@ module _ {K : Frame} where
     }
       where
         close : (m exit : ℕ) (v : Work) → Kept K m v
-            → Kept K m (doing Emission.exit_scope (doing (exit_break_scope exit) (Compiler.replace_instruction exit (to_instruction JumpIf (Compiler.next v)) v)))
+            → Kept K m (doing Emission.exit_scope (doing (exit_break_scope exit)
+            (Compiler.replace_instruction exit (to_instruction JumpIf (Compiler.next v)) v)))
         close m exit v k =
             let v₄ = Compiler.replace_instruction exit (to_instruction JumpIf (Compiler.next v)) v in
             let k₄ : Kept K m v₄ = keep_replace v exit JumpIf (Compiler.next v) k tt in
@@ -454,7 +455,8 @@ module _ {K : Frame} where
 -- every part keeps, where the numbers of parts and operations are small
 module _ {K : Frame} (b : 258 ≤ K.operands) where
   mutual
-    unfolding compile_expression compile_identifier_expression compile_null_expression compile_integer_expression compile_float_expression compile_string_expression
+    unfolding compile_expression compile_identifier_expression compile_null_expression compile_integer_expression compile_float_expression
+        compile_string_expression
         compile_boolean_expression compile_assign_name size_e depth_e
 
     expression_defines : (e : Expression) → size_e e ≤ K.operands → Defines K e
@@ -477,7 +479,11 @@ module _ {K : Frame} (b : 258 ≤ K.operands) where
         let x = expression_defines l (omega arith) in
         let y : x.own + x.again ≤ room (size_e l) (1 + depth_e l) = x.twice in
         plainly _ (infix_keeps x.read (within (expression_defines r (omega arith))) (x.target t) t b) refused
-        (omega (arith, room_beside 1 0 (size_e l) (size_e r) (1 + depth_e l) (depth_e r) (1 + max (depth_e l) (depth_e r)) (omega arith) (omega arith) (omega arith)))
+        (omega (
+          arith,
+          room_beside 1 0 (size_e l) (size_e r) (1 + depth_e l) (depth_e r) (1 + max (depth_e l) (depth_e r)) (omega arith) (omega arith)
+              (omega arith),
+        ))
     expression_defines (If c t) h =
         let n : ℕ = 1 + max (depth_e c) (1 + depth_ss t) in
         plainly _ (if_keeps (within (expression_defines c (omega arith))) (part_keeps (statements_keep t (omega arith))) no_part_keeps) refused
@@ -542,7 +548,8 @@ module _ {K : Frame} (b : 258 ≤ K.operands) where
         (deeper_keeps (variables_keep vs (omega arith)))
     statement_keeps (Return t) h = keeps_le (omega arith) (deeper_keeps (return_keeps _))
     statement_keeps (For t i e ss) h =
-        keeps_le (room_beside 2 3 (size_e e) (size_ss ss) (depth_e e) (depth_ss ss) (1 + max (depth_e e) (depth_ss ss)) (omega arith) (omega arith) (omega arith))
+        keeps_le (room_beside 2 3 (size_e e) (size_ss ss) (depth_e e) (depth_ss ss) (1 + max (depth_e e) (depth_ss ss)) (omega arith) (omega arith)
+        (omega arith))
         (deeper_keeps (for_keeps (within (expression_defines e (omega arith))) (statements_keep ss (omega arith)) t i))
     statement_keeps (Break t) h = keeps_le (omega arith) (deeper_keeps (break_keeps _))
     statement_keeps (Rescue t) h = keeps_le (omega arith) (deeper_keeps (rescue_keeps t))

@@ -20,7 +20,8 @@ use Rattle.definition.specs.FunctionState.{Entry, find_name}
 use Rattle.definition.specs.Book.{Function, Model, Method, Assembly, Context, new_context, has_text}
 use Rattle.definition.specs.Program.{Entries, bit, entries_from, code_entries, function_code, constant_entry, function_entries, model_entry}
 use Rattle.definition.specs.Program.{property_entries, model_properties, method_entry, local_words, local_entry, public_entries, assembly_publics, book_entry}
-use Rattle.definition.specs.Program.{code_table, constant_table, function_table, model_table, property_table, method_table, local_table, public_table, book_table}
+use Rattle.definition.specs.Program.{code_table, constant_table, function_table, model_table, property_table, method_table, local_table, public_table}
+use Rattle.definition.specs.Program.{book_table}
 use Rattle.definition.specs.Program.{tables_of, flat, filled, filled_all}
 use Rattle.definition.specs.Answer.{Delivery, answer_from, answer, areas_of, reply_of}
 use Rattle.definition.specs.Within.{All, nil, ◌&◌, Program, total, present, field, marked, all_below, area_bound}
@@ -82,7 +83,8 @@ bit_mark false = passes
 
 function_entries_lem : (start : ℕ) (fs : List Function) → All KnownFunction fs → All FunctionEntryKnown (function_entries start fs)
 function_entries_lem start [] nil = nil
-function_entries_lem start (f ∷ fs) (k & ks) = (bit_mark f.state.header.is_instance, k.name) & function_entries_lem (start + length f.state.code.instructions) fs ks
+function_entries_lem start (f ∷ fs) (k & ks) = (bit_mark f.state.header.is_instance, k.name) & function_entries_lem (start + length f.state.code.instructions)
+    fs ks
 
 property_entries_lem : (i : ℕ) (ns : List ℕ) → All IsText ns → All NameKnown (property_entries i ns)
 property_entries_lem i [] nil = nil
@@ -181,7 +183,8 @@ module _ (p : Program) (c : Context) (k : ContextKnown c) (operands : OperandsFi
         let a : i < length es = omega (arith, h, present_total area in-range, H.total) in
         refuted (same_key p area i j) (f i j a (omega arith) (distinct_at d j i [] l a))))
 
-  name_entry_lem : (area : ℕ) (es : Entries) → Holds p.areas p.totals area es → 1 < width_of area → (i : ℕ) → i < length es → IsText (get_or (get_or es i []) 1 0)
+  name_entry_lem : (area : ℕ) (es : Entries) → Holds p.areas p.totals area es → 1 < width_of area → (i : ℕ) → i < length es → IsText
+      (get_or (get_or es i []) 1 0)
       → IsText (field p area i 1)
   name_entry_lem area es H wide i h q = subst IsText (sym (H.cells i 1 h wide)) q
 
@@ -370,7 +373,8 @@ context_passes lengths c n s k =
         rw (total_is area, area_is area h, filled_length (width_of area) (get_or lengths area 0) (tables area) (flat_is area) (within area h)) (within area h)
 
     beyond : (area : ℕ) → area < 13
-        → Test (zeros (drop (get_or (map (λ (es : Entries). length es) (tables_of c)) area 0 * width_of area) (get_or (filled_all lengths (tables_of c)) area [])))
+        → Test (zeros (drop (get_or (map (λ (es : Entries). length es) (tables_of c)) area 0 * width_of area)
+        (get_or (filled_all lengths (tables_of c)) area [])))
     beyond area h =
         let n = get_or lengths area 0 - length (flat (tables area)) in
         rw (total_is area, area_is area h, ← flat_is area, drop-append_seam (flat (tables area)) (replicate n 0)) (zeros_only n)

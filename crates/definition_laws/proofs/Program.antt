@@ -811,7 +811,8 @@ all_method {P} {l} e p (◌&◌ {x = x} {xs = xs} q qs) = cond_case (All P) (sam
 all_methods : {M F : ℕ} {l : List Method} (m : ℕ) (es : List Entry) → m < M → All (λ (e : Entry). e.index < F) es
     → All (λ (x : Method). (x.model < M) × (x.function < F)) l → All (λ (x : Method). (x.model < M) × (x.function < F)) (insert_methods m es l)
 all_methods m [] k nil qs = qs
-all_methods {l = l} m (e ∷ es) k (p & ps) qs = all_methods {l = insert_method (record { model = m; name = e.name; function = e.index }) l} m es k ps (all_method _ (k, p) qs)
+all_methods {l = l} m (e ∷ es) k (p & ps) qs = all_methods {l = insert_method (record { model = m; name = e.name; function = e.index }) l} m es k ps
+    (all_method _ (k, p) qs)
 
 own_methods : {M F : ℕ} (m : ℕ) (l : List Method) → All (λ (x : Method). (x.model < M) × (x.function < F)) l
     → All (λ (e : Entry). e.index < F) (methods_in m l)

@@ -15,7 +15,8 @@ use Rattle.words.specs.Opcode.{unword}
 use Rattle.definition.specs.Book.{Method}
 use Rattle.definition.specs.Program.{Entries}
 use Rattle.definition.specs.Within.{All, nil, ◌&◌, Program, total, present, field, marked, instruction_at, all_below, where'}
-use Rattle.definition.specs.ProgramCheck.{is_text, is_position, is_mark, instruction_known, value_known, same_key, keys_differ, is_constant, begins_well, program_fault}
+use Rattle.definition.specs.ProgramCheck.{is_text, is_position, is_mark, instruction_known, value_known, same_key, keys_differ, is_constant, begins_well}
+use Rattle.definition.specs.ProgramCheck.{program_fault}
 use Rattle.definition.specs.Onto.{lent_entries, constants_of, methods_spelt, context_of}
 use Rattle.definition.specs.SharedOnce.{numbered}
 use Rattle.definition_laws.proofs.Tests.{Test, first_of, second_of, below_at}
@@ -68,7 +69,8 @@ module _ {p : Program} (s : ProgramPasses p) where
   names area a wide f = each area (λ i h. subst IsText (lent_word a i 1 h wide) (record { holds = f i h }))
 
   code_known : (i : ℕ) → i < total p code_area
-      → Test (instruction_known (unword (get_or (get_or (lent_entries p code_area) i []) 0 0))) × IsPosition (get_or (get_or (lent_entries p code_area) i []) 1 0)
+      → Test (instruction_known (unword (get_or (get_or (lent_entries p code_area) i []) 0 0))) × IsPosition
+      (get_or (get_or (lent_entries p code_area) i []) 1 0)
   code_known i h =
       let a = instruction_known (instruction_at p.areas i) in
       let b = is_position (field p code_area i 1) in

@@ -19,7 +19,8 @@ use Rattle.definition.specs.Uses.{limit_of}
 use Rattle.definition.specs.Book.{Method}
 use Rattle.definition.specs.Program.{Entries}
 use Rattle.definition.specs.Answer.{limits_of}
-use Rattle.definition.specs.Within.{All, nil, ◌&◌, Among, here, there, Program, lengths_of, total, present, field, instruction_at, start_of, length_of, locals_of}
+use Rattle.definition.specs.Within.{All, nil, ◌&◌, Among, here, there, Program, lengths_of, total, present, field, instruction_at, start_of, length_of}
+use Rattle.definition.specs.Within.{locals_of}
 use Rattle.definition.specs.Within.{Class, Position, Slot, Read, Pool, ContextSlot, Other, class_of, bound_by_totals, bound_by_function, has_instruction}
 use Rattle.definition.specs.Within.{where', all_below, marked}
 use Rattle.definition.specs.ProgramCheck.{is_constant, program_fault}
@@ -264,7 +265,8 @@ module _ {p : Program} (s : ProgramPasses p) where
 
   -- areas 2 and 6
 
-  constant_safe : (i : ℕ) → i < total p constants_area → Named M F (constant_of (get_or (entry_at constants_area i) 0 0) (get_or (entry_at constants_area i) 1 0))
+  constant_safe : (i : ℕ) → i < total p constants_area → Named M F (constant_of (get_or (entry_at constants_area i) 0 0)
+      (get_or (entry_at constants_area i) 1 0))
   constant_safe i h =
       let kind = field p constants_area i 0 in
       let value = field p constants_area i 1 in

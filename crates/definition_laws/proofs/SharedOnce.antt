@@ -41,7 +41,8 @@ not_same c [] k i e h = absurd (omega arith)
 not_same c (d ∷ ds) k i e h = go (same_constant c d) refl i e h (λ j q p. not_same c ds (k + 1) j q p)
   where
     go : (b : Bool) → same_constant c d ≡ b → (i : ℕ) → cond b (some k) (find_constant c ds (k + 1)) ≡ none → i < length (d ∷ ds)
-        → ((j : ℕ) → find_constant c ds (k + 1) ≡ none → j < length ds → same_constant c (numbered ds j) ≡ false) → same_constant c (numbered (d ∷ ds) i) ≡ false
+        → ((j : ℕ) → find_constant c ds (k + 1) ≡ none → j < length ds → same_constant c (numbered ds j) ≡ false) → same_constant c (numbered (d ∷ ds) i) ≡
+        false
     go true s i e h rest = absurd (let z : ◌≡◌ {A = ℕ} 0 1 = cc in omega arith)
     go false s zero e h rest = s
     go false s (suc i) e h rest = rest i e (omega arith)

@@ -19,7 +19,8 @@ use Rattle.definition.specs.FunctionState.{FunctionState, remove_pop_or_push_nul
 use Rattle.definition.specs.FunctionState.{find_name, get_next_instruction_index, new_function_state}
 use Rattle.definition.specs.Uses.{Use}
 use Rattle.definition.specs.Compiler
-use Rattle.definition.specs.Compiler.{Work, Step, Added, with_function, doing, emit, emit_opcode, push_error, add_constant, add_constant_no_check, find_constant}
+use Rattle.definition.specs.Compiler.{Work, Step, Added, with_function, doing, emit, emit_opcode, push_error, add_constant, add_constant_no_check}
+use Rattle.definition.specs.Compiler.{find_constant}
 use Rattle.definition.specs.Compiler.{emit_constant, emit_global, emit_name, InfixKind, Assigning, Plain, Negated, Compound, Unknown, infix_kind}
 use Rattle.definition.specs.Compiler.{compile_infix_by}
 use Rattle.definition.specs.Compiler.{compile_statement, compile_statements, compile_expression, compile_expressions, compile_variables}

@@ -37,9 +37,12 @@ use Rattle.definition.specs.Book.{add_book_constant}
 use Rattle.definition.specs.Book.{define_context_local, set_local_value, give_value, compile_alias, compile_include_definition}
 use Rattle.definition.specs.Book.{gives_values, compile_include, value_of, compile_value, compile_binding}
 use Rattle.definition.specs.Book.{compile_local_definition, add_property, compile_properties, compile_model_definition, compile_base, add_plain_function}
-use Rattle.definition.specs.Book.{compile_function_definition, find_model_index_by_local_name, add_methods, compile_methods, compile_implement_definition, add_function}
-use Rattle.definition.specs.Book.{compile_apply_definition, compile_definition, compile_definitions, compile_document, new_context, push_book_error, has_text, opened}
-use Rattle.definition.specs.DependencySolver.{Ending, Delivered, Faulty, Ring, Worked, find_document, missing, missing_by, ready, ready_by, all_in, dependencies}
+use Rattle.definition.specs.Book.{compile_function_definition, find_model_index_by_local_name, add_methods, compile_methods, compile_implement_definition}
+use Rattle.definition.specs.Book.{add_function}
+use Rattle.definition.specs.Book.{compile_apply_definition, compile_definition, compile_definitions, compile_document, new_context, push_book_error, has_text}
+use Rattle.definition.specs.Book.{opened}
+use Rattle.definition.specs.DependencySolver.{Ending, Delivered, Faulty, Ring, Worked, find_document, missing, missing_by, ready, ready_by, all_in}
+use Rattle.definition.specs.DependencySolver.{dependencies}
 use Rattle.definition.specs.DependencySolver.{without, after_book, drive_by, drive, compile_needed, needed, loaded_of}
 use Rattle.definition.specs.Prior.{Entries}
 use Rattle.definition.specs.Program.{error_entry, entries_from, flat, filled, filled_all, tables_of, error_tables}
@@ -538,7 +541,8 @@ answer_known c w lengths = shape (shape_of w) refl
 
 shift_at : (a b c d : ℕ) (w : List ℕ) (i : ℕ) → error_at (a ∷ b ∷ c ∷ d ∷ w) (i + 1) ≡ error_at w i
 shift_at a b c d w i =
-    let at : (k j : ℕ) → j ≡ suc (suc (suc (suc k))) → get_or (a ∷ b ∷ c ∷ d ∷ w) j 0 ≡ get_or w k 0 = λ k j e. ap (λ (m : ℕ). get_or (a ∷ b ∷ c ∷ d ∷ w) m 0) e in
+    let at : (k j : ℕ) → j ≡ suc (suc (suc (suc k))) → get_or (a ∷ b ∷ c ∷ d ∷ w) j 0 ≡ get_or w k 0 = λ k j e. ap (λ (m : ℕ). get_or (a ∷ b ∷ c ∷ d ∷ w) m 0)
+    e in
     let x = at (i * 4 + 0) ((i + 1) * 4 + 0) (omega arith) in
     let y = at (i * 4 + 1) ((i + 1) * 4 + 1) (omega arith) in
     let z = at (i * 4 + 2) ((i + 1) * 4 + 2) (omega arith) in
@@ -581,7 +585,8 @@ listed_known (e ∷ es) (p & ps) m i j =
     go false r = simp p r
 
 -- an area of a list of areas, if it is there
-area_known : (P : List ℕ → Type 0) (ns : List ℕ) (ts : List Entries) (k : ℕ) → P [] → ((n : ℕ) → P (filled n (get_or ts k []))) → P (get_or (filled_all ns ts) k [])
+area_known : (P : List ℕ → Type 0) (ns : List ℕ) (ts : List Entries) (k : ℕ) → P [] → ((n : ℕ) → P (filled n (get_or ts k []))) → P
+    (get_or (filled_all ns ts) k [])
 area_known P [] ts k z f = z
 area_known P (n ∷ ns) [] k z f = z
 area_known P (n ∷ ns) (t ∷ ts) zero z f = f n
@@ -605,6 +610,7 @@ pub standing_compiled_known : (c : Context) (w lengths : List ℕ)
 standing_compiled_known c w lengths = answer_left lengths (answer_from c w lengths) (answer_known c w lengths)
 
 -- and onto none
-pub compiled_known : (strict : Bool) (w lengths : List ℕ) → first_unknown 0 (errors_in (get_or (areas_of lengths (answer strict w lengths)) errors_area [])) ≡ none
+pub compiled_known : (strict : Bool) (w lengths : List ℕ) → first_unknown 0 (errors_in (get_or (areas_of lengths (answer strict w lengths)) errors_area [])) ≡
+    none
 unfolding answer
 compiled_known strict w lengths = standing_compiled_known (new_context strict) w lengths

@@ -79,7 +79,8 @@ one_line : in_words (9 ∷ pack_position 12 5 ∷ 40 ∷ 2 ∷ 0 ∷ 0 ∷ 0 ∷
       output = 105 ∷ 115 ∷ 32 ∷ 110 ∷ 111 ∷ 116 ∷ 32 ∷ 97 ∷ 32 ∷ 109 ∷ 111 ∷ 100 ∷ 101 ∷ 108 ∷ 44 ∷ 32 ∷ 34 ∷ 97 ∷ 34 ∷ 44 ∷ 32 ∷ 49 ∷ 50 ∷ 44 ∷ 32 ∷ 53
           ∷ 44 ∷ 32 ∷ 52 ∷ 48 ∷ 44 ∷ 32 ∷ 34 ∷ 92 ∷ 34 ∷ 34 ∷ 10 ∷ 0 ∷ 0 ∷ 0 ∷ [];
     }
-unfolding in_words first_unknown errors_in errors_from known known_token is_kind stands_in in_range may_be_at in_place lines_of error_line message text_field text_at quoted
+unfolding in_words first_unknown errors_in errors_from known known_token is_kind stands_in in_range may_be_at in_place lines_of error_line message text_field
+    text_at quoted
     escaped
     escape value_field holds_text plain after_blanks digits_by written right_justified delivered
 one_line = refl

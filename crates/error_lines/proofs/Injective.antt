@@ -212,7 +212,8 @@ module _ (table bytes : List ℕ) (B : AllBelow 256 bytes) (D : TextsDiffer tabl
       (32 ∷ from₃ table bytes f n p k v r) (32 ∷ from₃ table bytes g n' p' k' v' s) (cons_tail a.1) in
       let c = free_split 44 (plain false (line_of p)) (plain false (line_of p')) (32 ∷ from₄ table bytes f n p k v r) (32 ∷ from₄ table bytes g n' p' k' v' s)
       (free_plain 44 apart_44 false (line_of p)) (free_plain 44 apart_44 false (line_of p')) (cons_tail b.0) in
-      let d = free_split 44 (plain false (column_of p)) (plain false (column_of p')) (32 ∷ from₅ table bytes f n p k v r) (32 ∷ from₅ table bytes g n' p' k' v' s)
+      let d = free_split 44 (plain false (column_of p)) (plain false (column_of p')) (32 ∷ from₅ table bytes f n p k v r)
+      (32 ∷ from₅ table bytes g n' p' k' v' s)
       (free_plain 44 apart_44 false (column_of p)) (free_plain 44 apart_44 false (column_of p')) (cons_tail c.1) in
       let h = free_split 44 (plain false k) (plain false k') (32 ∷ from₆ table bytes f n p k v r) (32 ∷ from₆ table bytes g n' p' k' v' s)
       (free_plain 44 apart_44 false k) (free_plain 44 apart_44 false k') (cons_tail d.1) in

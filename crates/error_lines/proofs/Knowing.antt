@@ -20,7 +20,8 @@ pub error_same : (w : List ℕ) (i : ℕ) {n p k v : ℕ} → n ≡ entry_field 
     → error n p k v ≡ error_at w i
 unfolding entry_field
 error_same w i {n} {p} {k} {v} a b c d =
-    ap (λ (x : ℕ). error x p k v) a ∙ (ap (λ (x : ℕ). error (entry_word 4 i 0 w) x k v) b ∙ (ap (λ (x : ℕ). error (entry_word 4 i 0 w) (entry_word 4 i 1 w) x v) c
+    ap (λ (x : ℕ). error x p k v) a ∙ (ap (λ (x : ℕ). error (entry_word 4 i 0 w) x k v) b ∙
+    (ap (λ (x : ℕ). error (entry_word 4 i 0 w) (entry_word 4 i 1 w) x v) c
     ∙ ap (λ (x : ℕ). error (entry_word 4 i 0 w) (entry_word 4 i 1 w) (entry_word 4 i 2 w) x) d))
 
 pub text_low : (n : ℕ) → n < 1 → false ≡ is_text n

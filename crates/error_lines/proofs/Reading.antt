@@ -16,7 +16,8 @@ use Rattle.column_lines.specs.declared.number.Number.TheVariants.{Word}
 use Rattle.column_lines.proofs.Digits.{numeral_spelled}
 use Rattle.column_lines.proofs.Numerals.{read_written}
 use Rattle.column_lines.proofs.Again.{value_fits}
-use Rattle.error_lines.specs.Texts.{after_blanks, plain, escape, escaped, quoted, start_of, length_of, in_table, text_at, text_field, text_field_by, TextsDiffer}
+use Rattle.error_lines.specs.Texts.{after_blanks, plain, escape, escaped, quoted, start_of, length_of, in_table, text_at, text_field, text_field_by}
+use Rattle.error_lines.specs.Texts.{TextsDiffer}
 use Rattle.error_lines.specs.Words.{AllBelow}
 use Rattle.error_lines.proofs.TextFields.{escape_quotation, escape_backslash, escape_low, escape_high, escape_plain}
 

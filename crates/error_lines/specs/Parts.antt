@@ -7,4 +7,5 @@ use Rattle.error_lines.specs.declared.texts.Part.TheVariants.{From, Lacking}
 
 unfoldable pub part_at : List ℕ → ℕ → ℕ → Part
 part_at table size n =
-    cond (in_table table n) (cond (leb (start_of table n + length_of table n) size) (From (start_of table n) (start_of table n + length_of table n)) Lacking) Lacking
+    cond (in_table table n) (cond (leb (start_of table n + length_of table n) size) (From (start_of table n) (start_of table n + length_of table n)) Lacking)
+    Lacking

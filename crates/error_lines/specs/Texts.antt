@@ -50,7 +50,8 @@ in_table table n = leb 1 n && leb (2 * n) (length table)
 -- text n; none for 'a text number that the table lacks or ends past its bytes'
 unfoldable pub text_at : List ℕ → List ℕ → ℕ → Option (List ℕ)
 text_at table bytes n =
-    cond (in_table table n) (cond (leb (start_of table n + length_of table n) (length bytes)) (some (take (length_of table n) (drop (start_of table n) bytes))) none)
+    cond (in_table table n) (cond (leb (start_of table n + length_of table n) (length bytes)) (some (take (length_of table n) (drop (start_of table n) bytes)))
+    none)
     none
 
 -- 'A text number that the table lacks or ends past its bytes is written without quotation marks'

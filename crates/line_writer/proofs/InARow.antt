@@ -45,7 +45,8 @@ module _ (x : MutBor (List ℕ)) (n : ℕ) (l : Fields) (r₀ r₁ r₂ r₃ r�
 
   pub line_name : r₉.buffer.ghost_name ≡ x.ghost_name
   line_name =
-      then_name (then_name (then_name (then_name (then_name (then_name (then_name (then_name (then_name (ap (λ (w : Writer). w.buffer.ghost_name) e₀) e₁) e₂) e₃)
+      then_name (then_name (then_name (then_name (then_name (then_name (then_name (then_name (then_name (ap (λ (w : Writer). w.buffer.ghost_name) e₀) e₁) e₂)
+      e₃)
       e₄) e₅) e₆) e₇) e₈) e₉
 
   -- where the writer's borrow ended as e says, and the buffer has what it ended with

@@ -1,7 +1,8 @@
 -- The lines of 01's listing as data: eight numbers each, from the reply and the words of the areas ('unused fields 0'; 'Sections ascend, then indices').
 -- docs/FORMAT.md has the words of an entry
 use Rattle.std.specs.Prelude.{ℕ, zero, suc, ◌+◌, ◌/◌, Bool, true, false, cond, ◌||◌, List, [], ◌∷◌, ◌++◌, map, length, eqb, ltb}
-use Rattle.words.specs.Areas.{width_of, entry_word, code_area, constants_area, models_area, properties_area, methods_area, context_locals_area, errors_area, books_area}
+use Rattle.words.specs.Areas.{width_of, entry_word, code_area, constants_area, models_area, properties_area, methods_area, context_locals_area, errors_area}
+use Rattle.words.specs.Areas.{books_area}
 use Rattle.words.specs.Object.{integer_kind}
 use Rattle.words.specs.Opcode.{Instruction, unword}
 use Rattle.words.specs.Program.{function_at, code_of, instruction_word, instruction_position}

@@ -1,6 +1,7 @@
 // An entry of an area by itself: its words against the totals, and what else 01 says of a word.
 ghost use Rattle.std.specs.Prelude.{◌+◌, ◌≡◌, ◌||◌, ltb, leb};
-ghost use Rattle.words.specs.Areas.{constants_area, functions_area, models_area, properties_area, methods_area, context_locals_area, public_names_area, books_area};
+ghost use Rattle.words.specs.Areas.{constants_area, functions_area, models_area, properties_area, methods_area, context_locals_area, public_names_area};
+ghost use Rattle.words.specs.Areas.{books_area};
 ghost use Rattle.definition.specs.Within.{where'};
 ghost use Rattle.definition.specs.ProgramCheck.{is_text};
 ghost use Rattle.program_check.specs.Parts.{alone, entry_fine};

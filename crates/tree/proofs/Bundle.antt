@@ -25,7 +25,8 @@ use Rattle.tree.proofs.Runs.{run_law}
 use Rattle.tree.proofs.Definitions.{document_item}
 
 -- every record's position and value are in the range of its kind
-in-range : (w : List ℕ) (n s l i e : ℕ) → Children w s l i e → e - i ≤ n → (j : ℕ) → i ≤ j → j < e → in_range (kind_at w j) (position_at w j) (value_at w j) ≡ true
+in-range : (w : List ℕ) (n s l i e : ℕ) → Children w s l i e → e - i ≤ n → (j : ℕ) → i ≤ j → j < e → in_range (kind_at w j) (position_at w j) (value_at w j) ≡
+    true
 in-range w zero s l i e k b j a h = absurd (omega arith)
 in-range w (suc n) s l i e k b j a h = go (child k (omega arith)) (ℕ_discrete i j) (λ s l i e. in-range w n s l i e)
   where

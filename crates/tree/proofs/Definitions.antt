@@ -182,7 +182,8 @@ function_item w l i k q m =
       deep = omega arith;
     }
 
-method_item : (w : List ℕ) (l i : ℕ) → has (kind_at w i) (14 ∷ []) ≡ true → Node w l i (kind_at w i) → Item (FunctionAt 14) size_f depth_f w l i (function_of w i)
+method_item : (w : List ℕ) (l i : ℕ) → has (kind_at w i) (14 ∷ []) ≡ true → Node w l i (kind_at w i) → Item (FunctionAt 14) size_f depth_f w l i
+    (function_of w i)
 unfolding first_slot
 method_item w l i h m = function_item w l i 14 refl (node_as m (only_one (kind_at w i) 14 h))
 

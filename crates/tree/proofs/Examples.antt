@@ -12,7 +12,8 @@ use Rattle.tree.specs.declared.Shape.{Shape}
 use Rattle.tree.specs.declared.Shape.TheVariants.{Fine, Refused}
 
 answer : List ℕ → Shape
-unfolding shape_of walk_by head_at sound_at this_after same_this lacks_by within_of field_of may_stand slot_after is_due first_slot goes_on in_range may_be_at in_place
+unfolding shape_of walk_by head_at sound_at this_after same_this lacks_by within_of field_of may_stand slot_after is_due first_slot goes_on in_range may_be_at
+    in_place
 answer w = shape_of w
 
 infixr 40 ◌·◌

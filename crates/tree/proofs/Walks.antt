@@ -32,7 +32,8 @@ lacks_by_on n w s j e h f = simp (lt-ltb j e h, f)
 lacks_fuel : (n m : ℕ) (w : List ℕ) (s j e : ℕ) → e - j ≤ n → e - j ≤ m → lacks_by n w s j e ≡ lacks_by m w s j e
 lacks_fuel zero m w s j e a b = lacks_by_done zero w s j e (omega arith) ∙ sym (lacks_by_done m w s j e (omega arith))
 lacks_fuel (suc n) zero w s j e a b = lacks_by_done (suc n) w s j e (omega arith) ∙ sym (lacks_by_done zero w s j e (omega arith))
-lacks_fuel (suc n) (suc m) w s j e a b = go (dec_lt j e) (within_of j (span_at w j) e) refl (λ h x. lacks_fuel n m w (slot_after s (kind_at w j)) (j + span_at w j) e)
+lacks_fuel (suc n) (suc m) w s j e a b = go (dec_lt j e) (within_of j (span_at w j) e) refl
+    (λ h x. lacks_fuel n m w (slot_after s (kind_at w j)) (j + span_at w j) e)
   where
     go : Dec (j < e) → (t : Bool) → within_of j (span_at w j) e ≡ t
         → (j < e → within_of j (span_at w j) e ≡ true → e - (j + span_at w j) ≤ n → e - (j + span_at w j) ≤ m
@@ -50,7 +51,8 @@ lacks_done w s j e h = lacks_by_done (e - j) w s j e h
 pub lacks_stop : (w : List ℕ) (s j e : ℕ) → j < e → within_of j (span_at w j) e ≡ false → lacks_of w s j e ≡ false
 lacks_stop w s j e h f = lacks_fuel (e - j) (suc (e - j)) w s j e (omega arith) (omega arith) ∙ lacks_by_stop (e - j) w s j e h f
 
-pub lacks_on : (w : List ℕ) (s j e : ℕ) → j < e → within_of j (span_at w j) e ≡ true → lacks_of w s j e ≡ lacks_of w (slot_after s (kind_at w j)) (j + span_at w j) e
+pub lacks_on : (w : List ℕ) (s j e : ℕ) → j < e → within_of j (span_at w j) e ≡ true → lacks_of w s j e ≡ lacks_of w (slot_after s (kind_at w j))
+    (j + span_at w j) e
 lacks_on w s j e h f =
     let x = within_true j (span_at w j) e f in
     lacks_fuel (e - j) (suc (e - j)) w s j e (omega arith) (omega arith) ∙ lacks_by_on (e - j) w s j e h f
@@ -70,7 +72,8 @@ pub head_deep : (w : List ℕ) (s l t i e : ℕ) → sound_at w s t i e ≡ true
 unfolding head_at
 head_deep w s l t i e h d = simp (h, lt-leb l most_levels d)
 
-pub head_fine : (w : List ℕ) (s l t i e : ℕ) → sound_at w s t i e ≡ true → l ≤ most_levels → head_at w s l t i e ≡ Went (this_after (kind_at w i) (value_at w i) t)
+pub head_fine : (w : List ℕ) (s l t i e : ℕ) → sound_at w s t i e ≡ true → l ≤ most_levels → head_at w s l t i e ≡ Went
+    (this_after (kind_at w i) (value_at w i) t)
 unfolding head_at
 head_fine w s l t i e h d = simp (h, le-leb l most_levels d)
 
@@ -133,7 +136,8 @@ pub walk_done : (w : List ℕ) (s l t i e : ℕ) → e ≤ i → walk_of w s l t
 walk_done w s l t i e h = walk_by_done (e - i) w s l t i e h
 
 pub walk_on : (w : List ℕ) (s l t i e : ℕ) → i < e → walk_of w s l t i e ≡ then_on (head_at w s l t i e)
-    (λ t₁. then_on (walk_of w (first_slot (kind_at w i)) (l + 1) t₁ (i + 1) (i + span_at w i)) (λ t₂. walk_of w (slot_after s (kind_at w i)) l t₂ (i + span_at w i) e))
+    (λ t₁. then_on (walk_of w (first_slot (kind_at w i)) (l + 1) t₁ (i + 1) (i + span_at w i))
+    (λ t₂. walk_of w (slot_after s (kind_at w i)) l t₂ (i + span_at w i) e))
 walk_on w s l t i e h = walk_fuel (e - i) (suc (e - i)) w s l t i e (omega arith) (omega arith) ∙ walk_by_on (e - i) w s l t i e h
     ∙ then_same (head_at w s l t i e) (λ t₁. on (e - i) w s l t₁ i e) _
     (λ t₁ g.
@@ -151,7 +155,8 @@ pub walk_deep : (w : List ℕ) (s l t i e : ℕ) → i < e → sound_at w s t i 
 walk_deep w s l t i e h f d = walk_on w s l t i e h ∙ rw (head_deep w s l t i e f d)
 
 pub walk_inner : (w : List ℕ) (s l t i e r p : ℕ) → i < e → sound_at w s t i e ≡ true → l ≤ most_levels
-    → walk_of w (first_slot (kind_at w i)) (l + 1) (this_after (kind_at w i) (value_at w i) t) (i + 1) (i + span_at w i) ≡ Fault r p → walk_of w s l t i e ≡ Fault r p
+    → walk_of w (first_slot (kind_at w i)) (l + 1) (this_after (kind_at w i) (value_at w i) t) (i + 1) (i + span_at w i) ≡ Fault r p → walk_of w s l t i e ≡
+    Fault r p
 walk_inner w s l t i e r p h f d g = walk_on w s l t i e h ∙ rw (head_fine w s l t i e f d) (rw g)
 
 pub walk_next : (w : List ℕ) (s l t i e u : ℕ) → i < e → sound_at w s t i e ≡ true → l ≤ most_levels

@@ -136,7 +136,8 @@ unfolding mark_global_c entry_field plain_marks
 plain_marks_mark i s l = go (eqb (entry_word 3 i 2 l) 0) refl (eqb s.full 0) (ltb i s.constants)
   where
     go : (x : Bool) → eqb (entry_word 3 i 2 l) 0 ≡ x → (y z : Bool)
-        → plain_marks (cond x (cond y (cond z (write_word 3 i 2 1 l) l) l) l) ≡ cond y (cond z (write_word 3 i 2 1 (plain_marks l)) (plain_marks l)) (plain_marks l)
+        → plain_marks (cond x (cond y (cond z (write_word 3 i 2 1 l) l) l) l) ≡ cond y (cond z (write_word 3 i 2 1 (plain_marks l)) (plain_marks l))
+        (plain_marks l)
     go true p true true = anew_write plain_mark mark_aside i 1 1 l (λ h. refl)
     go true p true false = refl
     go true p false z = refl

@@ -112,7 +112,8 @@ restored_area f n l w same inside zeros stays gives =
     whole : (j : ℕ) → Dec (j < n) → made f j (words_at j (cleared_from (n * 3) w)) ≡ words_at j l
     whole j (yes h) = ap (λ (x : Words). made f j x) (there j h) ∙ gives j h
     whole j (no h) =
-        stays j (entry_word 3 j 0 (cleared_from (n * 3) w)) (entry_word 3 j 1 (cleared_from (n * 3) w)) (entry_word 3 j 2 (cleared_from (n * 3) w)) (omega arith)
+        stays j (entry_word 3 j 0 (cleared_from (n * 3) w)) (entry_word 3 j 1 (cleared_from (n * 3) w)) (entry_word 3 j 2 (cleared_from (n * 3) w))
+        (omega arith)
         ∙ rw (behind (j * 3 + 0) (omega arith), behind (j * 3 + 1) (omega arith), behind (j * 3 + 2) (omega arith))
 
 -- marks

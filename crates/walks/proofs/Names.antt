@@ -20,7 +20,8 @@ pub use contract.Monad.{Fun, fact}
 pub use contract.Running.{tables}
 unfoldable pub use contract.Running.{tables_of}
 pub use types.Kit.{Item, Goal, Soaks, Seq, Step, step, ‵, raw, given, some, later, ◌⊛◌, ⋆, ◌$◌, ◌∵◌, !, qed, by, move, keep, drop}
-pub use types.Kit.{use1, use2, use3, split, join, pick, learn, rewrite, fsplit, fsplit3, fjoin, fjoin3, fpick, fpack, feq_l, feq_i, suffices, frame, await, done}
+pub use types.Kit.{use1, use2, use3, split, join, pick, learn, rewrite, fsplit, fsplit3, fjoin, fjoin3, fpick, fpack, feq_l, feq_i, suffices, frame, await}
+pub use types.Kit.{done}
 pub use types.Kit.{updating, show}
 pub use types.Run.{look, init, forget, stop, hop, fld, from, load, lit, addr, unit_lit, true_lit, false_lit, of_opd}
 pub use types.Run.{and_then, no_more, assigns, land, returns, enter}

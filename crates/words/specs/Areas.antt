@@ -1,6 +1,7 @@
 -- The twelve areas of 01, 'Replies of the compiler': how many words an entry has and what each word means (docs/FORMAT.md has the same as a table).
 -- An area is a list of words; its entries follow each other from word 0, and a tail shorter than an entry belongs to none
-use Rattle.std.specs.Prelude.{ℕ, ◌+◌, ◌-◌, ◌*◌, ◌/◌, ◌^◌, min, ◌≡◌, Bool, false, cond, List, [], ◌∷◌, ◌++◌, length, take, drop, get_or, set, replicate, leb, ltb}
+use Rattle.std.specs.Prelude.{ℕ, ◌+◌, ◌-◌, ◌*◌, ◌/◌, ◌^◌, min, ◌≡◌, Bool, false, cond, List, [], ◌∷◌, ◌++◌, length, take, drop, get_or, set, replicate, leb}
+use Rattle.std.specs.Prelude.{ltb}
 
 -- area numbers
 abbrev pub code_area : ℕ

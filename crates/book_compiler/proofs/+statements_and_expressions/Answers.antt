@@ -14,33 +14,42 @@ use Rattle.book_compiler.proofs.+statements_and_expressions.Goals as goal
 pub expressions::compile_assign_expression_left_part-returns-then-full-ne0 : goal.expressions::compile_assign_expression_left_part-returns-then-full-ne0
 expressions::compile_assign_expression_left_part-returns-then-full-ne0 t c = i.target_full (rw c.full-full.ensures at c.if-full-ne0.true)
 
-pub expressions::compile_assign_expression_left_part-shape_of-memory-then-kind-eq-IDENTIFIER : goal.expressions::compile_assign_expression_left_part-shape_of-memory-then-kind-eq-IDENTIFIER
+pub expressions::compile_assign_expression_left_part-shape_of-memory-then-kind-eq-IDENTIFIER :
+    goal.expressions::compile_assign_expression_left_part-shape_of-memory-then-kind-eq-IDENTIFIER
 expressions::compile_assign_expression_left_part-shape_of-memory-then-kind-eq-IDENTIFIER t c = c.name.auto.memory
 
-pub expressions::compile_assign_expression_left_part-returns-then-kind-eq-IDENTIFIER : goal.expressions::compile_assign_expression_left_part-returns-then-kind-eq-IDENTIFIER
+pub expressions::compile_assign_expression_left_part-returns-then-kind-eq-IDENTIFIER :
+    goal.expressions::compile_assign_expression_left_part-returns-then-kind-eq-IDENTIFIER
 expressions::compile_assign_expression_left_part-returns-then-kind-eq-IDENTIFIER t c =
     i.target_name c.field-kind.ensures c.if-kind-eq-IDENTIFIER.true c.field-text.ensures c.name.ensures
 
-pub expressions::compile_assign_expression_left_part-shape_of-memory-then-kind-lt-INSTANCE_GET : goal.expressions::compile_assign_expression_left_part-shape_of-memory-then-kind-lt-INSTANCE_GET
+pub expressions::compile_assign_expression_left_part-shape_of-memory-then-kind-lt-INSTANCE_GET :
+    goal.expressions::compile_assign_expression_left_part-shape_of-memory-then-kind-lt-INSTANCE_GET
 expressions::compile_assign_expression_left_part-shape_of-memory-then-kind-lt-INSTANCE_GET t c = c.push_error.auto.memory
 
-pub expressions::compile_assign_expression_left_part-returns-then-kind-lt-INSTANCE_GET : goal.expressions::compile_assign_expression_left_part-returns-then-kind-lt-INSTANCE_GET
+pub expressions::compile_assign_expression_left_part-returns-then-kind-lt-INSTANCE_GET :
+    goal.expressions::compile_assign_expression_left_part-returns-then-kind-lt-INSTANCE_GET
 expressions::compile_assign_expression_left_part-returns-then-kind-lt-INSTANCE_GET t c =
-    i.target_other c.field-kind.ensures c.if-kind-eq-IDENTIFIER.false (λ q. omega (arith, q, c.if-kind-lt-INSTANCE_GET.true)) (λ q. omega (arith, q, c.if-kind-lt-INSTANCE_GET.true))
+    i.target_other c.field-kind.ensures c.if-kind-eq-IDENTIFIER.false (λ q. omega (arith, q, c.if-kind-lt-INSTANCE_GET.true))
+    (λ q. omega (arith, q, c.if-kind-lt-INSTANCE_GET.true))
     c.push_error.ensures
 
-pub expressions::compile_assign_expression_left_part-shape_of-memory-then-kind-gt-INDEX_GET : goal.expressions::compile_assign_expression_left_part-shape_of-memory-then-kind-gt-INDEX_GET
+pub expressions::compile_assign_expression_left_part-shape_of-memory-then-kind-gt-INDEX_GET :
+    goal.expressions::compile_assign_expression_left_part-shape_of-memory-then-kind-gt-INDEX_GET
 expressions::compile_assign_expression_left_part-shape_of-memory-then-kind-gt-INDEX_GET t c = c.push_error-then-kind-gt-INDEX_GET.auto.memory
 
-pub expressions::compile_assign_expression_left_part-returns-then-kind-gt-INDEX_GET : goal.expressions::compile_assign_expression_left_part-returns-then-kind-gt-INDEX_GET
+pub expressions::compile_assign_expression_left_part-returns-then-kind-gt-INDEX_GET :
+    goal.expressions::compile_assign_expression_left_part-returns-then-kind-gt-INDEX_GET
 expressions::compile_assign_expression_left_part-returns-then-kind-gt-INDEX_GET t c =
-    i.target_other c.field-kind.ensures c.if-kind-eq-IDENTIFIER.false (λ q. omega (arith, q, c.if-kind-gt-INDEX_GET.true)) (λ q. omega (arith, q, c.if-kind-gt-INDEX_GET.true))
+    i.target_other c.field-kind.ensures c.if-kind-eq-IDENTIFIER.false (λ q. omega (arith, q, c.if-kind-gt-INDEX_GET.true))
+    (λ q. omega (arith, q, c.if-kind-gt-INDEX_GET.true))
     c.push_error-then-kind-gt-INDEX_GET.ensures
 
 pub expressions::compile_assign_expression_left_part-loop-i-init : goal.expressions::compile_assign_expression_left_part-loop-i-init
 expressions::compile_assign_expression_left_part-loop-i-init t c = (omega arith, refl, λ m h. h)
 
-pub expressions::compile_assign_expression_left_part-compile_expression-requires : goal.expressions::compile_assign_expression_left_part-compile_expression-requires
+pub expressions::compile_assign_expression_left_part-compile_expression-requires :
+    goal.expressions::compile_assign_expression_left_part-compile_expression-requires
 expressions::compile_assign_expression_left_part-compile_expression-requires t c =
     let m = skip_more c.args.tree.now c.loop-i.i c.args.end c.loop-i-test.true
     c.skip-next.ensures in
@@ -59,16 +68,19 @@ expressions::compile_assign_expression_left_part-loop-i-preserved t c =
       λ m h. c.loop-i.invariant.2 m (e.run_more c.loop-i-test.true c.skip-next.ensures c.compile_expression.ensures h),
     )
 
-pub expressions::compile_assign_expression_left_part-shape_of-memory-then-kind-lt-INDEX_GET : goal.expressions::compile_assign_expression_left_part-shape_of-memory-then-kind-lt-INDEX_GET
+pub expressions::compile_assign_expression_left_part-shape_of-memory-then-kind-lt-INDEX_GET :
+    goal.expressions::compile_assign_expression_left_part-shape_of-memory-then-kind-lt-INDEX_GET
 expressions::compile_assign_expression_left_part-shape_of-memory-then-kind-lt-INDEX_GET t c =
     c.emit_opcode.auto.memory ∙ c.loop-i.invariant.1
 
-pub expressions::compile_assign_expression_left_part-returns-then-kind-lt-INDEX_GET : goal.expressions::compile_assign_expression_left_part-returns-then-kind-lt-INDEX_GET
+pub expressions::compile_assign_expression_left_part-returns-then-kind-lt-INDEX_GET :
+    goal.expressions::compile_assign_expression_left_part-returns-then-kind-lt-INDEX_GET
 expressions::compile_assign_expression_left_part-returns-then-kind-lt-INDEX_GET t c =
     i.target_instance c.field-kind.ensures c.field-place.ensures (c.loop-i.invariant.2 _ (e.run_end c.loop-i-test.false))
     (omega (arith, c.if-kind-lt-INSTANCE_GET.false, c.if-kind-lt-INDEX_GET.true)) c.emit_opcode.ensures
 
-pub expressions::compile_assign_expression_left_part-shape_of-memory-then-at-end : goal.expressions::compile_assign_expression_left_part-shape_of-memory-then-at-end
+pub expressions::compile_assign_expression_left_part-shape_of-memory-then-at-end :
+    goal.expressions::compile_assign_expression_left_part-shape_of-memory-then-at-end
 expressions::compile_assign_expression_left_part-shape_of-memory-then-at-end t c =
     c.emit_opcode-then-at-end.auto.memory ∙ c.loop-i.invariant.1
 
@@ -143,7 +155,8 @@ expressions::compile_expression-shape_of-memory-then-at-end t c =
 
 pub expressions::compile_expression-returns-then-at-end : goal.expressions::compile_expression-returns-then-at-end
 expressions::compile_expression-returns-then-at-end t c =
-    e.list_meets c.field-kind.ensures c.field-position.ensures c.field-value.ensures (omega (arith, c.if-kind-lt-ARRAY.false)) c.if-kind-eq-INFIX.false c.if-kind-eq-IF.false
+    e.list_meets c.field-kind.ensures c.field-position.ensures c.field-value.ensures (omega (arith, c.if-kind-lt-ARRAY.false)) c.if-kind-eq-INFIX.false
+    c.if-kind-eq-IF.false
     (c.loop-i.invariant.2 _ _ (e.list_end c.loop-i-test.false)) c.finish_expression.ensures
 
 pub expressions::compile_expression-returns : goal.expressions::compile_expression-returns
@@ -204,12 +217,14 @@ expressions::compile_infix_expression-compile_expression-requires t c =
     let m = skip_more c.args.tree.now c.args.at c.args.end c.if-at-end.true c.skip-middle.ensures in
     omega (arith, m, c.if-middle-end.true, c.if-at-end.true, c.requires)
 
-pub expressions::compile_infix_expression-compile_assign_expression_left_part-requires : goal.expressions::compile_infix_expression-compile_assign_expression_left_part-requires
+pub expressions::compile_infix_expression-compile_assign_expression_left_part-requires :
+    goal.expressions::compile_infix_expression-compile_assign_expression_left_part-requires
 expressions::compile_infix_expression-compile_assign_expression_left_part-requires t c =
     let m = skip_more c.args.tree.now c.args.at c.args.end c.if-at-end.true c.skip-middle.ensures in
     omega (arith, m, c.if-middle-end.true, c.if-at-end.true, c.requires)
 
-pub expressions::compile_infix_expression-shape_of-memory-then-value-eq-INFIX_ASSIGN : goal.expressions::compile_infix_expression-shape_of-memory-then-value-eq-INFIX_ASSIGN
+pub expressions::compile_infix_expression-shape_of-memory-then-value-eq-INFIX_ASSIGN :
+    goal.expressions::compile_infix_expression-shape_of-memory-then-value-eq-INFIX_ASSIGN
 expressions::compile_infix_expression-shape_of-memory-then-value-eq-INFIX_ASSIGN t c =
     c.compile_assign_expression_left_part.auto.memory ∙ c.compile_expression.auto.memory
 
@@ -217,29 +232,34 @@ pub expressions::compile_infix_expression-returns-then-value-eq-INFIX_ASSIGN : g
 expressions::compile_infix_expression-returns-then-value-eq-INFIX_ASSIGN t c =
     i.infix_assign c.skip-middle.ensures c.if-value-eq-INFIX_ASSIGN.true c.compile_expression.ensures c.compile_assign_expression_left_part.ensures
 
-pub expressions::compile_infix_expression-shape_of-memory-then-value-gt-INFIX_OR : goal.expressions::compile_infix_expression-shape_of-memory-then-value-gt-INFIX_OR
+pub expressions::compile_infix_expression-shape_of-memory-then-value-gt-INFIX_OR :
+    goal.expressions::compile_infix_expression-shape_of-memory-then-value-gt-INFIX_OR
 expressions::compile_infix_expression-shape_of-memory-then-value-gt-INFIX_OR t c = c.push_error.auto.memory
 
 pub expressions::compile_infix_expression-returns-then-value-gt-INFIX_OR : goal.expressions::compile_infix_expression-returns-then-value-gt-INFIX_OR
 expressions::compile_infix_expression-returns-then-value-gt-INFIX_OR t c =
     i.infix_unknown c.if-value-gt-INFIX_OR.true c.push_error.ensures
 
-pub expressions::compile_infix_expression-compile_expression-requires-then-middle-end : goal.expressions::compile_infix_expression-compile_expression-requires-then-middle-end
+pub expressions::compile_infix_expression-compile_expression-requires-then-middle-end :
+    goal.expressions::compile_infix_expression-compile_expression-requires-then-middle-end
 expressions::compile_infix_expression-compile_expression-requires-then-middle-end t c =
     let m = skip_more c.args.tree.now c.args.at c.args.end c.if-at-end.true c.skip-middle.ensures in
     omega (arith, m, c.if-middle-end.true, c.if-at-end.true, c.requires)
 
-pub expressions::compile_infix_expression-compile_expression-requires-then-middle-end-2 : goal.expressions::compile_infix_expression-compile_expression-requires-then-middle-end-2
+pub expressions::compile_infix_expression-compile_expression-requires-then-middle-end-2 :
+    goal.expressions::compile_infix_expression-compile_expression-requires-then-middle-end-2
 expressions::compile_infix_expression-compile_expression-requires-then-middle-end-2 t c =
     let m = skip_more c.args.tree.now c.args.at c.args.end c.if-at-end.true c.skip-middle.ensures in
     omega (arith, m, c.if-middle-end.true, c.if-at-end.true, c.requires)
 
-pub expressions::compile_infix_expression-compile_assign_expression_left_part-requires-then-value-lt-INFIX_EQUAL : goal.expressions::compile_infix_expression-compile_assign_expression_left_part-requires-then-value-lt-INFIX_EQUAL
+pub expressions::compile_infix_expression-compile_assign_expression_left_part-requires-then-value-lt-INFIX_EQUAL :
+    goal.expressions::compile_infix_expression-compile_assign_expression_left_part-requires-then-value-lt-INFIX_EQUAL
 expressions::compile_infix_expression-compile_assign_expression_left_part-requires-then-value-lt-INFIX_EQUAL t c =
     let m = skip_more c.args.tree.now c.args.at c.args.end c.if-at-end.true c.skip-middle.ensures in
     omega (arith, m, c.if-middle-end.true, c.if-at-end.true, c.requires)
 
-pub expressions::compile_infix_expression-shape_of-memory-then-value-lt-INFIX_EQUAL : goal.expressions::compile_infix_expression-shape_of-memory-then-value-lt-INFIX_EQUAL
+pub expressions::compile_infix_expression-shape_of-memory-then-value-lt-INFIX_EQUAL :
+    goal.expressions::compile_infix_expression-shape_of-memory-then-value-lt-INFIX_EQUAL
 expressions::compile_infix_expression-shape_of-memory-then-value-lt-INFIX_EQUAL t c =
     c.compile_assign_expression_left_part-then-value-lt-INFIX_EQUAL.auto.memory ∙ c.operation.auto.memory ∙
     c.compile_expression-then-middle-end-2.auto.memory ∙ c.compile_expression-then-middle-end.auto.memory
@@ -247,9 +267,11 @@ expressions::compile_infix_expression-shape_of-memory-then-value-lt-INFIX_EQUAL 
 pub expressions::compile_infix_expression-returns-then-value-lt-INFIX_EQUAL : goal.expressions::compile_infix_expression-returns-then-value-lt-INFIX_EQUAL
 expressions::compile_infix_expression-returns-then-value-lt-INFIX_EQUAL t c =
     i.infix_compound c.skip-middle.ensures c.compile_expression-then-middle-end.ensures c.compile_expression-then-middle-end-2.ensures c.operation.ensures
-    c.if-value-eq-INFIX_ASSIGN.false c.if-value-gt-INFIX_OR.false c.if-value-gt-INFIX_PERCENT.true c.if-value-lt-INFIX_EQUAL.true c.compile_assign_expression_left_part-then-value-lt-INFIX_EQUAL.ensures
+    c.if-value-eq-INFIX_ASSIGN.false c.if-value-gt-INFIX_OR.false c.if-value-gt-INFIX_PERCENT.true c.if-value-lt-INFIX_EQUAL.true
+    c.compile_assign_expression_left_part-then-value-lt-INFIX_EQUAL.ensures
 
-pub expressions::compile_infix_expression-shape_of-memory-else-value-lt-INFIX_EQUAL : goal.expressions::compile_infix_expression-shape_of-memory-else-value-lt-INFIX_EQUAL
+pub expressions::compile_infix_expression-shape_of-memory-else-value-lt-INFIX_EQUAL :
+    goal.expressions::compile_infix_expression-shape_of-memory-else-value-lt-INFIX_EQUAL
 expressions::compile_infix_expression-shape_of-memory-else-value-lt-INFIX_EQUAL t c =
     c.operation.auto.memory ∙ c.compile_expression-then-middle-end-2.auto.memory ∙
     c.compile_expression-then-middle-end.auto.memory
@@ -260,7 +282,8 @@ expressions::compile_infix_expression-returns-else-value-lt-INFIX_EQUAL t c =
     c.operation.ensures
     c.if-value-eq-INFIX_ASSIGN.false c.if-value-gt-INFIX_OR.false (λ a l. omega (arith, c.if-value-lt-INFIX_EQUAL.false, l))
 
-pub expressions::compile_infix_expression-shape_of-memory-else-value-gt-INFIX_PERCENT : goal.expressions::compile_infix_expression-shape_of-memory-else-value-gt-INFIX_PERCENT
+pub expressions::compile_infix_expression-shape_of-memory-else-value-gt-INFIX_PERCENT :
+    goal.expressions::compile_infix_expression-shape_of-memory-else-value-gt-INFIX_PERCENT
 expressions::compile_infix_expression-shape_of-memory-else-value-gt-INFIX_PERCENT t c =
     c.operation.auto.memory ∙ c.compile_expression-then-middle-end-2.auto.memory ∙ c.compile_expression-then-middle-end.auto.memory
 
@@ -367,7 +390,8 @@ pub statements::compile_statement-compile_expression-requires : goal.statements:
 statements::compile_statement-compile_expression-requires t c =
     omega (arith, c.if-kind-eq-EXPRESSION_STATEMENT, c.if-at-end, c.if-full-ne0, c.requires)
 
-pub statements::compile_statement-shape_of-memory-then-kind-eq-EXPRESSION_STATEMENT : goal.statements::compile_statement-shape_of-memory-then-kind-eq-EXPRESSION_STATEMENT
+pub statements::compile_statement-shape_of-memory-then-kind-eq-EXPRESSION_STATEMENT :
+    goal.statements::compile_statement-shape_of-memory-then-kind-eq-EXPRESSION_STATEMENT
 statements::compile_statement-shape_of-memory-then-kind-eq-EXPRESSION_STATEMENT t c =
     c.emit_opcode_without_position.auto.memory ∙ c.compile_expression.auto.memory
 
@@ -424,7 +448,8 @@ statements::compile_statement-loop-i-preserved-in-At t c =
         c.emit.auto,
       ),
       λ m h. c.loop-i.invariant.2 m (v.list_more c.loop-i-test.true c.skip-next.ensures
-          (v.variable_valued c.field-text.ensures c.field-place.ensures c.define_local-found.ensures c.in-At.is c.field-value_kind.ensures c.if-value_kind-eq-ABSENT.false
+          (v.variable_valued c.field-text.ensures c.field-place.ensures c.define_local-found.ensures c.in-At.is c.field-value_kind.ensures
+          c.if-value_kind-eq-ABSENT.false
           c.compile_expression-in-At.ensures
           c.to_instruction-instruction.ensures c.emit.ensures) h),
     )
@@ -462,7 +487,8 @@ statements::compile_statement-shape_of-memory-then-kind-eq-FOR_STATEMENT t c = c
 
 pub statements::compile_statement-returns-then-kind-eq-FOR_STATEMENT : goal.statements::compile_statement-returns-then-kind-eq-FOR_STATEMENT
 statements::compile_statement-returns-then-kind-eq-FOR_STATEMENT t c =
-    s.statement_for c.deeper.ensures (rw c.depth-depth.ensures at c.with_depth-then-kind-eq-FOR_STATEMENT.ensures) c.field-kind.ensures c.field-position.ensures c.if-kind-eq-FOR_STATEMENT.true
+    s.statement_for c.deeper.ensures (rw c.depth-depth.ensures at c.with_depth-then-kind-eq-FOR_STATEMENT.ensures) c.field-kind.ensures c.field-position.ensures
+    c.if-kind-eq-FOR_STATEMENT.true
     c.compile_for_statement.ensures
 
 pub statements::compile_statement-shape_of-memory-then-kind-eq-BREAK_STATEMENT : goal.statements::compile_statement-shape_of-memory-then-kind-eq-BREAK_STATEMENT
@@ -470,16 +496,19 @@ statements::compile_statement-shape_of-memory-then-kind-eq-BREAK_STATEMENT t c =
 
 pub statements::compile_statement-returns-then-kind-eq-BREAK_STATEMENT : goal.statements::compile_statement-returns-then-kind-eq-BREAK_STATEMENT
 statements::compile_statement-returns-then-kind-eq-BREAK_STATEMENT t c =
-    s.statement_break c.deeper.ensures (rw c.depth-depth.ensures at c.with_depth-then-kind-eq-BREAK_STATEMENT.ensures) c.field-kind.ensures c.field-position.ensures
+    s.statement_break c.deeper.ensures (rw c.depth-depth.ensures at c.with_depth-then-kind-eq-BREAK_STATEMENT.ensures) c.field-kind.ensures
+    c.field-position.ensures
     c.if-kind-eq-BREAK_STATEMENT.true
     (break_acts c.field-position.result c.emit_break.ensures)
 
-pub statements::compile_statement-shape_of-memory-then-kind-eq-RESCUE_STATEMENT : goal.statements::compile_statement-shape_of-memory-then-kind-eq-RESCUE_STATEMENT
+pub statements::compile_statement-shape_of-memory-then-kind-eq-RESCUE_STATEMENT :
+    goal.statements::compile_statement-shape_of-memory-then-kind-eq-RESCUE_STATEMENT
 statements::compile_statement-shape_of-memory-then-kind-eq-RESCUE_STATEMENT t c = c.rescue.auto.memory
 
 pub statements::compile_statement-returns-then-kind-eq-RESCUE_STATEMENT : goal.statements::compile_statement-returns-then-kind-eq-RESCUE_STATEMENT
 statements::compile_statement-returns-then-kind-eq-RESCUE_STATEMENT t c =
-    s.statement_rescue c.deeper.ensures (rw c.depth-depth.ensures at c.with_depth-then-kind-eq-RESCUE_STATEMENT.ensures) c.field-kind.ensures c.field-position.ensures
+    s.statement_rescue c.deeper.ensures (rw c.depth-depth.ensures at c.with_depth-then-kind-eq-RESCUE_STATEMENT.ensures) c.field-kind.ensures
+    c.field-position.ensures
     c.field-value.ensures c.if-kind-eq-RESCUE_STATEMENT.true c.rescue.ensures
 
 pub statements::compile_statement-shape_of-memory-then-at-end : goal.statements::compile_statement-shape_of-memory-then-at-end
@@ -488,7 +517,8 @@ statements::compile_statement-shape_of-memory-then-at-end t c = c.emit_return.au
 pub statements::compile_statement-returns-then-at-end : goal.statements::compile_statement-returns-then-at-end
 statements::compile_statement-returns-then-at-end t c =
     s.statement_return c.deeper.ensures (rw c.depth-depth.ensures at c.with_depth-then-at-end.ensures) c.field-kind.ensures c.field-position.ensures
-    c.if-kind-eq-EXPRESSION_STATEMENT.false c.if-kind-eq-LOCAL_STATEMENT.false c.if-kind-eq-FOR_STATEMENT.false c.if-kind-eq-BREAK_STATEMENT.false c.if-kind-eq-RESCUE_STATEMENT.false c.emit_return.ensures
+    c.if-kind-eq-EXPRESSION_STATEMENT.false c.if-kind-eq-LOCAL_STATEMENT.false c.if-kind-eq-FOR_STATEMENT.false c.if-kind-eq-BREAK_STATEMENT.false
+    c.if-kind-eq-RESCUE_STATEMENT.false c.emit_return.ensures
 
 pub statements::compile_statement-returns : goal.statements::compile_statement-returns
 statements::compile_statement-returns t c = s.past_meets c.if-at-end.false

@@ -30,7 +30,8 @@ decreases-expressions::compile_expression l = l.end - l.at
 abbrev pub invariant-expressions::compile_assign_expression_left_part-loop-i : goal.invariant-expressions::compile_assign_expression_left_part-loop-i
 invariant-expressions::compile_assign_expression_left_part-loop-i l =
     (l.at < l.i) × (length l.memory ≡ length l.initial.memory) × ((m : Memory) → CompilesExpressions l.tree l.i l.end l.start l.count
-    (laid (state_of l.cells) l.starts l.memory) m → CompilesExpressions l.tree (l.at + 1) l.end l.start l.count (laid (state_of l.initial.cells) l.starts l.initial.memory) m)
+    (laid (state_of l.cells) l.starts l.memory) m → CompilesExpressions l.tree (l.at + 1) l.end l.start l.count
+    (laid (state_of l.initial.cells) l.starts l.initial.memory) m)
 
 abbrev pub decreases-expressions::compile_assign_expression_left_part-loop-i : goal.decreases-expressions::compile_assign_expression_left_part-loop-i
 decreases-expressions::compile_assign_expression_left_part-loop-i l = l.end - l.i
@@ -38,7 +39,8 @@ decreases-expressions::compile_assign_expression_left_part-loop-i l = l.end - l.
 abbrev pub invariant-expressions::compile_expression-loop-i : goal.invariant-expressions::compile_expression-loop-i
 invariant-expressions::compile_expression-loop-i l = (l.at + l.n < l.i) ×
     (length l.memory ≡ length l.initial.memory) × ((m : Memory) (r : ℕ) → CompilesList l.tree l.i l.end l.start l.count
-    (laid (state_of l.cells) l.starts l.memory) m l.n r → CompilesList l.tree (l.at + 1) l.end l.start l.count (laid (state_of l.initial.cells) l.starts l.initial.memory) m 0 r)
+    (laid (state_of l.cells) l.starts l.memory) m l.n r → CompilesList l.tree (l.at + 1) l.end l.start l.count
+    (laid (state_of l.initial.cells) l.starts l.initial.memory) m 0 r)
 
 abbrev pub decreases-expressions::compile_expression-loop-i : goal.decreases-expressions::compile_expression-loop-i
 decreases-expressions::compile_expression-loop-i l = l.end - l.i
@@ -54,7 +56,8 @@ decreases-statements::compile_block-loop-i l = l.end - l.i
 abbrev pub invariant-statements::compile_for_statement-loop-i : goal.invariant-statements::compile_for_statement-loop-i
 invariant-statements::compile_for_statement-loop-i l =
     (l.at < l.i) × (length l.memory ≡ length l.initial.memory) × ((m : Memory) → CompilesStatements l.tree l.i l.end l.start l.count
-    (laid (state_of l.cells) l.starts l.memory) m → CompilesStatements l.tree l.body l.end l.start l.count (laid (state_of l.initial.cells) l.starts l.initial.memory) m)
+    (laid (state_of l.cells) l.starts l.memory) m → CompilesStatements l.tree l.body l.end l.start l.count
+    (laid (state_of l.initial.cells) l.starts l.initial.memory) m)
 
 abbrev pub decreases-statements::compile_for_statement-loop-i : goal.decreases-statements::compile_for_statement-loop-i
 decreases-statements::compile_for_statement-loop-i l = l.end - l.i
@@ -62,7 +65,8 @@ decreases-statements::compile_for_statement-loop-i l = l.end - l.i
 abbrev pub invariant-statements::compile_statement-loop-i : goal.invariant-statements::compile_statement-loop-i
 invariant-statements::compile_statement-loop-i l = (l.at < l.i) ×
     (length l.memory ≡ length l.initial.memory) × ((m : Memory) → CompilesVariables l.tree l.i l.end l.start l.count
-    (laid (state_of l.cells) l.starts l.memory) m → CompilesVariables l.tree (l.at + 1) l.end l.start l.count (laid (state_of l.initial.cells) l.starts l.initial.memory) m)
+    (laid (state_of l.cells) l.starts l.memory) m → CompilesVariables l.tree (l.at + 1) l.end l.start l.count
+    (laid (state_of l.initial.cells) l.starts l.initial.memory) m)
 
 abbrev pub decreases-statements::compile_statement-loop-i : goal.decreases-statements::compile_statement-loop-i
 decreases-statements::compile_statement-loop-i l = l.end - l.i

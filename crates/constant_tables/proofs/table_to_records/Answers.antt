@@ -29,14 +29,16 @@ pub returns-then-not-is_text : goal.returns-then-not-is_text
 returns-then-not-is_text c =
     table_file c.args.table.now c.args.out.now c.write_definitions-off.new.out c.args.file
     (c.write_definitions-off.auto.out ∙ c.write4.auto.area) c.write_definitions-off.ensures.first
-    (omega (arith, c.line_count-lines.ensures, c.if-off-lines.false)) (omega (arith, c.line_count-lines.ensures, c.if-lines-gt-MOST_LINES.false)) c.is_text.ensures (ap not c.if-not-is_text.true)
+    (omega (arith, c.line_count-lines.ensures, c.if-off-lines.false)) (omega (arith, c.line_count-lines.ensures, c.if-lines-gt-MOST_LINES.false))
+    c.is_text.ensures (ap not c.if-not-is_text.true)
     c.clear_from-then-not-is_text.ensures c.refused-then-not-is_text.ensures
 
 pub returns-then-out-records : goal.returns-then-out-records
 returns-then-out-records c =
     table_short c.args.table.now c.args.out.now c.write_definitions-off.new.out c.args.file
     (c.write_definitions-off.auto.out ∙ c.write4.auto.area) c.write_definitions-off.ensures.first
-    (omega (arith, c.line_count-lines.ensures, c.if-off-lines.false)) (omega (arith, c.line_count-lines.ensures, c.if-lines-gt-MOST_LINES.false)) c.is_text.ensures (ap not c.if-not-is_text.false)
+    (omega (arith, c.line_count-lines.ensures, c.if-off-lines.false)) (omega (arith, c.line_count-lines.ensures, c.if-lines-gt-MOST_LINES.false))
+    c.is_text.ensures (ap not c.if-not-is_text.false)
     (omega (arith, c.line_count-lines.ensures, c.if-out-records.true, c.write_definitions-off.auto.out, c.write4.auto.area))
     c.clear_from-then-out-records.ensures c.refused-then-out-records.ensures
 
@@ -47,7 +49,8 @@ pub returns : goal.returns
 returns c =
     table_end c.args.table.now c.args.out.now c.write_definitions-off.new.out c.args.file
     (c.write_definitions-off.auto.out ∙ c.write4.auto.area) c.write_definitions-off.ensures.first
-    (omega (arith, c.line_count-lines.ensures, c.if-off-lines.false)) (omega (arith, c.line_count-lines.ensures, c.if-lines-gt-MOST_LINES.false)) c.is_text.ensures (ap not c.if-not-is_text.false)
+    (omega (arith, c.line_count-lines.ensures, c.if-off-lines.false)) (omega (arith, c.line_count-lines.ensures, c.if-lines-gt-MOST_LINES.false))
+    c.is_text.ensures (ap not c.if-not-is_text.false)
     c.write4.new.area c.line_count-lines.ensures (omega (
       arith,
       c.line_count-lines.ensures,

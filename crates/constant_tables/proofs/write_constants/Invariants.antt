@@ -9,7 +9,8 @@ use Rattle.constant_tables.specs.Table.{list_from, entry_at}
 use Rattle.constant_tables.proofs.write_constants.Given as goal
 
 abbrev pub invariant-loop-i : goal.invariant-loop-i
-invariant-loop-i l = Begun (table_bytes (list_from (entry_at l.tree) 0 l.i)) l.initial.out l.out (l.i * 34) × (l.i ≤ l.lines) × (length l.out ≡ length l.initial.out)
+invariant-loop-i l = Begun (table_bytes (list_from (entry_at l.tree) 0 l.i)) l.initial.out l.out (l.i * 34) × (l.i ≤ l.lines) ×
+    (length l.out ≡ length l.initial.out)
 
 abbrev pub decreases-loop-i : goal.decreases-loop-i
 decreases-loop-i l = l.lines - l.i

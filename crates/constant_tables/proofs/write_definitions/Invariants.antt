@@ -8,7 +8,8 @@ use Rattle.constant_tables.proofs.Converting.{Begins}
 use Rattle.constant_tables.proofs.write_definitions.Given as goal
 
 abbrev pub invariant-loop-i : goal.invariant-loop-i
-invariant-loop-i l = (first_off l.table ≡ first_where (bad_at l.table) l.i (line_count l.table - l.i)) × Begins l.table l.initial.out l.out l.i × (l.i ≤ line_count l.table) ×
+invariant-loop-i l = (first_off l.table ≡ first_where (bad_at l.table) l.i (line_count l.table - l.i)) × Begins l.table l.initial.out l.out l.i ×
+    (l.i ≤ line_count l.table) ×
     (length l.out ≡ length l.initial.out)
 
 abbrev pub decreases-loop-i : goal.decreases-loop-i

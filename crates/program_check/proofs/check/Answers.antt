@@ -48,7 +48,8 @@ returns-then-not-properties_fine c =
     fault_5 c.args.code.now c.args.constants.now c.args.functions.now c.args.models.now c.args.properties.now
     c.args.methods.now c.args.locals.now c.args.publics.now c.args.names.now c.args.breaks.now c.args.errors.now c.args.books.now
     c.args.totals
-    c.code_area-code_fine.ensures (ap not c.if-not-code_fine.false) c.constants_area-constants_fine.ensures (ap not c.if-not-constants_fine.false) c.functions_area-functions_fine.ensures
+    c.code_area-code_fine.ensures (ap not c.if-not-code_fine.false) c.constants_area-constants_fine.ensures (ap not c.if-not-constants_fine.false)
+    c.functions_area-functions_fine.ensures
     (ap not c.if-not-functions_fine.false)
     c.entries_fine-models_fine.ensures (ap not c.if-not-models_fine.false) c.entries_fine-properties_fine.ensures (ap not c.if-not-properties_fine.true)
 
@@ -57,7 +58,8 @@ returns-then-not-methods_fine c =
     fault_6 c.args.code.now c.args.constants.now c.args.functions.now c.args.models.now c.args.properties.now
     c.args.methods.now c.args.locals.now c.args.publics.now c.args.names.now c.args.breaks.now c.args.errors.now c.args.books.now
     c.args.totals
-    c.code_area-code_fine.ensures (ap not c.if-not-code_fine.false) c.constants_area-constants_fine.ensures (ap not c.if-not-constants_fine.false) c.functions_area-functions_fine.ensures (ap not c.if-not-functions_fine.false)
+    c.code_area-code_fine.ensures (ap not c.if-not-code_fine.false) c.constants_area-constants_fine.ensures (ap not c.if-not-constants_fine.false)
+    c.functions_area-functions_fine.ensures (ap not c.if-not-functions_fine.false)
     c.entries_fine-models_fine.ensures (ap not c.if-not-models_fine.false) c.entries_fine-properties_fine.ensures
     (ap not c.if-not-properties_fine.false) c.methods_area-methods_fine.ensures (ap not c.if-not-methods_fine.true)
 
@@ -69,7 +71,8 @@ returns-then-not-locals_fine c =
     fault_7 c.args.code.now c.args.constants.now c.args.functions.now c.args.models.now c.args.properties.now
     c.args.methods.now c.args.locals.now c.args.publics.now c.args.names.now c.args.breaks.now c.args.errors.now c.args.books.now
     c.args.totals
-    c.code_area-code_fine.ensures (ap not c.if-not-code_fine.false) c.constants_area-constants_fine.ensures (ap not c.if-not-constants_fine.false) c.functions_area-functions_fine.ensures (ap not c.if-not-functions_fine.false)
+    c.code_area-code_fine.ensures (ap not c.if-not-code_fine.false) c.constants_area-constants_fine.ensures (ap not c.if-not-constants_fine.false)
+    c.functions_area-functions_fine.ensures (ap not c.if-not-functions_fine.false)
     c.entries_fine-models_fine.ensures (ap not c.if-not-models_fine.false) c.entries_fine-properties_fine.ensures (ap not c.if-not-properties_fine.false)
     c.methods_area-methods_fine.ensures (ap not c.if-not-methods_fine.false)
     c.entries_fine-locals_fine.ensures (ap not c.if-not-locals_fine.true)
@@ -79,8 +82,10 @@ returns-then-not-publics_fine c =
     fault_8 c.args.code.now c.args.constants.now c.args.functions.now c.args.models.now c.args.properties.now
     c.args.methods.now c.args.locals.now c.args.publics.now c.args.names.now c.args.breaks.now c.args.errors.now c.args.books.now
     c.args.totals
-    c.code_area-code_fine.ensures (ap not c.if-not-code_fine.false) c.constants_area-constants_fine.ensures (ap not c.if-not-constants_fine.false) c.functions_area-functions_fine.ensures (ap not c.if-not-functions_fine.false)
-    c.entries_fine-models_fine.ensures (ap not c.if-not-models_fine.false) c.entries_fine-properties_fine.ensures (ap not c.if-not-properties_fine.false) c.methods_area-methods_fine.ensures
+    c.code_area-code_fine.ensures (ap not c.if-not-code_fine.false) c.constants_area-constants_fine.ensures (ap not c.if-not-constants_fine.false)
+    c.functions_area-functions_fine.ensures (ap not c.if-not-functions_fine.false)
+    c.entries_fine-models_fine.ensures (ap not c.if-not-models_fine.false) c.entries_fine-properties_fine.ensures (ap not c.if-not-properties_fine.false)
+    c.methods_area-methods_fine.ensures
     (ap not c.if-not-methods_fine.false)
     c.entries_fine-locals_fine.ensures (ap not c.if-not-locals_fine.false) c.publics_area-publics_fine.ensures (ap not c.if-not-publics_fine.true)
 
@@ -89,8 +94,10 @@ returns-then-not-names_fine c =
     fault_9 c.args.code.now c.args.constants.now c.args.functions.now c.args.models.now c.args.properties.now
     c.args.methods.now c.args.locals.now c.args.publics.now c.args.names.now c.args.breaks.now c.args.errors.now c.args.books.now
     c.args.totals
-    c.code_area-code_fine.ensures (ap not c.if-not-code_fine.false) c.constants_area-constants_fine.ensures (ap not c.if-not-constants_fine.false) c.functions_area-functions_fine.ensures (ap not c.if-not-functions_fine.false)
-    c.entries_fine-models_fine.ensures (ap not c.if-not-models_fine.false) c.entries_fine-properties_fine.ensures (ap not c.if-not-properties_fine.false) c.methods_area-methods_fine.ensures (ap not c.if-not-methods_fine.false)
+    c.code_area-code_fine.ensures (ap not c.if-not-code_fine.false) c.constants_area-constants_fine.ensures (ap not c.if-not-constants_fine.false)
+    c.functions_area-functions_fine.ensures (ap not c.if-not-functions_fine.false)
+    c.entries_fine-models_fine.ensures (ap not c.if-not-models_fine.false) c.entries_fine-properties_fine.ensures (ap not c.if-not-properties_fine.false)
+    c.methods_area-methods_fine.ensures (ap not c.if-not-methods_fine.false)
     c.entries_fine-locals_fine.ensures (ap not c.if-not-locals_fine.false) c.publics_area-publics_fine.ensures
     (ap not c.if-not-publics_fine.false) c.empty_area-names_fine.ensures (ap not c.if-not-names_fine.true)
 
@@ -99,8 +106,10 @@ returns-then-not-breaks_fine c =
     fault_10 c.args.code.now c.args.constants.now c.args.functions.now c.args.models.now c.args.properties.now
     c.args.methods.now c.args.locals.now c.args.publics.now c.args.names.now c.args.breaks.now c.args.errors.now c.args.books.now
     c.args.totals
-    c.code_area-code_fine.ensures (ap not c.if-not-code_fine.false) c.constants_area-constants_fine.ensures (ap not c.if-not-constants_fine.false) c.functions_area-functions_fine.ensures (ap not c.if-not-functions_fine.false)
-    c.entries_fine-models_fine.ensures (ap not c.if-not-models_fine.false) c.entries_fine-properties_fine.ensures (ap not c.if-not-properties_fine.false) c.methods_area-methods_fine.ensures (ap not c.if-not-methods_fine.false)
+    c.code_area-code_fine.ensures (ap not c.if-not-code_fine.false) c.constants_area-constants_fine.ensures (ap not c.if-not-constants_fine.false)
+    c.functions_area-functions_fine.ensures (ap not c.if-not-functions_fine.false)
+    c.entries_fine-models_fine.ensures (ap not c.if-not-models_fine.false) c.entries_fine-properties_fine.ensures (ap not c.if-not-properties_fine.false)
+    c.methods_area-methods_fine.ensures (ap not c.if-not-methods_fine.false)
     c.entries_fine-locals_fine.ensures (ap not c.if-not-locals_fine.false) c.publics_area-publics_fine.ensures (ap not c.if-not-publics_fine.false)
     c.empty_area-names_fine.ensures (ap not c.if-not-names_fine.false)
     c.empty_area-breaks_fine.ensures (ap not c.if-not-breaks_fine.true)
@@ -110,9 +119,12 @@ returns-then-not-books_fine c =
     fault_12 c.args.code.now c.args.constants.now c.args.functions.now c.args.models.now c.args.properties.now
     c.args.methods.now c.args.locals.now c.args.publics.now c.args.names.now c.args.breaks.now c.args.errors.now c.args.books.now
     c.args.totals
-    c.code_area-code_fine.ensures (ap not c.if-not-code_fine.false) c.constants_area-constants_fine.ensures (ap not c.if-not-constants_fine.false) c.functions_area-functions_fine.ensures (ap not c.if-not-functions_fine.false)
-    c.entries_fine-models_fine.ensures (ap not c.if-not-models_fine.false) c.entries_fine-properties_fine.ensures (ap not c.if-not-properties_fine.false) c.methods_area-methods_fine.ensures (ap not c.if-not-methods_fine.false)
-    c.entries_fine-locals_fine.ensures (ap not c.if-not-locals_fine.false) c.publics_area-publics_fine.ensures (ap not c.if-not-publics_fine.false) c.empty_area-names_fine.ensures
+    c.code_area-code_fine.ensures (ap not c.if-not-code_fine.false) c.constants_area-constants_fine.ensures (ap not c.if-not-constants_fine.false)
+    c.functions_area-functions_fine.ensures (ap not c.if-not-functions_fine.false)
+    c.entries_fine-models_fine.ensures (ap not c.if-not-models_fine.false) c.entries_fine-properties_fine.ensures (ap not c.if-not-properties_fine.false)
+    c.methods_area-methods_fine.ensures (ap not c.if-not-methods_fine.false)
+    c.entries_fine-locals_fine.ensures (ap not c.if-not-locals_fine.false) c.publics_area-publics_fine.ensures (ap not c.if-not-publics_fine.false)
+    c.empty_area-names_fine.ensures
     (ap not c.if-not-names_fine.false)
     c.empty_area-breaks_fine.ensures (ap not c.if-not-breaks_fine.false) c.books_area-books_fine.ensures (ap not c.if-not-books_fine.true)
 
@@ -121,8 +133,11 @@ returns c =
     fault_none c.args.code.now c.args.constants.now c.args.functions.now c.args.models.now c.args.properties.now
     c.args.methods.now c.args.locals.now c.args.publics.now c.args.names.now c.args.breaks.now c.args.errors.now c.args.books.now
     c.args.totals
-    c.code_area-code_fine.ensures (ap not c.if-not-code_fine.false) c.constants_area-constants_fine.ensures (ap not c.if-not-constants_fine.false) c.functions_area-functions_fine.ensures (ap not c.if-not-functions_fine.false)
-    c.entries_fine-models_fine.ensures (ap not c.if-not-models_fine.false) c.entries_fine-properties_fine.ensures (ap not c.if-not-properties_fine.false) c.methods_area-methods_fine.ensures (ap not c.if-not-methods_fine.false)
-    c.entries_fine-locals_fine.ensures (ap not c.if-not-locals_fine.false) c.publics_area-publics_fine.ensures (ap not c.if-not-publics_fine.false) c.empty_area-names_fine.ensures
+    c.code_area-code_fine.ensures (ap not c.if-not-code_fine.false) c.constants_area-constants_fine.ensures (ap not c.if-not-constants_fine.false)
+    c.functions_area-functions_fine.ensures (ap not c.if-not-functions_fine.false)
+    c.entries_fine-models_fine.ensures (ap not c.if-not-models_fine.false) c.entries_fine-properties_fine.ensures (ap not c.if-not-properties_fine.false)
+    c.methods_area-methods_fine.ensures (ap not c.if-not-methods_fine.false)
+    c.entries_fine-locals_fine.ensures (ap not c.if-not-locals_fine.false) c.publics_area-publics_fine.ensures (ap not c.if-not-publics_fine.false)
+    c.empty_area-names_fine.ensures
     (ap not c.if-not-names_fine.false)
     c.empty_area-breaks_fine.ensures (ap not c.if-not-breaks_fine.false) c.books_area-books_fine.ensures (ap not c.if-not-books_fine.false)

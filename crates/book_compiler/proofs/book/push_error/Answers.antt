@@ -27,8 +27,16 @@ returns-then-end-memory c =
 
 pub returns-else-end-memory : goal.returns-else-end-memory
 returns-else-end-memory c =
-    record { counts = record { constants = refl; standing = refl }; acts = area_wide {i = 11} (omega arith) c.args.starts.now c.args.memory.now _ c.if-end-memory.false }
+    record {
+      counts = record { constants = refl; standing = refl };
+      acts = area_wide {i = 11} (omega arith) c.args.starts.now c.args.memory.now _
+          c.if-end-memory.false;
+    }
 
 pub returns-else-start-end : goal.returns-else-start-end
 returns-else-start-end c =
-    record { counts = record { constants = refl; standing = refl }; acts = area_back {i = 11} (omega arith) c.args.starts.now c.args.memory.now _ c.if-start-end.false }
+    record {
+      counts = record { constants = refl; standing = refl };
+      acts = area_back {i = 11} (omega arith) c.args.starts.now c.args.memory.now _
+          c.if-start-end.false;
+    }

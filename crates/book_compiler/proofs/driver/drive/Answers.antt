@@ -44,7 +44,8 @@ shape_of-compiled-then-b-ne0-2 c =
 
 pub returns-then-b-ne0-2 : goal.returns-then-b-ne0-2
 returns-then-b-ne0-2 c =
-    c.loop-done.invariant.3 _ 7 _ (round_faulty c.next_book-next.ensures c.if-count-next.false c.skip-last.ensures c.compile_document-b.ensures unchanged_definition
+    c.loop-done.invariant.3 _ 7 _ (round_faulty c.next_book-next.ensures c.if-count-next.false c.skip-last.ensures c.compile_document-b.ensures
+    unchanged_definition
     c.if-b-ne0.false c.if-b-ne0-2.true)
 
 pub overflow_add-done : goal.overflow_add-done

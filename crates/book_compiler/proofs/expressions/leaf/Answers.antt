@@ -24,5 +24,6 @@ returns-then-kind-eq-STRING c =
 
 pub returns : goal.returns
 returns c =
-    t.leaf_standing c.emit-2.ensures c.standing-index.ensures c.to_instruction-instruction.ensures c.if-kind-eq-IDENTIFIER.false c.if-kind-eq-THIS.false c.if-kind-eq-INTEGER.false
+    t.leaf_standing c.emit-2.ensures c.standing-index.ensures c.to_instruction-instruction.ensures c.if-kind-eq-IDENTIFIER.false c.if-kind-eq-THIS.false
+    c.if-kind-eq-INTEGER.false
     c.if-kind-eq-FLOAT.false c.if-kind-eq-STRING.false

@@ -10,7 +10,8 @@ use Rattle.book_compiler.proofs.function_state.patch_breaks.Given as goal
 
 abbrev pub invariant-loop-i : goal.invariant-loop-i
 invariant-loop-i l = (length l.memory ≡ length l.initial.memory)
-    × (Fits l.starts (length l.initial.memory) → Patching (code_word l.instruction) l.i (laid (state_of l.cells) l.starts l.initial.memory) (laid (state_of l.cells) l.starts l.memory))
+    × (Fits l.starts (length l.initial.memory) → Patching (code_word l.instruction) l.i (laid (state_of l.cells) l.starts l.initial.memory)
+    (laid (state_of l.cells) l.starts l.memory))
 
 abbrev pub decreases-loop-i : goal.decreases-loop-i
 decreases-loop-i l = l.end - l.i

@@ -1,4 +1,5 @@
--- `book_compiler::grown::finish_onto` meets its contract: an area too short, errors, other totals than the trial's, a trial, and a delivery that is kept. Assumes
+-- `book_compiler::grown::finish_onto` meets its contract: an area too short, errors, other totals than the trial's, a trial, and a delivery that is kept.
+-- Assumes
 -- nothing.
 use Rattle.book_compiler.proofs.OntoEnding.{finish_onto_full, finish_onto_row, finish_onto_differs, finish_onto_tried, finish_onto_kept}
 use Rattle.book_compiler.proofs.grown.finish_onto.Goals as goal

@@ -24,5 +24,6 @@ returns-then-kind-eq-FLOAT c =
 
 pub returns : goal.returns
 returns c =
-    gives_error c.args.tree.now c.args.at c.field-kind.ensures c.field-value.ensures c.if-kind-eq-NULL.false c.if-kind-eq-BOOLEAN.false c.if-kind-eq-INTEGER.false
+    gives_error c.args.tree.now c.args.at c.field-kind.ensures c.field-value.ensures c.if-kind-eq-NULL.false c.if-kind-eq-BOOLEAN.false
+    c.if-kind-eq-INTEGER.false
     c.if-kind-eq-FLOAT.false c.push_error.ensures

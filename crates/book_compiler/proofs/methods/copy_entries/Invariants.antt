@@ -9,7 +9,8 @@ use Rattle.book_compiler.proofs.methods.copy_entries.Given as goal
 abbrev pub invariant-loop-i : goal.invariant-loop-i
 invariant-loop-i l = (length l.methods ≡ length l.initial.methods) × SameCounts l.initial.b l.b × (StoodFirst l.initial.b → (s' : Book)
     (t' : List ℕ) → CopiesFrom l.source l.target l.i l.count l.b (methods_said l.initial.b l.methods) s' t'
-    → CopiesFrom l.source l.target 0 l.count l.initial.b (methods_said l.initial.b l.initial.methods) s' t') × SparesMethods l.initial.b l.initial.methods l.b l.methods
+    → CopiesFrom l.source l.target 0 l.count l.initial.b (methods_said l.initial.b l.initial.methods) s' t') × SparesMethods l.initial.b l.initial.methods l.b
+    l.methods
 
 abbrev pub decreases-loop-i : goal.decreases-loop-i
 decreases-loop-i l = l.count - l.i

@@ -15,7 +15,11 @@ returns-then-end-memory c =
 
 pub returns-else-end-memory : goal.returns-else-end-memory
 returns-else-end-memory c =
-    record { counts = record { constants = refl; standing = refl }; acts = area_wide {i = 6} (omega arith) c.args.starts.now c.args.memory.now _ c.if-end-memory.false }
+    record {
+      counts = record { constants = refl; standing = refl };
+      acts = area_wide {i = 6} (omega arith) c.args.starts.now c.args.memory.now _
+          c.if-end-memory.false;
+    }
 
 pub returns-else-start-end : goal.returns-else-start-end
 returns-else-start-end c = record {

@@ -10,7 +10,8 @@ returns-then-kind-eq-ARRAY c =
 
 pub returns-then-kind-eq-CALL : goal.returns-then-kind-eq-CALL
 returns-then-kind-eq-CALL c =
-    t.finish_call c.if-kind-eq-CALL.true (c.to_instruction-instruction-then-kind-eq-CALL.ensures ∙ ap (λ (i : ℕ). word (to_instruction CallOp i)) c.less_one-parameters.ensures)
+    t.finish_call c.if-kind-eq-CALL.true (c.to_instruction-instruction-then-kind-eq-CALL.ensures ∙ ap (λ (i : ℕ). word (to_instruction CallOp i))
+    c.less_one-parameters.ensures)
     c.emit-then-kind-eq-CALL.ensures
 
 pub returns-then-kind-eq-INSTANCE_GET : goal.returns-then-kind-eq-INSTANCE_GET

@@ -7,7 +7,8 @@ use Rattle.book_compiler.proofs.order.ring.Given as goal
 
 abbrev pub invariant-loop-k : goal.invariant-loop-k
 invariant-loop-k l = (length l.memory ≡ length l.initial.memory)
-    × ((r : Taken) (after : List ℕ) → PushesRingErrorsIn l.k l.count l.t l.starts l.memory r after → PushesRingErrorsIn l.done l.count (taken 0 0) l.starts l.initial.memory r after)
+    × ((r : Taken) (after : List ℕ) → PushesRingErrorsIn l.k l.count l.t l.starts l.memory r after → PushesRingErrorsIn l.done l.count (taken 0 0) l.starts
+    l.initial.memory r after)
 
 abbrev pub decreases-loop-k : goal.decreases-loop-k
 decreases-loop-k l = l.count - l.k

@@ -4,7 +4,8 @@ use Rattle.compiler_laws.specs.SolverSteps.{Brings}
 use Rattle.book_compiler.proofs.solver.move_to_front.Given as goal
 
 abbrev pub invariant-loop-i : goal.invariant-loop-i
-invariant-loop-i l = (length l.books ≡ length l.initial.books) × ((after : List ℕ) → Brings l.books l.done l.i l.file after → Brings l.initial.books l.done l.k l.file after)
+invariant-loop-i l = (length l.books ≡ length l.initial.books) × ((after : List ℕ) → Brings l.books l.done l.i l.file after → Brings l.initial.books l.done l.k
+    l.file after)
 
 abbrev pub decreases-loop-i : goal.decreases-loop-i
 decreases-loop-i l = l.i - l.done

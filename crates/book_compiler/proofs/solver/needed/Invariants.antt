@@ -5,7 +5,8 @@ use Rattle.book_compiler.proofs.solver.needed.Given as goal
 
 abbrev pub invariant-loop-i : goal.invariant-loop-i
 invariant-loop-i l = (length l.read ≡ length l.initial.read) × (length l.set ≡ length l.initial.set) × (length l.next ≡ length l.initial.next)
-    × ((after : List ℕ) → NeededFrom l.tree l.i l.end l.standing l.read l.set l.next after → NeededFrom l.tree 0 l.end l.standing l.initial.read l.initial.set l.initial.next after)
+    × ((after : List ℕ) → NeededFrom l.tree l.i l.end l.standing l.read l.set l.next after → NeededFrom l.tree 0 l.end l.standing l.initial.read l.initial.set
+    l.initial.next after)
 
 abbrev pub decreases-loop-i : goal.decreases-loop-i
 decreases-loop-i l = l.end - l.i

@@ -5,7 +5,8 @@ use Rattle.book_compiler.proofs.solver.next_ready.Given as goal
 
 abbrev pub invariant-loop-k : goal.invariant-loop-k
 invariant-loop-k l = (length l.books ≡ length l.initial.books)
-    × ((r : ℕ) (after : List ℕ) → FindsReady l.tree l.end l.k l.count l.compiled l.books r after → FindsReady l.tree l.end l.done l.count l.compiled l.initial.books r after)
+    × ((r : ℕ) (after : List ℕ) → FindsReady l.tree l.end l.k l.count l.compiled l.books r after → FindsReady l.tree l.end l.done l.count l.compiled
+    l.initial.books r after)
 
 abbrev pub decreases-loop-k : goal.decreases-loop-k
 decreases-loop-k l = l.count - l.k

@@ -8,7 +8,8 @@ use Rattle.book_compiler.proofs.solver.take_books.Given as goal
 
 abbrev pub invariant-loop-from : goal.invariant-loop-from
 invariant-loop-from l = (length l.books ≡ length l.initial.books) × Skips l.tree l.end l.place.at l.from l.place.above
-    × ((r : Taken) (after : List ℕ) → TakesFrom l.tree l.end l.needed l.from l.t l.books r after → TakesFrom l.tree l.end l.needed 0 l.initial.t l.initial.books r after)
+    × ((r : Taken) (after : List ℕ) → TakesFrom l.tree l.end l.needed l.from l.t l.books r after → TakesFrom l.tree l.end l.needed 0 l.initial.t l.initial.books
+    r after)
 
 abbrev pub decreases-loop-from : goal.decreases-loop-from
 decreases-loop-from l = set_size - l.from

@@ -4,7 +4,8 @@ use mathlib.Core.Path.{sym, ap, ◌∙◌}
 use mathlib.Core.Bool.{false}
 use Prim.Native.Nat.{◌+◌, ◌*◌, ◌-◌}
 use lib.ListN.{get_or}
-use Rattle.column_lines.proofs.Reading.{number_none, zero_alone, zero_more, digits_start, digit_low, digit_high, digit_over, digit_next, digits_end, natural_end, most_small}
+use Rattle.column_lines.proofs.Reading.{number_none, zero_alone, zero_more, digits_start, digit_low, digit_high, digit_over, digit_next, digits_end}
+use Rattle.column_lines.proofs.Reading.{natural_end, most_small}
 use Rattle.column_lines.proofs.Negated.{roomy, crowded}
 use native.Mathlib.Omega.{arith}
 use mathlib.Core.Bool.{not}

@@ -33,7 +33,8 @@ returns-then-b-lt-ZERO c =
 
 pub returns-then-b-gt-NINE : goal.returns-then-b-gt-NINE
 returns-then-b-gt-NINE c =
-    digit_high c.args.bytes.now c.loop-i.i c.loop-i-test.true true true (size_held (to_z w64 c.loop-i.n-bits)) c.if-b-lt-ZERO.false c.if-b-gt-NINE.true ∙ sym c.loop-i.invariant.0
+    digit_high c.args.bytes.now c.loop-i.i c.loop-i-test.true true true (size_held (to_z w64 c.loop-i.n-bits)) c.if-b-lt-ZERO.false c.if-b-gt-NINE.true ∙ sym
+    c.loop-i.invariant.0
 
 pub returns-then-not-has_room : goal.returns-then-not-has_room
 returns-then-not-has_room c =

@@ -1,4 +1,5 @@
--- `skip_blanks` meets its contract. The invariant: what stands after the blanks from i on is what stands after all. The measure: the bytes left. Assumes nothing.
+-- `skip_blanks` meets its contract. The invariant: what stands after the blanks from i on is what stands after all. The measure: the bytes left. Assumes
+-- nothing.
 use mathlib.Core.Path.{refl, ◌∙◌}
 use lib.ListN.{drop}
 use Rattle.error_lines.proofs.Putting.{bytes_none}

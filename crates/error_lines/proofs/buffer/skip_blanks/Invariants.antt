@@ -1,4 +1,5 @@
--- `skip_blanks` meets its contract. The invariant: what stands after the blanks from i on is what stands after all. The measure: the bytes left. Assumes nothing.
+-- `skip_blanks` meets its contract. The invariant: what stands after the blanks from i on is what stands after all. The measure: the bytes left. Assumes
+-- nothing.
 use Prim.Native.Nat.{◌-◌}
 use mathlib.Core.Path.{◌≡◌}
 use lib.ListN.{length, drop}

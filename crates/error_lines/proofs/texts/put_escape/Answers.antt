@@ -19,7 +19,8 @@ shape_of-out-then-is_backslash c =
 
 pub returns-then-is_backslash : goal.returns-then-is_backslash
 returns-then-is_backslash c =
-    puts_as (escape_backslash c.args.byte c.if-byte-eq-QUOTATION_MARK.false c.if-is_backslash.true) (puts_then (92 ∷ []) _ c.put-next-then-is_backslash.ensures c.put-then-is_backslash.ensures)
+    puts_as (escape_backslash c.args.byte c.if-byte-eq-QUOTATION_MARK.false c.if-is_backslash.true)
+    (puts_then (92 ∷ []) _ c.put-next-then-is_backslash.ensures c.put-then-is_backslash.ensures)
 
 pub shape_of-out-then-byte-lt-FIRST_PRINTED : goal.shape_of-out-then-byte-lt-FIRST_PRINTED
 shape_of-out-then-byte-lt-FIRST_PRINTED c = c.put_digits.auto.out
@@ -42,5 +43,6 @@ shape_of-out c = c.put-2.auto.out
 
 pub returns : goal.returns
 returns c =
-    puts_as (escape_plain c.args.byte c.if-byte-eq-QUOTATION_MARK.false c.if-is_backslash.false c.if-byte-lt-FIRST_PRINTED.false c.if-byte-gt-LAST_PRINTED.false)
+    puts_as (escape_plain c.args.byte c.if-byte-eq-QUOTATION_MARK.false c.if-is_backslash.false c.if-byte-lt-FIRST_PRINTED.false
+    c.if-byte-gt-LAST_PRINTED.false)
     c.put-2.ensures

@@ -37,5 +37,6 @@ returns-then-area-eq-PUBLIC_NAMES c =
 pub returns : goal.returns
 returns c =
     dispatch c.args.area 12 c.args.i c.args.words.now c.args.totals
-    (books_left c.args.area c.requires c.if-area-eq-CODE.false c.if-area-eq-CONSTANTS.false c.if-area-eq-FUNCTIONS.false c.if-area-eq-MODELS.false c.if-area-eq-PROPERTIES.false
+    (books_left c.args.area c.requires c.if-area-eq-CODE.false c.if-area-eq-CONSTANTS.false c.if-area-eq-FUNCTIONS.false c.if-area-eq-MODELS.false
+    c.if-area-eq-PROPERTIES.false
     c.if-area-eq-METHODS.false c.if-area-eq-CONTEXT_LOCALS.false c.if-area-eq-PUBLIC_NAMES.false) c.book_fine.ensures
