@@ -6,24 +6,14 @@
 // end.
 #![tactic(auto)]
 
-ghost use Rattle.std.specs.Prelude.{◌≤◌, length, IfOk};
-
 use book_compiler::{commit, compile, lay_on, trial};
-use case_numbers::parse;
+use case_numbers::{parse, totals_of};
 use reading::read_full;
 use std::io;
 use std::io::Read;
-use words::reply::{BAD_SHAPE, Reply, Totals};
+use words::reply::{BAD_SHAPE, Reply};
 
-// What `next` answers.
-#[derive(Clone, Copy, PartialEq, Eq)]
-enum Answer {
-    AsStored,
-    Differs,
-    NoCase,
-}
-
-// The first call that lays on, the first on trial, and the first that commits.
+// The numbers of the calls, one more in strict mode; a lesser one is the compile call. `tools/tests/test_book_cases.py` reads these, and the sizes below.
 const LAY_ON: u64 = 2;
 
 const TRIAL: u64 = 4;
@@ -32,15 +22,11 @@ const COMMIT: u64 = 6;
 
 const MOST_CASES: u64 = 10000;
 
-const MOST_NAME: u64 = 256;
+const MOST_NAME: usize = 256;
 
-const MOST_TEXT: u64 = 8192;
+const MOST_TEXT: usize = 8192;
 
-const MOST_MEMORY: u64 = 6144;
-
-const AREAS: u64 = 12;
-
-const REPLY_WORDS: u64 = 17;
+const MOST_MEMORY: usize = 6144;
 
 const MOST_NUMBERS: usize = 1024;
 
@@ -50,92 +36,99 @@ const STALE: u64 = 7777777;
 // Row 3 has a place past this one where it is the program that stands.
 const PROGRAM_PLACE: u64 = 1048576;
 
-// A place past every number.
-const NOWHERE: usize = 18446744073709551615;
-
-fn say(rt: &impl Print, text: &[u8]) -> io::Result<()> {
-    rt.write_all(text)
+// The calls on a program that stands.
+#[derive(Clone, Copy)]
+enum OnProgram {
+    LayOn,
+    Trial,
+    Commit,
 }
 
-fn say_number(rt: &impl Print, n: u64) -> io::Result<()> {
-    rt.print(n)
-}
-
-// The number at a place; 0 outside.
-fn number_at(numbers: &[u64], at: usize) -> u64 {
-    if at < numbers.len() {
-        return numbers[at];
-    }
-    0
-}
-
-// The place after the list at a place; nowhere for a list that does not end.
-fn after(numbers: &[u64], at: usize) -> usize
-    ensures { 1 ≤ result }
-{
-    if at < numbers.len() {
-        let left = numbers.len() - at;
-        let size = numbers[at] as usize;
-        if size < left {
-            return at + 1 + size;
+impl OnProgram {
+    // None for the compile call.
+    fn numbered(number: u64) -> Option<OnProgram> {
+        match number {
+            0..LAY_ON => None,
+            LAY_ON..TRIAL => Some(OnProgram::LayOn),
+            TRIAL..COMMIT => Some(OnProgram::Trial),
+            _ => Some(OnProgram::Commit),
         }
     }
-    NOWHERE
 }
 
-// Word i of the n that stand after a place; past them another.
-fn stored(numbers: &[u64], at: usize, n: u64, i: usize, past: u64) -> u64 {
-    if (i as u64) < n {
-        if at < numbers.len() {
-            let left = numbers.len() - at;
-            if i < left - 1 {
-                return numbers[at + 1 + i];
-            }
+// The first N numbers, zeros for those that are lacking, and what is behind them.
+fn first<const N: usize>(numbers: &[u64]) -> ([u64; N], &[u64]) {
+    let mut found = [0; N];
+    for (word, number) in found.iter_mut().zip(numbers) {
+        *word = *number;
+    }
+    (found, numbers.get(N..).unwrap_or(&[]))
+}
+
+// A list behind its length: fewer numbers than that, and nothing behind it, where the numbers end before it does.
+#[derive(Clone, Copy)]
+struct List<'a> {
+    length: u64,
+    stored: &'a [u64],
+    behind: Option<&'a [u64]>,
+}
+
+impl<'a> List<'a> {
+    // The list at the start of numbers; an empty one that does not end where there are none.
+    fn at(numbers: &'a [u64]) -> List<'a> {
+        let Some((length, rest)) = numbers.split_first() else {
+            return List {
+                length: 0,
+                stored: &[],
+                behind: None,
+            };
+        };
+        match rest.split_at_checked(*length as usize) {
+            Some((stored, behind)) => List {
+                length: *length,
+                stored,
+                behind: Some(behind),
+            },
+            None => List {
+                length: *length,
+                stored: rest,
+                behind: None,
+            },
         }
     }
-    past
 }
 
-fn say_difference(rt: &impl Print, part: u64, i: usize, is: u64, was: u64) -> io::Result<()> {
-    say(rt, b"  part ")?;
-    say_number(rt, part)?;
-    say(rt, b", word ")?;
-    say_number(rt, i as u64)?;
-    say(rt, b": ")?;
-    say_number(rt, is)?;
-    say(rt, b", stored ")?;
-    say_number(rt, was)?;
-    say(rt, b"\n")
+fn print_difference(rt: &impl Print, part: usize, i: usize, is: u64, was: u64) -> io::Result<()> {
+    println!(rt; "  part {part}, word {i}: {is}, stored {was}")
 }
 
-// The words of a part, 0 the reply, 13 what is left over and else an area, are the n that stand after a place, and past them another.
+// The words of a part, 0 the reply, 13 what is left over and else an area, are no fewer than so many, and are the stored ones, and past them another.
 fn same(
     rt: &impl Print,
-    part: u64,
+    part: usize,
     words: &[u64],
-    numbers: &[u64],
-    at: usize,
-    n: u64,
+    least: u64,
+    stored: &[u64],
     past: u64,
 ) -> io::Result<bool> {
-    if (words.len() as u64) < n {
-        say_difference(rt, part, words.len(), 0, n)?;
+    if (words.len() as u64) < least {
+        print_difference(rt, part, words.len(), 0, least)?;
         return Ok(false);
     }
     for (i, word) in words.iter().enumerate() {
-        let was = stored(numbers, at, n, i, past);
+        let was = stored.get(i).copied().unwrap_or(past);
         if *word != was {
-            say_difference(rt, part, i, *word, was)?;
+            print_difference(rt, part, i, *word, was)?;
             return Ok(false);
         }
     }
     Ok(true)
 }
 
-// The reply is the words after a place.
-fn same_reply(rt: &impl Print, reply: Reply, numbers: &[u64], at: usize) -> io::Result<bool> {
+// The words of a reply in the order of the stored numbers, which no derive gives.
+fn words_of(reply: Reply) -> [u64; 17] {
     let totals = reply.totals;
-    let words = [
+    [
         reply.number,
         reply.place,
         totals.code,
@@ -153,383 +146,215 @@ fn same_reply(rt: &impl Print, reply: Reply, numbers: &[u64], at: usize) -> io::
         totals.entry_point,
         totals.global_dependencies,
         totals.bundles,
-    ];
-    same(rt, 0, &words, numbers, at, REPLY_WORDS, 0)
+    ]
 }
 
-// Where a part of so many words ends that starts in a memory of so many: a length that passes the memory's end is cut there.
-fn end_of(start: usize, words: usize, size: usize) -> usize
-    requires { start ≤ size }
-    ensures { (start ≤ result) × (result ≤ size) }
-{
-    if words < size - start {
-        return start + words;
-    }
-    size
-}
-
-// The areas of these lengths, which stand from a place on, follow each other in the memory and are the lists from another place on, and then zeros; what is
+// The areas of these lengths follow each other in the memory, where a length that passes the memory's end is cut, and are the lists, and then zeros; what is
 // left over is one word again and again, and no number stands after the lists.
 fn same_areas(
     rt: &impl Print,
     memory: &[u64],
-    numbers: &[u64],
-    lengths: usize,
-    lists: usize,
+    lengths: [usize; 12],
+    lists: &[u64],
     left: u64,
-) -> io::Result<bool>
-    requires { lengths ≤ 1024 }
-{
-    let size = memory.len();
+) -> io::Result<bool> {
     let mut fine = true;
-    let mut start: usize = 0;
-    let mut list = lists;
-    for area in 0..AREAS {
-        let words = number_at(numbers, lengths + area as usize) as usize;
-        let end = end_of(start, words, size);
-        let n = number_at(numbers, list);
-        let is = same(rt, area + 1, &memory[start..end], numbers, list, n, 0)?;
-        fine = fine && is;
-        start = end;
-        list = after(numbers, list);
+    let mut rest = memory;
+    let mut lists = Some(lists);
+    for (i, length) in lengths.iter().enumerate() {
+        let list = List::at(lists.unwrap_or(&[]));
+        let (words, others) = rest.split_at((*length).min(rest.len()));
+        fine = same(rt, i + 1, words, list.length, list.stored, 0)? && fine;
+        rest = others;
+        lists = list.behind;
     }
-    let rest = same(rt, AREAS + 1, &memory[start..], numbers, 0, 0, left)?;
-    if list != numbers.len() {
-        say(rt, b"  the numbers end elsewhere\n")?;
+    fine = same(rt, 13, rest, 0, &[], left)? && fine;
+    if !lists.is_some_and(|lists| lists.is_empty()) {
+        println!(rt; "  the numbers end elsewhere")?;
         return Ok(false);
     }
-    Ok(fine && rest)
+    Ok(fine)
 }
 
-fn say_reply(rt: &impl Print, reply: Reply) -> io::Result<()> {
-    say(rt, b": row ")?;
-    say_number(rt, reply.number)?;
-    say(rt, b", place ")?;
-    say_number(rt, reply.place)?;
-    say(rt, b"\n")
+fn no_case(rt: &impl Print) -> io::Result<bool> {
+    println!(rt; "  no case")?;
+    Ok(false)
 }
 
-// The lengths of the areas, from a place on.
-fn lengths_at(numbers: &[u64], at: usize) -> [usize; 12]
-    requires { at ≤ 1024 }
-{
-    [
-        number_at(numbers, at) as usize,
-        number_at(numbers, at + 1) as usize,
-        number_at(numbers, at + 2) as usize,
-        number_at(numbers, at + 3) as usize,
-        number_at(numbers, at + 4) as usize,
-        number_at(numbers, at + 5) as usize,
-        number_at(numbers, at + 6) as usize,
-        number_at(numbers, at + 7) as usize,
-        number_at(numbers, at + 8) as usize,
-        number_at(numbers, at + 9) as usize,
-        number_at(numbers, at + 10) as usize,
-        number_at(numbers, at + 11) as usize,
-    ]
-}
-
-// The totals of a program that stands, or of a trial, from a place on.
-fn totals_at(numbers: &[u64], at: usize) -> Totals
-    requires { at ≤ 2048 }
-{
-    Totals {
-        code: number_at(numbers, at),
-        constants: number_at(numbers, at + 1),
-        functions: number_at(numbers, at + 2),
-        models: number_at(numbers, at + 3),
-        properties: number_at(numbers, at + 4),
-        methods: number_at(numbers, at + 5),
-        context_locals: number_at(numbers, at + 6),
-        public_names: number_at(numbers, at + 7),
-        scope_names: number_at(numbers, at + 8),
-        breaks: number_at(numbers, at + 9),
-        errors: number_at(numbers, at + 10),
-        books: number_at(numbers, at + 11),
-        entry_point: number_at(numbers, at + 12),
-        global_dependencies: number_at(numbers, at + 13),
-        bundles: number_at(numbers, at + 14),
-    }
-}
-
-// The n words that stand after a place are put into an area, and then zeros.
-fn put(words: &mut [u64], numbers: &[u64], at: usize, n: u64) {
-    for (i, word) in words.iter_mut().enumerate() {
-        *word = stored(numbers, at, n, i, 0);
-    }
-}
-
-// The areas of these lengths, which stand from a place on, get the lists from another place on. The answer is the place after these.
-fn put_areas(memory: &mut [u64], numbers: &[u64], lengths: usize, lists: usize) -> usize
-    requires { (lengths ≤ 1024) × (1 ≤ lists) }
-    ensures { 1 ≤ result }
-{
-    let mut start: usize = 0;
-    let mut list = lists;
-    for area in 0..AREAS {
-        let words = number_at(numbers, lengths + area as usize) as usize;
-        let end = end_of(start, words, memory.len());
-        put(
-            &mut memory[start..end],
-            numbers,
-            list,
-            number_at(numbers, list),
-        );
-        start = end;
-        list = after(numbers, list);
-    }
-    list
-}
-
-// What a call must leave: the reply after a place, and the lists behind it for the areas whose lengths stand from another place on.
-fn as_stored(
-    rt: &impl Print,
-    reply: Reply,
-    memory: &[u64],
-    numbers: &[u64],
-    lengths: usize,
-    at: usize,
-    left: u64,
-) -> io::Result<bool>
-    requires { (lengths ≤ 1024) × (at ≤ 2048) }
-{
-    say_reply(rt, reply)?;
-    let is_reply = same_reply(rt, reply, numbers, at)?;
-    let are_areas = same_areas(rt, memory, numbers, lengths, at + 18, left)?;
-    Ok(is_reply && are_areas)
-}
-
-// The compile call with lengths that stand from a place on; the reply stands after the last.
-fn judge_compile(
-    rt: &impl Print,
-    tree: &[u64],
-    strict: bool,
-    memory: &mut [u64],
-    numbers: &[u64],
-    at: usize,
-) -> io::Result<bool>
-    requires { at ≤ 1024 }
-{
-    let lengths = lengths_at(numbers, at);
-    let reply = compile(tree, strict, lengths, memory);
-    as_stored(rt, reply, memory, numbers, at, at + 11, 0)
-}
-
-// What the slots must hold after a call on a program, where the reply stands after a place: the program check comes first, and writes nothing.
-fn slots_left(numbers: &[u64], at: usize) -> u64
-    requires { at ≤ 2048 }
-{
-    if number_at(numbers, at + 1) == BAD_SHAPE {
-        if number_at(numbers, at + 2) > PROGRAM_PLACE {
-            return STALE;
-        }
+// What the slots must hold after a call on a program, where it leaves this reply: the program check comes first, and writes nothing.
+fn slots_left(stored: &[u64]) -> u64 {
+    let ([number, place], _) = first::<2>(stored);
+    if number == BAD_SHAPE && place > PROGRAM_PLACE {
+        return STALE;
     }
     0
 }
 
-// Where the areas of the program that stands are, by the place of the lengths: behind its totals, and of a commit behind the trial's.
-fn lists_at(call: u64, at: usize) -> usize
-    requires { at ≤ 1024 }
-    ensures { 1 ≤ result }
-{
-    if call < COMMIT {
-        return at + 27;
-    }
-    at + 42
-}
-
-// Laying on, a trial or a commit; the totals that were tried are for this one alone.
-fn ask(
-    tree: &[u64],
-    call: u64,
-    standing: Totals,
-    tried: Totals,
+// A call has left what is stored: the reply, and the areas' lists.
+fn as_stored(
+    rt: &impl Print,
+    reply: Reply,
+    memory: &[u64],
     lengths: [usize; 12],
+    stored: &[u64],
+    left: u64,
+) -> io::Result<bool> {
+    println!(rt; ": row {}, place {}", reply.number, reply.place)?;
+    let (words, lists) = first::<17>(stored);
+    let is_reply = same(rt, 0, &words_of(reply), 17, &words, 0)?;
+    let are_areas = same_areas(rt, memory, lengths, lists, left)?;
+    Ok(is_reply && are_areas)
+}
+
+// The areas of these lengths get the lists, and then zeros. The answer is what is behind the lists, if the last one ends.
+fn put_areas<'a>(memory: &mut [u64], lengths: [usize; 12], lists: &'a [u64]) -> Option<&'a [u64]> {
+    let mut start = 0;
+    let mut rest = Some(lists);
+    for length in lengths {
+        let list = List::at(rest.unwrap_or(&[]));
+        let end = start + length.min(memory.len() - start);
+        let area = &mut memory[start..end];
+        area.fill(0);
+        for (word, stored) in area.iter_mut().zip(list.stored) {
+            *word = *stored;
+        }
+        start = end;
+        rest = list.behind;
+    }
+    rest
+}
+
+// A call on a program that is in the memory: behind the program's lists stands what the call must leave.
+fn judge_on_program<F: FnOnce(&mut [u64]) -> Reply>(
+    rt: &impl Print,
     memory: &mut [u64],
-) -> Reply {
+    lengths: [usize; 12],
+    lists: &[u64],
+    call: F,
+) -> io::Result<bool>
+    requires callable { F.IsAlwaysCallable call }
+{
+    let Some(stored) = put_areas(memory, lengths, lists) else {
+        return no_case(rt);
+    };
+    let reply = call(memory);
+    as_stored(rt, reply, memory, lengths, stored, slots_left(stored))
+}
+
+// A call in a memory: behind the lengths stand for the compile call what it must leave, for the others the totals of the program that stands, for a commit
+// those of its trial, and the program's lists.
+fn judge(
+    rt: &impl Print,
+    call: u64,
+    tree: &[u64],
+    memory: &mut [u64],
+    lengths: [usize; 12],
+    rest: &[u64],
+) -> io::Result<bool> {
     let strict = call % 2 == 1;
-    if call < TRIAL {
-        return lay_on(tree, strict, standing, lengths, memory);
+    let Some(call) = OnProgram::numbered(call) else {
+        let reply = compile(tree, strict, lengths, memory);
+        return as_stored(rt, reply, memory, lengths, rest, 0);
+    };
+    let (totals, rest) = first::<15>(rest);
+    let standing = totals_of(&totals);
+    match call {
+        OnProgram::LayOn => judge_on_program(
+            rt,
+            memory,
+            lengths,
+            rest,
+            |memory| lay_on(tree, strict, standing, lengths, memory),
+        ),
+        OnProgram::Commit => {
+            let (totals, rest) = first::<15>(rest);
+            let tried = totals_of(&totals);
+            judge_on_program(
+                rt,
+                memory,
+                lengths,
+                rest,
+                |memory| commit(tree, strict, standing, tried, lengths, memory),
+            )
+        }
+        OnProgram::Trial => judge_on_program(
+            rt,
+            memory,
+            lengths,
+            rest,
+            |memory| trial(tree, strict, standing, lengths, memory),
+        ),
     }
-    if call < COMMIT {
-        return trial(tree, strict, standing, lengths, memory);
-    }
-    commit(tree, strict, standing, tried, lengths, memory)
 }
 
-// A call on the program that is in the memory, with lengths that stand from a place on, behind them the totals of the program and of a commit those of its
-// trial. The reply stands after another place.
-fn judge_asked(
-    rt: &impl Print,
-    tree: &[u64],
-    call: u64,
-    memory: &mut [u64],
-    numbers: &[u64],
-    at: usize,
-    last: usize,
-) -> io::Result<bool>
-    requires { (at ≤ 1024) × (last ≤ 1024) }
-{
-    let lengths = lengths_at(numbers, at);
-    let standing = totals_at(numbers, at + 12);
-    let tried = totals_at(numbers, at + 27);
-    let reply = ask(tree, call, standing, tried, lengths, memory);
-    as_stored(
-        rt,
-        reply,
-        memory,
-        numbers,
-        at,
-        last,
-        slots_left(numbers, last),
-    )
-}
-
-// A call on a program: behind the lengths and the totals stand the areas of the program, and then the reply.
-fn judge_on_program(
-    rt: &impl Print,
-    tree: &[u64],
-    call: u64,
-    memory: &mut [u64],
-    numbers: &[u64],
-    at: usize,
-) -> io::Result<bool>
-    requires { at ≤ 1024 }
-{
-    let end = put_areas(memory, numbers, at, lists_at(call, at));
-    if end > MOST_NUMBERS {
-        say(rt, b"  no case\n")?;
+// The numbers: the call, the words of the memory, the bundle as a list, the lengths, and what `judge` takes.
+fn case(rt: &impl Print, numbers: &[u64]) -> io::Result<bool> {
+    let Some((header, rest)) = numbers.split_first_chunk::<2>() else {
+        return no_case(rt);
+    };
+    let [call, size] = *header;
+    let bundle = List::at(rest);
+    let Some(rest) = bundle.behind else {
+        return no_case(rt);
+    };
+    let (lengths, rest) = first::<12>(rest);
+    let size = size as usize;
+    if size > MOST_MEMORY {
+        println!(rt; "  no room")?;
         return Ok(false);
     }
-    judge_asked(rt, tree, call, memory, numbers, at, end - 1)
-}
-
-// Lends a memory of so many words.
-fn lend(
-    rt: &impl Print,
-    tree: &[u64],
-    call: u64,
-    size: usize,
-    numbers: &[u64],
-    at: usize,
-) -> io::Result<bool>
-    requires { (at ≤ 1024) × (size ≤ 6144) }
-{
-    let mut memory = [7777777; 6144];
-    if call < LAY_ON {
-        return judge_compile(rt, tree, call % 2 == 1, &mut memory[0..size], numbers, at);
-    }
-    judge_on_program(rt, tree, call, &mut memory[0..size], numbers, at)
-}
-
-fn case_in(rt: &impl Print, call: u64, size: u64, numbers: &[u64]) -> io::Result<Answer> {
-    let end = after(numbers, 0);
-    if end > MOST_NUMBERS {
-        say(rt, b"  no case\n")?;
-        return Ok(Answer::Differs);
-    }
-    if end > numbers.len() {
-        say(rt, b"  no case\n")?;
-        return Ok(Answer::Differs);
-    }
-    if size > MOST_MEMORY {
-        say(rt, b"  no room\n")?;
-        return Ok(Answer::Differs);
-    }
-    if lend(rt, &numbers[1..end], call, size as usize, numbers, end)? {
-        return Ok(Answer::AsStored);
-    }
-    Ok(Answer::Differs)
-}
-
-// The first number is the call: 0 the compile call, 2 laying on, 4 a trial, 6 a commit, and one more in strict mode. The second is the words of the memory.
-fn case(rt: &impl Print, numbers: &[u64]) -> io::Result<Answer> {
-    let end = numbers.len();
-    if end < 2 {
-        say(rt, b"  no case\n")?;
-        return Ok(Answer::Differs);
-    }
-    let call = number_at(numbers, 0);
-    let size = number_at(numbers, 1);
-    case_in(rt, call, size, &numbers[2..end])
-}
-
-fn read_name(rt: &impl Print, input: &mut impl Read, name: &mut [u8]) -> io::Result<()> {
-    let n = read_full(input, name)?;
-    say(rt, &name[..n])
-}
-
-fn read_numbers(input: &mut impl Read, text: &mut [u8], numbers: &mut [u64]) -> io::Result<usize>
-    ensures { IfOk result (λ n. n ≤ length numbers.new) }
-{
-    let n = read_full(input, text)?;
-    Ok(parse(&text[..n], numbers))
+    let mut memory = [STALE; MOST_MEMORY];
+    let lengths = lengths.map(|length| length as usize);
+    judge(rt, call, bundle.stored, &mut memory[..size], lengths, rest)
 }
 
 // Reads a case, given the bytes of its name and of its numbers, and judges it.
 fn read_case(
     rt: &impl Print,
     input: &mut impl Read,
-    name_size: u64,
-    text_size: u64,
-) -> io::Result<Answer> {
-    if name_size > MOST_NAME {
-        return Ok(Answer::NoCase);
+    name_size: usize,
+    text_size: usize,
+) -> io::Result<Option<bool>> {
+    if name_size > MOST_NAME || text_size > MOST_TEXT {
+        return Ok(None);
     }
-    if text_size > MOST_TEXT {
-        return Ok(Answer::NoCase);
-    }
-    let name_end = name_size as usize;
-    let text_end = text_size as usize;
-    let mut name = [0; 256];
-    read_name(rt, input, &mut name[0..name_end])?;
-    let mut text = [0; 8192];
-    let mut numbers = [0; 1024];
-    let count = read_numbers(input, &mut text[0..text_end], &mut numbers)?;
-    case(rt, &numbers[0..count])
+    let mut name = [0; MOST_NAME];
+    let n = read_full(input, &mut name[..name_size])?;
+    rt.write_all(&name[..n])?;
+    let mut text = [0; MOST_TEXT];
+    let n = read_full(input, &mut text[..text_size])?;
+    let mut numbers = [0; MOST_NUMBERS];
+    let count = parse(&text[..n], &mut numbers);
+    Ok(Some(case(rt, &numbers[..count])?))
 }
 
-// The next case, if there is one.
-fn next(rt: &impl Print, input: &mut impl Read) -> io::Result<Answer> {
+// Whether the next case, if there is one, leaves what is stored.
+fn next(rt: &impl Print, input: &mut impl Read) -> io::Result<Option<bool>> {
     let mut head = [0; 12];
-    let got = read_full(input, &mut head)?;
-    if got < 12 {
-        return Ok(Answer::NoCase);
+    if read_full(input, &mut head)? < head.len() {
+        return Ok(None);
     }
     let mut sizes = [0; 2];
-    let count = parse(&head, &mut sizes);
-    if count < 2 {
-        return Ok(Answer::NoCase);
+    if parse(&head, &mut sizes) < sizes.len() {
+        return Ok(None);
     }
-    read_case(rt, input, sizes[0], sizes[1])
-}
-
-// One more where a case differs.
-fn count(differ: u64, answer: Answer) -> u64 {
-    if answer == Answer::Differs {
-        if differ < MOST_CASES {
-            return differ + 1;
-        }
-    }
-    differ
+    let [name_size, text_size] = sizes.map(|size| size as usize);
+    read_case(rt, input, name_size, text_size)
 }
 
 fn end(rt: &impl Print, cases: u64, differ: u64) -> io::Result<()> {
-    say_number(rt, cases)?;
-    say(rt, b" cases, ")?;
-    say_number(rt, differ)?;
-    say(rt, b" differ\n")
+    println!(rt; "{cases} cases, {differ} differ")
 }
 
 fn main(rt: HostRuntime) -> io::Result<()> {
     let mut input = rt.stdin();
     let mut differ = 0;
     for cases in 0..MOST_CASES {
-        let answer = next(&rt, &mut input)?;
-        if answer == Answer::NoCase {
-            return end(&rt, cases, differ);
+        match next(&rt, &mut input)? {
+            None => return end(&rt, cases, differ),
+            Some(true) => {}
+            Some(false) => differ += 1,
         }
-        differ = count(differ, answer);
     }
     end(&rt, MOST_CASES, differ)
 }

@@ -1,4 +1,5 @@
 -- One lemma for each way through the search for a model and through an apply definition: what its calls ensure is the definition's. Assumes nothing.
+use Rattle.std.specs.Prelude.{Some, None}
 use Rattle.std.proofs.Common.{◌≡◌, ℕ, ◌+◌, ◌<◌, Bool, true, false, eqb, List, [], sym, refl, ap, ◌∙◌, arith, eqb-true}
 use mathlib.Core.Option.{Option, none, some}
 use borrow.Author.Tests.{eqb-false}
@@ -12,9 +13,7 @@ use Rattle.definition.specs.Uses.{Limits}
 use Rattle.definition.specs.Book.{Book, Context, add_methods, methods_in, methods_of, model_of, get_local_value, find_model_by}
 use Rattle.definition.specs.Book.{find_model_in, find_model_index_by_local_name, compile_apply_definition}
 use Rattle.definition_laws.proofs.StepPreserves.{same, more}
-use Rattle.building.specs.declared.scopes.Found.{Found}
-use Rattle.building.specs.declared.scopes.Found.TheVariants.{At, Nothing}
-use Rattle.building.specs.Found.{found_of}
+use Rattle.building.specs.Found.{Found, found_of}
 use Rattle.compiler_laws.specs.declared.book.Book as struct
 use Rattle.compiler_laws.specs.ModelSteps.{FindsModel, model_at_c}
 use Rattle.undo.specs.Notes.{plain_marks}
@@ -62,23 +61,23 @@ module _ {tree : List ℕ} {at : ℕ} {m : BookMemory} where
   }
 
   module _ (z : m.book.full ≡ 0) {name : ℕ} (value : name ≡ value_at tree at) {g : Found} (searched : FindsBookLocal name g m) where
-    pub find_lost : g ≡ Nothing → {m' : BookMemory} → PushesBookError 10 (token_at tree at) m m'
-        → FindsModelIndex tree at Nothing m m'
+    pub find_lost : g ≡ None → {m' : BookMemory} → PushesBookError 10 (token_at tree at) m m'
+        → FindsModelIndex tree at None m m'
     find_lost lost {m'} E = record {
       seeks = area_seeks (omega arith) refl E.counts
-          (area_map {R' = λ e e'. FindsIn tree at m e Nothing m'.book e'} (λ f x r. area.find_lost z value (searched.reads.on f) lost r) E.acts)
+          (area_map {R' = λ e e'. FindsIn tree at m e None m'.book e'} (λ f x r. area.find_lost z value (searched.reads.on f) lost r) E.acts)
           (λ κ ps others b H e r. stood_nothing e H.preserves.nothing.errors)
           (λ x r. r.seeks (area_of m code_area) (area_of m functions_area) (area_of m models_area) (area_of m properties_area) (said_by m methods_area)
           (area_of m public_names_area) (area_of m scope_names_area) (area_of m breaks_area))
           (λ w. grows_same (unchanged_find_model (token_at tree at) w) (find_context (token_at tree at) w));
     }
 
-    module _ {i : ℕ} (at_i : g ≡ At i) {r : Found} (model : FindsLocalModel i r m) where
-      pub find_other : r ≡ Nothing → {m' : BookMemory} → PushesBookError 9 (token_at tree at) m m'
-          → FindsModelIndex tree at Nothing m m'
+    module _ {i : ℕ} (at_i : g ≡ Some i) {r : Found} (model : FindsLocalModel i r m) where
+      pub find_other : r ≡ None → {m' : BookMemory} → PushesBookError 9 (token_at tree at) m m'
+          → FindsModelIndex tree at None m m'
       find_other lost {m'} E = record {
         seeks = area_seeks (omega arith) refl E.counts
-            (area_map {R' = λ e e'. FindsIn tree at m e Nothing m'.book e'}
+            (area_map {R' = λ e e'. FindsIn tree at m e None m'.book e'}
             (λ f x r. area.find_other z value (searched.reads.on f) at_i
             (model_said i (area_of m context_locals_area) (area_of m constants_area) (model.reads.on f)) lost r) E.acts)
             (λ κ ps others b H e r. stood_nothing e H.preserves.nothing.errors)
@@ -87,7 +86,7 @@ module _ {tree : List ℕ} {at : ℕ} {m : BookMemory} where
             (λ w. grows_same (unchanged_find_model (token_at tree at) w) (find_context (token_at tree at) w));
       }
 
-      pub find_there : {j : ℕ} → r ≡ At j → FindsModelIndex tree at r m m
+      pub find_there : {j : ℕ} → r ≡ Some j → FindsModelIndex tree at r m m
       find_there at_j = record {
         seeks = record {
           meets = λ κ ps others w H. represents_same H (λ y. behind_same (find_context (token_at tree at) w) (H.behind y))
@@ -146,7 +145,7 @@ module _ {tree : List ℕ} {at end : ℕ} {m : BookMemory} where
             by false q = D κ ps others w y es (eqb-false m₂.book.full 0 q) H
 
     -- without a source nothing is to be copied
-    pub apply_nothing : from ≡ Nothing → CompilesApplyDefinition tree at end m m₂
+    pub apply_nothing : from ≡ None → CompilesApplyDefinition tree at end m m₂
     apply_nothing lost = rest go (λ κ ps others w y es ne H. represents_longer (unchanged_methods y es w).uses ne H)
       where
         go : (κ : Limits) (ps : List ℕ) (others : ℕ → List ℕ) (w : Book) (x y : Option ℕ) (es : List Entry)
@@ -159,12 +158,12 @@ module _ {tree : List ℕ} {at end : ℕ} {m : BookMemory} where
             rw empty (represents_same H (λ y. behind_grown refl (omega arith) (omega arith) (H.behind y)) (methods_none j w H.keeping))
 
     -- without a target nothing is
-    pub apply_nowhere : to ≡ Nothing → CompilesApplyDefinition tree at end m m₂
+    pub apply_nowhere : to ≡ None → CompilesApplyDefinition tree at end m m₂
     apply_nowhere lost =
         rest (λ κ ps others w x y es z a d is H. rw (found_none y d lost) H)
         (λ κ ps others w y es ne H. represents_longer (unchanged_methods y es w).uses ne H)
 
-    pub apply_copies : {source target : ℕ} → from ≡ At source → to ≡ At target → {m' : BookMemory} → CopiesBookMethods source target m₂ m'
+    pub apply_copies : {source target : ℕ} → from ≡ Some source → to ≡ Some target → {m' : BookMemory} → CopiesBookMethods source target m₂ m'
         → CompilesApplyDefinition tree at end m m'
     apply_copies {source} {target} at-s at-t {m'} M =
         rest (λ κ ps others w x y es z a d is H.

@@ -1,4 +1,5 @@
 -- What each leaf that is lent one part does to the book: the laws of `compiler_laws` on the part. Assumes nothing.
+use Rattle.std.specs.Prelude.{Some}
 use Rattle.std.proofs.Common.{◌≡◌, ℕ, ◌*◌, ◌^◌, ◌<◌, ◌≤◌, List, [], ◌∷◌, length, sym, refl, ap, ◌∙◌, subst, arith}
 use mathlib.Core.Option.{Option, none, some}
 use Rattle.words.specs.Ast.{Token}
@@ -9,9 +10,7 @@ use Rattle.words.specs.Areas.{scope_names_area, breaks_area}
 use Rattle.definition.specs.Uses.{Limits}
 use Rattle.definition.specs.Book.{Book, Placed, push_book_error, add_book_constant, define_context_local, set_local_value, add_methods, methods_in, publish}
 use Rattle.building.specs.declared.function_state.FunctionState.{FunctionState}
-use Rattle.building.specs.declared.scopes.Found.{Found}
-use Rattle.building.specs.declared.scopes.Found.TheVariants.{At}
-use Rattle.building.specs.Found.{found_of}
+use Rattle.building.specs.Found.{Found, found_of}
 use Rattle.building.specs.State.{begun}
 use Rattle.building.specs.Pool.{Pooling, pooling, add_constant_c}
 use Rattle.undo.specs.Notes.{plain_marks, plain_methods}
@@ -38,17 +37,17 @@ abbrev working : struct.Book → FunctionState
 working s = begun s.full s.code s.constants s.errors
 
 -- `add_constant`
-pub adds_constant : {kind value place : ℕ} {s s' : struct.Book} {a w w' : List ℕ} {before state loaded : FunctionState} → before ≡ working s
-    → AddsConstant kind value place (laid before a w) (laid state a w') → loaded ≡ state → s' ≡ resumed_book s loaded
+pub adds_constant : {kind value place : ℕ} {s s' : struct.Book} {a w w' : List ℕ} {before state : FunctionState} → before ≡ working s
+    → AddsConstant kind value place (laid before a w) (laid state a w') → s' ≡ resumed_book s state
     → AddsBookConstant kind value place (book_laid s a w) (book_laid s' a w')
-adds_constant {kind} {value} {place} {s} {s'} {a} {w} {w'} {before} {state} worked A load back = record {
+adds_constant {kind} {value} {place} {s} {s'} {a} {w} {w'} {before} {state} worked A back = record {
   state = state;
   adds = subst (λ (t : FunctionState). AddsConstant kind value place (laid t a w) (laid state a w')) worked A;
-  counts = back ∙ ap (resumed_book s) load;
+  counts = back;
 }
 
 -- a local that was found is none of those that stood
-value_behind : (i n prior names : ℕ) (o : Option ℕ) → At i ≡ found_of o → OneOf o prior names → n ≤ prior * 4 → n ≤ i * 4
+value_behind : (i n prior names : ℕ) (o : Option ℕ) → Some i ≡ found_of o → OneOf o prior names → n ≤ prior * 4 → n ≤ i * 4
 value_behind i n prior names none q h l = absurd (let y : ◌≡◌ {A = ℕ} 0 1 = cc in omega arith)
 value_behind i n prior names (some j) q h l = let same : i ≡ j = cc in omega (arith, same, h.0, l)
 

@@ -1,13 +1,13 @@
 -- A routine that is lent one part of the memory does to the book what it does to its area. One law over the part's number. Assumes nothing.
-use Rattle.std.proofs.Common.{◌≡◌, ℕ, suc, ◌*◌, ◌<◌, Bool, true, false, cond, not, ◌&&◌, eqb, List, length, get_or, sym, refl, ap, ◌∙◌, subst, arith, ne_eqb}
+use Rattle.building.specs.Found.{Found}
+use Rattle.std.proofs.Common.{◌≡◌, ℕ, ◌*◌, ◌<◌, Bool, true, false, cond, not, ◌&&◌, eqb, List, length, sym, refl, ap, ◌∙◌, subst, arith, ne_eqb}
 use Rattle.std.proofs.Common.{eqb-true}
 use borrow.Author.Tests.{eqb-false}
 use Rattle.memory.specs.Layout.{part, with_part, Fits}
-use Rattle.memory.proofs.Parts.{put_part, put_fits, ends_within}
+use Rattle.memory.proofs.Parts.{put_part, put_fits}
 use Rattle.definition.specs.Uses.{Limits}
 use Rattle.definition.specs.Book.{Book, BookStep, MaybePlaced}
 use Rattle.definition_laws.proofs.StepPreserves.{NotesGrow}
-use Rattle.building.specs.declared.scopes.Found.{Found}
 use Rattle.compiler_laws.specs.declared.book.Book as struct
 use Rattle.compiler_laws.specs.BookAreas.{BookAreas, book_areas, RepresentsAreas, SimulatesAreas, Seeks}
 use Rattle.compiler_laws.proofs.UnchangedByBooks.{Unchanged}
@@ -18,7 +18,7 @@ use Rattle.undo.specs.Stood.{Stood}
 use Rattle.book_compiler.specs.Represents.{SlotsFilled}
 use Rattle.book_compiler.specs.RepresentsBook.{BookMemory, book_laid, area_of, book_view, is_book_area, BehindContext, PreservesParts, RepresentsBook}
 use Rattle.book_compiler.specs.RepresentsBook.{OnArea, SimulatesBook, SimulatesSought}
-use Rattle.book_compiler.specs.BookLeaves.{SameCounts, ReadsAreas}
+use Rattle.book_compiler.specs.BookLeaves.{SameCounts}
 use Rattle.book_compiler.proofs.Stood.{stood_put}
 use Rattle.book_compiler.proofs.StoodBooks.{Grows, behind_grown}
 use Rattle.book_compiler.proofs.Parts.{slots_same}
@@ -155,20 +155,6 @@ module _ {i : ℕ} {R : List ℕ → List ℕ → Type 0} {m m' : BookMemory} (l
     sought = λ κ ps others b H z. let p = o.on H.fits in (law p.words p.does).sought κ ps b H.keeping z;
   }
 
--- what a routine that was lent part i does to it, once the memory has its layout
-pub area_part : {i : ℕ} {R : List ℕ → List ℕ → Type 0} {s s' : struct.Book} (a w x : List ℕ) → R (part a i w) x → length x ≡ length (part a i w)
-    → OnArea i R (book_laid s a w) (book_laid s' a (with_part a i x w))
-area_part a w x r l = record { same = refl; on = λ f. record { words = x; does = r; long = l; is = refl } }
-
--- and one that was not lent it, since it does not fit
-pub area_wide : {i : ℕ} → i < 14 → {R : List ℕ → List ℕ → Type 0} {s s' : struct.Book} (a w w' : List ℕ) → length w < get_or a (suc i) 0
-    → OnArea i R (book_laid s a w) (book_laid s' a w')
-area_wide {i} h a w w' n = record { same = refl; on = λ f. absurd (omega (arith, ends_within f i h)) }
-
-pub area_back : {i : ℕ} → i < 14 → {R : List ℕ → List ℕ → Type 0} {s s' : struct.Book} (a w w' : List ℕ) → get_or a (suc i) 0 < get_or a i 0
-    → OnArea i R (book_laid s a w) (book_laid s' a w')
-area_back {i} h a w w' n = record { same = refl; on = λ f. absurd (omega (arith, f.ordered i h)) }
-
 -- with the mark set the memory stands for whatever is compiled further
 pub represents_longer : {κ : Limits} {ps ps' : List ℕ} {others : ℕ → List ℕ} {m : BookMemory} {b b' : Book} → NotesGrow b.uses b'.uses
     → (m.book.full ≡ 0 → ⊥) → RepresentsBook κ ps others m b → RepresentsBook κ ps' others m b'
@@ -192,13 +178,6 @@ simulates_full C ne = record { meets = λ κ ps others b H. represents_longer (C
 -- one after the other
 pub simulates_then : {m m₁ m' : BookMemory} {d e : BookStep} → SimulatesBook m m₁ d → SimulatesBook m₁ m' e → SimulatesBook m m' (λ b. e (d b))
 simulates_then {d = d} A B = record { meets = λ κ ps others b H. B.meets κ ps others (d b) (A.meets κ ps others b H) }
-
--- a routine that was not lent part i to read
-pub areas_wide : {i : ℕ} → i < 14 → {R : Type 0} {s : struct.Book} (a w : List ℕ) → length w < get_or a (suc i) 0 → ReadsAreas R (book_laid s a w)
-areas_wide {i} h a w n = record { on = λ f. absurd (omega (arith, ends_within f i h)) }
-
-pub areas_back : {i : ℕ} → i < 14 → {R : Type 0} {s : struct.Book} (a w : List ℕ) → get_or a (suc i) 0 < get_or a i 0 → ReadsAreas R (book_laid s a w)
-areas_back {i} h a w n = record { on = λ f. absurd (omega (arith, f.ordered i h)) }
 
 -- what a routine does to part i, said otherwise
 pub area_map : {i : ℕ} {R R' : List ℕ → List ℕ → Type 0} {m m' : BookMemory}

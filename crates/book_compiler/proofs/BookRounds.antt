@@ -2,7 +2,7 @@
 -- notes are only added, so what is left to do changes nothing. On every way what stood is in place: no step writes it, and in area 12 only the words from
 -- `done` on move. Assumes nothing.
 use Rattle.std.proofs.Common.{◌≡◌, ℕ, suc, ◌+◌, ◌*◌, ◌/◌, ◌%◌, ◌<◌, ◌≤◌, Bool, true, cond, List, [], ◌∷◌, ◌++◌, length, get_or, sym, refl, ap, ◌∙◌, subst}
-use Rattle.std.proofs.Common.{append_assoc, arith, length-append}
+use Rattle.std.proofs.Common.{append_assoc, arith, length-append, Option, Some, None}
 use native.Mathlib.Decide.{dec_le, ℕ_discrete}
 use mathlib.Core.Option.{none, some}
 use lib.ListN.{get_or-append}
@@ -41,29 +41,52 @@ use Rattle.compiler_laws.proofs.FileLists.{add_bit_length, set_add, add_grows}
 use Rattle.book_compiler.specs.declared.order.Next.{Next}
 use Rattle.undo.specs.Stood.{Stood}
 use Rattle.book_compiler.specs.RepresentsBook.{BookMemory, book_laid, area_of, is_book_area, RepresentsBook, CompilesDocument}
-use Rattle.book_compiler.specs.BookOrder.{LentPart, ReadsPart, with_books, PicksNext, PushesRingErrorsIn}
+use Rattle.book_compiler.specs.BookOrder.{LentPart, ReadsPart, with_books, Picked, PicksNext, PushesRingErrorsIn}
 use Rattle.book_compiler.specs.BookOrder.{came_delivered, came_faulty, came_ring, Outcome, Driving, Drives}
 use Rattle.book_compiler.proofs.Stood.{stood_nothing}
 use Rattle.book_compiler.proofs.StoodBooks.{behind_grown}
 use Rattle.book_compiler.proofs.LentParts.{lent_does, lent_other, lent_part, lent_fits, still_at_rest, stood_beside}
 
+-- the end of `next_ready`: where none is ready, the count stands for it
+pub none_ready : {tree : List ℕ} {end done count : ℕ} {set books after : List ℕ} {i : ℕ} → count ≤ i → FindsReady tree end done count set books i after
+    → FindsReady tree end done count set books count after
+none_ready past F = record {
+  found = λ ds files left rest compiled S many in_all less. absurd (omega (arith, less));
+  nothing = λ ds files left rest compiled S many in_all _. F.nothing ds files left rest compiled S many in_all past;
+}
+
 -- the ways of `pick_next`
 module _ {tree : List ℕ} {end done count : ℕ} {set books marked : List ℕ} {i : ℕ} (N : FindsReady tree end done count set books i marked) where
-  pub pick_none : count ≤ i → PicksNext tree end done count set (record { index = i; file = 0; at = 0 }) books marked
-  pick_none past = record { found = λ h. absurd (omega arith); nothing = λ _. N }
+  pub pick_none : i ≡ count → PicksNext tree end done count set None books marked
+  pick_none past = record {
+    picked = λ next e. absurd (no_next next e);
+    nothing = λ _. subst (λ (k : ℕ). FindsReady tree end done count set books k marked) past N;
+  }
+    where
+      no_next : (next : Next) → None ≡ Some next → ⊥
+      no_next next e = cc
 
   pub pick_one : i < count → {entry : ℕ} {after : List ℕ} → entry ≡ entry_field 1 i 0 marked → Brings marked done i (entry / book_unit) after
-      → PicksNext tree end done count set (record { index = i; file = entry / book_unit; at = entry % place_unit }) books after
-  pick_one inside entry_is B = record {
-    found = λ _. record {
-      marked = marked;
-      ready = N;
-      file = ap (λ (x : ℕ). x / book_unit) entry_is;
-      at = ap (λ (x : ℕ). x % place_unit) entry_is;
-      moved = B;
-    };
-    nothing = λ past. absurd (omega arith);
+      → PicksNext tree end done count set (Some (record { file = entry / book_unit; at = entry % place_unit })) books after
+  pick_one inside {entry} {after} entry_is B = record {
+    picked = λ next e. subst (λ (r : Next). Picked tree end done count set r books after) (some_is next e) there;
+    nothing = λ e. absurd (let z : ◌≡◌ {A = Option Next} (Some (record { file = entry / book_unit; at = entry % place_unit })) None = e in cc);
   }
+    where
+      there : Picked tree end done count set (record { file = entry / book_unit; at = entry % place_unit }) books after
+      there = record {
+        index = i;
+        inside = inside;
+        marked = marked;
+        ready = N;
+        file = ap (λ (x : ℕ). x / book_unit) entry_is;
+        at = ap (λ (x : ℕ). x % place_unit) entry_is;
+        moved = B;
+      }
+
+      some_is : (next : Next) → Some (record { file = entry / book_unit; at = entry % place_unit }) ≡ Some next
+          → ◌≡◌ {A = Next} (record { file = entry / book_unit; at = entry % place_unit }) next
+      some_is next e = cc
 
 -- the ways of `ring`
 module _ {i count : ℕ} {t : Taken} {a w : List ℕ} where
@@ -91,16 +114,16 @@ front_kept files x y many was is k h =
 
 module _ (calm : (d : Definition) → Unchanged (compile_definition d)) {tree : List ℕ} {end done count : ℕ} {set : List ℕ} {m : BookMemory} where
   -- no book is left
-  pub drive_end : count ≤ done → {place : ℕ} → place ≡ done → Drives tree end done count set m m 0 place
+  pub drive_end : count ≤ done → Drives tree end done count set m m 0 count
   unfolding drive
-  drive_end past {place} place_is = record { drives = go }
+  drive_end past = record { drives = go }
     where
       go : (ds : List Document) (left rest compiled : List ℕ) (κ : Limits) (others : ℕ → List ℕ) (context : Context) (uses : List Use)
           → Driving ds tree end done count left rest compiled set κ others m context uses
-          → Outcome κ others done (area_of m books_area) m rest 0 place (drive (length left) ds compiled left context uses)
+          → Outcome κ others done (area_of m books_area) m rest 0 count (drive (length left) ds compiled left context uses)
       go ds [] rest compiled κ others context uses D = record {
         full = D.resting.represents.ready.keeping.full;
-        came = λ z. came_delivered refl (place_is ∙ D.so_many) D.resting
+        came = λ z. came_delivered refl (omega (arith, D.in_all, D.so_many)) D.resting
             (D.stands.area ∙ ap (λ (x : List ℕ). loaded_of context ++ (x ++ rest)) (none_waits ds tree end set D.stands.words D.stands.waits));
         stood = stood_beside others (area_of m books_area) D.resting.represents.ready.preserves.stood;
         named = λ k h. refl;
@@ -147,8 +170,8 @@ record Round (ds : List Document) (tree : List ℕ) (end file : ℕ) (left rest 
   small : file < length set * 64
   kept : RepresentsBook κ [] (with_books others (area_of m books_area)) m (compile_definitions book.definitions (opened book context uses))
 
-module _ {tree : List ℕ} {end done count : ℕ} {set : List ℕ} {s s₁ : struct.Book} {a w w₁ w₂ : List ℕ} {r : Next} {last : ℕ}
-    (N : LentPart books_area (PicksNext tree end done count set r) a w w₁) (inside : r.index < count) (last_is : last ≡ skip_c tree r.at end)
+module _ {tree : List ℕ} {end done count : ℕ} {set : List ℕ} {s s₁ : struct.Book} {a w w₁ w₂ : List ℕ} {o : Option Next} {r : Next} {last : ℕ}
+    (N : LentPart books_area (PicksNext tree end done count set o) a w w₁) (found : o ≡ Some r) (last_is : last ≡ skip_c tree r.at end)
     (M : CompilesDocument tree r.at last done (book_laid s a w₁) (book_laid s₁ a w₂)) where
   abbrev file : ℕ
   file = r.file
@@ -157,14 +180,14 @@ module _ {tree : List ℕ} {end done count : ℕ} {set : List ℕ} {s s₁ : str
       → Driving ds tree end done count left rest compiled set κ others (book_laid s a w) context uses
       → Round ds tree end file left rest compiled set κ others (book_laid s₁ a w₂) context uses
   round ds left rest compiled κ others context uses D =
-      let K = (lent_does (omega arith) D.resting.represents.ready.fits N).found inside in
+      let K = (lent_does (omega arith) D.resting.represents.ready.fits N).picked r found in
       let marked = K.marked in
       let files = loaded_of context in
       let many : done ≡ length files = D.so_many ∙ sym (loaded_length context) in
-      let Q = K.ready.found ds files left rest compiled D.stands many D.in_all inside in
+      let Q = K.ready.found ds files left rest compiled D.stands many D.in_all K.inside in
       let d = Q.book in
       let same : file ≡ d.filename = K.file ∙ Q.file in
-      let place : r.at ≡ entry_field 1 r.index 0 marked % place_unit = K.at in
+      let place : r.at ≡ entry_field 1 K.index 0 marked % place_unit = K.at in
       let split : left ≡ Q.before ++ (file ∷ Q.later) = Q.split ∙ ap (λ (n : ℕ). Q.before ++ (n ∷ Q.later)) (sym same) in
       let S = Q.stands in
       let W = wait_split ds tree end set Q.before file Q.later S.words
@@ -306,8 +329,8 @@ module _ {tree : List ℕ} {end done count : ℕ} {set : List ℕ} {s s₁ : str
           no_errors (y ∷ es) F = absurd (omega (arith, F.count, no-error))
 
 -- no book is ready: a ring
-module _ {tree : List ℕ} {end done count : ℕ} {set : List ℕ} {s s₁ : struct.Book} {a w w₁ w₂ : List ℕ} {r : Next} {place : ℕ} {x : Taken}
-    (z : s.full ≡ 0) (N : LentPart books_area (PicksNext tree end done count set r) a w w₁) (inside : done < count) (past : count ≤ r.index)
+module _ {tree : List ℕ} {end done count : ℕ} {set : List ℕ} {s s₁ : struct.Book} {a w w₁ w₂ : List ℕ} {o : Option Next} {place : ℕ} {x : Taken}
+    (z : s.full ≡ 0) (N : LentPart books_area (PicksNext tree end done count set o) a w w₁) (inside : done < count) (past : o ≡ None)
     (G : PushesRingErrorsIn done count (taken 0 0) a w₁ x w₂) (Full-is : s₁.full ≡ x.full) (errors-are : s₁.errors ≡ x.count)
     (place_is : done + place ≡ count) where
   pub drive_ring : Drives tree end done count set (book_laid s a w) (book_laid s₁ a w₂) 8 place
@@ -316,7 +339,7 @@ module _ {tree : List ℕ} {end done count : ℕ} {set : List ℕ} {s s₁ : str
     drives = λ ds left rest compiled κ others context uses D.
         let f = D.resting.represents.ready.fits in
         let many : done ≡ length (loaded_of context) = D.so_many ∙ sym (loaded_length context) in
-        let Q = ((lent_does (omega arith) f N).nothing past).nothing ds (loaded_of context) left rest compiled D.stands many D.in_all past in
+        let Q = ((lent_does (omega arith) f N).nothing past).nothing ds (loaded_of context) left rest compiled D.stands many D.in_all (omega arith) in
         let same : part a errors_area w₁ ≡ part a errors_area w = lent_part (omega arith) f N errors_area (omega arith) in
         let rung : PushesRingErrors done count (part a books_area w₁) (taken 0 0) (part a errors_area w) x (part a errors_area w₂) =
         rw same at (G.rings (lent_fits (omega arith) f N)) in

@@ -11,8 +11,7 @@ use Rattle.definition.specs.Book.{compile_base, add_function, add_plain_function
 use Rattle.definition_laws.proofs.Lists.{cond_case}
 use Rattle.definition_laws.proofs.StepPreserves.{same, more}
 use Rattle.building.specs.declared.function_state.FunctionState.{FunctionState}
-use Rattle.building.specs.declared.scopes.Found.{Found}
-use Rattle.building.specs.Found.{found_of}
+use Rattle.building.specs.Found.{Found, found_of}
 use Rattle.building.proofs.Notes.{over_longer}
 use Rattle.compiler_laws.specs.declared.book.Book as struct
 use Rattle.compiler_laws.specs.BookSteps.{resumed_book, AddedLocal}

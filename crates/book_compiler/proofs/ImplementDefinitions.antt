@@ -1,5 +1,6 @@
 -- An implement definition: one lemma for each way through its routines. By the functions one by one, the model, and the methods one by one.
 -- Assumes nothing.
+use Rattle.std.specs.Prelude.{Some, None}
 use Rattle.std.proofs.Common.{◌≡◌, ℕ, ◌+◌, ◌^◌, ◌<◌, ◌≤◌, List, [], ◌∷◌, length, sym, refl, ap, ◌∙◌, subst, arith, length-append}
 use mathlib.Core.Option.{Option, none, some}
 use Rattle.words.specs.Ast.{Token, FunctionDefinition}
@@ -13,9 +14,7 @@ use Rattle.definition.specs.Book.{compile_base, compile_methods, find_model_by, 
 use Rattle.compiler_laws.specs.InsideFunction.{skip_c}
 use Rattle.compiler_laws.proofs.Tokens.{skip_law}
 use Rattle.building.specs.declared.function_state.FunctionState.{FunctionState}
-use Rattle.building.specs.declared.scopes.Found.{Found}
-use Rattle.building.specs.declared.scopes.Found.TheVariants.{At, Nothing}
-use Rattle.building.specs.Found.{found_of}
+use Rattle.building.specs.Found.{Found, found_of}
 use Rattle.compiler_laws.specs.declared.book.Book as struct
 use Rattle.compiler_laws.specs.AddingFunctions.{Bounded}
 use Rattle.compiler_laws.specs.ImplementSteps.{implementing, implementing_all, numbered}
@@ -219,7 +218,7 @@ module _ {tree : List ℕ} {at end : ℕ} {m : BookMemory} where
         answer : found ≡ found_of (sought model fs x).place
         answer = seeks.sought κ ps others (implementing_all fs x) compiled z
 
-        none_represents : found ≡ Nothing → RepresentsBook κ ps others m₂ (compile_implement_definition model fs x)
+        none_represents : found ≡ None → RepresentsBook κ ps others m₂ (compile_implement_definition model fs x)
         none_represents lost = rw (by_parts model fs x, found_none (sought model fs x).place answer lost) looked_for
 
         first_is : m.book.functions ≡ function_count x.context
@@ -228,7 +227,7 @@ module _ {tree : List ℕ} {at end : ℕ} {m : BookMemory} where
         most_is : m₂.book.functions ≡ function_count x.context + length fs
         most_is = functions_count (looked_for.keeping.rest z) ∙ ap function_count (same_context model (implementing_all fs x)) ∙ all_more fs x
 
-        found_represents : {i : ℕ} → found ≡ At i → {m' : BookMemory}
+        found_represents : {i : ℕ} → found ≡ Some i → {m' : BookMemory}
             → ImplementsMethods tree (at + 1) end i m.book.functions m₂.book.functions m₂ m'
             → RepresentsBook κ ps others m' (compile_implement_definition model fs x)
         found_represents {i} is {m'} M =
@@ -243,12 +242,12 @@ module _ {tree : List ℕ} {at end : ℕ} {m : BookMemory} where
       simulates = λ model fs h run q bounded. record { meets = λ κ ps others x H. full_represents model fs h run q bounded H ne };
     }
 
-    pub implement_none : m₂.book.full ≡ 0 → found ≡ Nothing → CompilesImplementDefinition tree at end m m₂
+    pub implement_none : m₂.book.full ≡ 0 → found ≡ None → CompilesImplementDefinition tree at end m m₂
     implement_none z lost = record {
       simulates = λ model fs h run q bounded. record { meets = λ κ ps others x H. none_represents model fs h run q bounded H z lost };
     }
 
-    pub implement_found : m₂.book.full ≡ 0 → {i : ℕ} → found ≡ At i → {m' : BookMemory}
+    pub implement_found : m₂.book.full ≡ 0 → {i : ℕ} → found ≡ Some i → {m' : BookMemory}
         → ImplementsMethods tree (at + 1) end i m.book.functions m₂.book.functions m₂ m' → CompilesImplementDefinition tree at end m m'
     implement_found z is M = record {
       simulates = λ model fs h run q bounded. record { meets = λ κ ps others x H. found_represents model fs h run q bounded H z is M };

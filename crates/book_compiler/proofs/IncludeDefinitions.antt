@@ -1,4 +1,5 @@
 -- One lemma for each way through the routines of an include: what its calls ensure is the definition's. Assumes nothing.
+use Rattle.std.specs.Prelude.{Some, None}
 use Rattle.std.proofs.Common.{◌≡◌, ℕ, ◌+◌, ◌-◌, ◌*◌, ◌<◌, ◌≤◌, Bool, true, false, List, [], ◌∷◌, length, sym, refl, ap, ◌∙◌, arith}
 use mathlib.Core.Option.{Option, none, some}
 use lib.ListN.{get_or-eq_default}
@@ -9,9 +10,7 @@ use Rattle.tree.specs.At.{AliasAt, RunAt, run_size, double, DefinitionAt, size_d
 use Rattle.definition.specs.Uses.{Limits, first_not_public, not_public_area}
 use Rattle.definition.specs.Book.{Book, define_context_local, included_name, give_value, compile_alias}
 use Rattle.definition.specs.Book.{compile_include_definition, public_names, gives_values, compile_include}
-use Rattle.building.specs.declared.scopes.Found.{Found}
-use Rattle.building.specs.declared.scopes.Found.TheVariants.{At, Nothing}
-use Rattle.building.specs.Found.{found_of}
+use Rattle.building.specs.Found.{Found, found_of}
 use Rattle.compiler_laws.specs.declared.book.Book as struct
 use Rattle.compiler_laws.specs.BookAreas.{NamesBooks}
 use Rattle.compiler_laws.specs.BookSteps.{AddedLocal}
@@ -70,17 +69,17 @@ module _ (tree : List ℕ) (at next file : ℕ) {local : ℕ} (hl : local ≡ va
         found ∙ ap found_of (included_law file name (H₁.keeping.rest z) (books_named_unchanged kept B) ∙ included_unchanged file name kept
         ∙ ap (λ (n : ℕ). included_name file n x.context) hn)
 
-    pub alias_none : value ≡ Nothing → CompilesAlias tree at next file m m₁
+    pub alias_none : value ≡ None → CompilesAlias tree at next file m m₁
     alias_none lost =
         after_local_lem (λ κ ps others x B H H₁.
         let d = define_context_local local x in
         rw (go (included_name file (value_at tree at) x.context) d.place d.book (sym (included κ ps others x B H₁) ∙ lost)) H₁)
       where
-        go : (o p : Option ℕ) (x : Book) → found_of o ≡ Nothing → give_value p o x ≡ x
+        go : (o p : Option ℕ) (x : Book) → found_of o ≡ None → give_value p o x ≡ x
         go none p x q = refl
         go (some c) p x q = absurd (let y : ◌≡◌ {A = ℕ} 0 1 = cc in omega arith)
 
-    pub alias_value : {constant : ℕ} → value ≡ At constant → {m' : BookMemory} → SetsLocalValue found constant m₁ m'
+    pub alias_value : {constant : ℕ} → value ≡ Some constant → {m' : BookMemory} → SetsLocalValue found constant m₁ m'
         → CompilesAlias tree at next file m m'
     alias_value {constant} is {m'} L =
         after_local_lem (λ κ ps others x B H H₁.
@@ -90,7 +89,7 @@ module _ (tree : List ℕ) (at next file : ℕ) {local : ℕ} (hl : local ≡ va
         (included_name file (value_at tree at) x.context) (sym (included κ ps others x B H₁) ∙ is) H₁)
       where
         go : (κ : Limits) (ps : List ℕ) (others : ℕ → List ℕ) (x : Book) (p' : Option ℕ) → found ≡ found_of p'
-            → AddedLocal p' x.context → (o : Option ℕ) → found_of o ≡ At constant
+            → AddedLocal p' x.context → (o : Option ℕ) → found_of o ≡ Some constant
             → RepresentsBook κ ps others m₁ x → RepresentsBook κ ps others m' (give_value p' o x)
         go κ ps others x p' r below none q H₁ = absurd (let y : ◌≡◌ {A = ℕ} 0 1 = cc in omega arith)
         go κ ps others x p' r below (some v) q H₁ =

@@ -12,12 +12,11 @@ use Rattle.definition.specs.Compiler.{Work, emit, emit_opcode_without_position, 
 use Rattle.definition.specs.Compiler.{mark_global}
 use Rattle.definition.specs.Program.{Entries, code_entries}
 use Rattle.building.specs.declared.function_state.FunctionState.{FunctionState}
-use Rattle.building.specs.declared.scopes.Found.{Found}
 use Rattle.building.specs.Emission.{Coded, coded, next_c, emit_c, emit_last_c, emit_null_c, remove_pop_c, emit_return_c, replace_c, enter_break_c, deeper_c}
 use Rattle.building.specs.Emission.{depth_c}
 use Rattle.building.specs.Emission.{unless_full}
 use Rattle.building.specs.State.{most_depth, with_scope, with_loop, with_depth, with_local_count}
-use Rattle.building.specs.Found.{found_of, wrapped}
+use Rattle.building.specs.Found.{Found, found_of, wrapped}
 use Rattle.building.specs.Scopes.{Naming, naming, enter_scope_c, exit_scope_c, define_anonymous_c}
 use Rattle.building.specs.Pool.{Pooling, pooling, add_constant_c, Erring}
 use Rattle.building.specs.RepresentsMachine.{machine, RepresentsMachine, is_open}

@@ -1,4 +1,5 @@
 -- One lemma for each way through a routine that compiles no part: what its calls ensure is the definition's step. Assumes nothing.
+use Rattle.std.specs.Prelude.{Some, None}
 use Rattle.std.proofs.Common.{◌≡◌, ℕ, ◌-◌, ◌%◌, ◌^◌, ◌<◌, cond, eqb, List, [], ◌∷◌, ◌++◌, sym, refl, ap, ◌∙◌, arith, eq-eqb, ne_eqb}
 use mathlib.Core.Option.{Option, none, some}
 use Rattle.words.specs.Ast.{Token, Expression, Identifier, This, Null, Integer, Float, Text, Boolean, Array, Prefix, Infix, If, IfElse, Call}
@@ -20,10 +21,8 @@ use Rattle.definition_laws.proofs.StepPreserves.{preserves_name}
 use Rattle.tree.specs.At.{ExpressionAt}
 use Rattle.tree.proofs.View.{ViewE, see_e}
 use Rattle.tree.proofs.View.ViewE.{v_Identifier, v_This, v_Integer, v_Float, v_Text}
-use Rattle.building.specs.declared.scopes.Found.{Found}
-use Rattle.building.specs.declared.scopes.Found.TheVariants.{At, Nothing}
 use Rattle.building.specs.Emission.{emit_c}
-use Rattle.building.specs.Found.{found_of, wrapped}
+use Rattle.building.specs.Found.{Found, found_of, wrapped}
 use Rattle.building.proofs.PoolLaws.{add_constant_inside}
 use Rattle.building.proofs.ContextLaws.{find_context_law}
 use Rattle.building.proofs.StateLaws.{put_reads}
@@ -66,14 +65,14 @@ module _ {start count : ℕ} {m : Memory} (l x g text p : ℕ) where
   pub name_full : (m.state.full ≡ 0 → ⊥) → SimulatesInside start count m m (emit_name l x g text p)
   name_full ne = full_does (preserves_name l x g text p) ne
 
-  pub name_local : m.state.full ≡ 0 → {f : Found} → FindsLocal text f m → {i v : ℕ} → f ≡ At i → v ≡ word (to_instruction l i)
+  pub name_local : m.state.full ≡ 0 → {f : Found} → FindsLocal text f m → {i v : ℕ} → f ≡ Some i → v ≡ word (to_instruction l i)
       → {m' : Memory} → OnCode (emit_c v p) m m' → SimulatesInside start count m m' (emit_name l x g text p)
   unfolding emit_name
   name_local z searched {i} {v} at as-word {m'} d = record {
     meets = λ κ E others w I H. go κ E others w H (find_local text w.function) (sym (local_is searched H z) ∙ at);
   }
     where
-      go : (κ : Limits) (E : Entries) (others : ℕ → List ℕ) (w : Work) → Represents κ E others m w → (o : Option ℕ) → found_of (wrapped o) ≡ At i
+      go : (κ : Limits) (E : Entries) (others : ℕ → List ℕ) (w : Work) → Represents κ E others m w → (o : Option ℕ) → found_of (wrapped o) ≡ Some i
           → Represents κ E others m' (emit_name_by o l x g text p w)
       go κ E others w H none q = absurd (let y : ◌≡◌ {A = ℕ} 0 1 = cc in omega arith)
       go κ E others w H (some j) q =
@@ -81,7 +80,7 @@ module _ {start count : ℕ} {m : Memory} (l x g text p : ℕ) where
           emitted (to_instruction l j) p d (λ y. as-word ∙ ap (λ (n : ℕ). word (to_instruction l n)) same ∙ low_bits l j) (λ y. refl) H
 
   -- no local: by the context's names
-  elsewhere : m.state.full ≡ 0 → {f : Found} → FindsLocal text f m → f ≡ Nothing → {h : Found} → FindsContextLocal start count text h m → {m' : Memory}
+  elsewhere : m.state.full ≡ 0 → {f : Found} → FindsLocal text f m → f ≡ None → {h : Found} → FindsContextLocal start count text h m → {m' : Memory}
       → ((κ : Limits) (E : Entries) (others : ℕ → List ℕ) (w : Work) → Represents κ E others m w → (o : Option ℕ) → h ≡ found_of o
       → Represents κ E others m' (emit_name_in_context o x g text p w)) → SimulatesInside start count m m' (emit_name l x g text p)
   unfolding emit_name
@@ -90,15 +89,15 @@ module _ {start count : ℕ} {m : Memory} (l x g text p : ℕ) where
   }
     where
       go : (κ : Limits) (E : Entries) (others : ℕ → List ℕ) (w : Work) → Inside start count (others context_locals_area) w → Represents κ E others m w
-          → (o : Option ℕ) → found_of (wrapped o) ≡ Nothing → Represents κ E others m' (emit_name_by o l x g text p w)
+          → (o : Option ℕ) → found_of (wrapped o) ≡ None → Represents κ E others m' (emit_name_by o l x g text p w)
       go κ E others w I H none q =
           let found = there.reads.on H.fits in
           let same = H.preserves.same context_locals_area (omega arith) refl in
           after κ E others w H (find_name text w.compiler.locals) ((rw same at found) ∙ ap found_of (find_context_law text I.named))
       go κ E others w I H (some j) q = absurd (let y : ◌≡◌ {A = ℕ} 0 1 = cc in omega arith)
 
-  pub name_context : m.state.full ≡ 0 → {f : Found} → FindsLocal text f m → f ≡ Nothing → {h : Found} → FindsContextLocal start count text h m
-      → {i v : ℕ} → h ≡ At i → v ≡ word (to_instruction x i) → {m' : Memory} → OnCode (emit_c v p) m m' → SimulatesInside start count m m'
+  pub name_context : m.state.full ≡ 0 → {f : Found} → FindsLocal text f m → f ≡ None → {h : Found} → FindsContextLocal start count text h m
+      → {i v : ℕ} → h ≡ Some i → v ≡ word (to_instruction x i) → {m' : Memory} → OnCode (emit_c v p) m m' → SimulatesInside start count m m'
       (emit_name l x g text p)
   name_context z searched lost {h} there {i} {v} at as-word {m'} d = elsewhere z searched lost there go
     where
@@ -108,8 +107,8 @@ module _ {start count : ℕ} {m : Memory} (l x g text p : ℕ) where
       go κ E others w H (some j) q =
           let same : i ≡ j = cc in emitted (to_instruction x j) p d (λ y. as-word ∙ ap (λ (n : ℕ). word (to_instruction x n)) same) (λ y. refl) H
 
-  pub name_global : m.state.full ≡ 0 → {f : Found} → FindsLocal text f m → f ≡ Nothing → {h : Found} → FindsContextLocal start count text h m
-      → h ≡ Nothing → {m' : Memory} → Simulates m m' (emit_global g text p) → SimulatesInside start count m m' (emit_name l x g text p)
+  pub name_global : m.state.full ≡ 0 → {f : Found} → FindsLocal text f m → f ≡ None → {h : Found} → FindsContextLocal start count text h m
+      → h ≡ None → {m' : Memory} → Simulates m m' (emit_global g text p) → SimulatesInside start count m m' (emit_name l x g text p)
   name_global z searched lost {h} there none_there {m'} G = elsewhere z searched lost there go
     where
       go : (κ : Limits) (E : Entries) (others : ℕ → List ℕ) (w : Work) → Represents κ E others m w → (o : Option ℕ) → h ≡ found_of o

@@ -3,8 +3,8 @@
 use Rattle.std.proofs.Common.{◌≡◌, ℕ, zero, suc, ◌-◌, ◌<◌, Bool, true, false, cond, eqb, List, [], ◌∷◌, length, get_or, take, drop, replicate, sym, refl, ap}
 use Rattle.std.proofs.Common.{◌∙◌, subst, arith, eqb-true}
 use borrow.Author.Tests.{eqb-false}
-use Rattle.memory.specs.Layout.{part, with_part, part_count, Fits}
-use Rattle.memory.proofs.Parts.{put_part, put_same, put_other, put_length, ends_within, part_length}
+use Rattle.memory.specs.Layout.{part, part_count, Fits}
+use Rattle.memory.proofs.Parts.{put_part, put_same, put_other, put_length, part_length}
 use Rattle.words.specs.Areas.{books_area}
 use Rattle.definition.specs.Uses.{Use, Limits}
 use Rattle.definition.specs.Book.{Context, book_count, opened}
@@ -16,26 +16,8 @@ use Rattle.compiler_laws.specs.BooksInOrder.{Zero}
 use Rattle.constant_slots.specs.Plain.{pool_of}
 use Rattle.undo.specs.Stood.{Stood}
 use Rattle.book_compiler.specs.RepresentsBook.{book_laid, book_view, is_book_area, RepresentsBook}
-use Rattle.book_compiler.specs.BookOrder.{LentPart, ReadsPart, AtRest, with_books}
+use Rattle.book_compiler.specs.BookOrder.{LentPart, AtRest, with_books}
 use Rattle.book_compiler.proofs.Parts.{slots_same}
-
--- the part was lent
-pub part_lent : {i : ℕ} {R : List ℕ → List ℕ → Type 0} (a w x : List ℕ) → R (part a i w) x → length x ≡ length (part a i w)
-    → LentPart i R a w (with_part a i x w)
-part_lent a w x r l = record { on = λ f. record { words = x; does = r; long = l; is = refl } }
-
--- it does not fit
-pub part_wide : {i : ℕ} → i < 14 → {R : List ℕ → List ℕ → Type 0} (a w w' : List ℕ) → length w < get_or a (suc i) 0 → LentPart i R a w w'
-part_wide {i} h a w w' n = record { on = λ f. absurd (omega (arith, ends_within f i h)) }
-
-pub part_back : {i : ℕ} → i < 14 → {R : List ℕ → List ℕ → Type 0} (a w w' : List ℕ) → get_or a (suc i) 0 < get_or a i 0 → LentPart i R a w w'
-part_back {i} h a w w' n = record { on = λ f. absurd (omega (arith, f.ordered i h)) }
-
-pub read_wide : {i : ℕ} → i < 14 → {R : List ℕ → Type 0} (a w : List ℕ) → length w < get_or a (suc i) 0 → ReadsPart i R a w
-read_wide {i} h a w n = record { on = λ f. absurd (omega (arith, ends_within f i h)) }
-
-pub read_back : {i : ℕ} → i < 14 → {R : List ℕ → Type 0} (a w : List ℕ) → get_or a (suc i) 0 < get_or a i 0 → ReadsPart i R a w
-read_back {i} h a w n = record { on = λ f. absurd (omega (arith, f.ordered i h)) }
 
 module _ {i : ℕ} (h : i < 14) {R : List ℕ → List ℕ → Type 0} {a w w' : List ℕ} (f : Fits a (length w)) (L : LentPart i R a w w') where
   lent_same : part a i w' ≡ (L.on f).words

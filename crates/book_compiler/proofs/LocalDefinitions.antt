@@ -1,4 +1,5 @@
 -- One lemma for each way through the routines of a local definition: what its calls ensure is the definition's. Assumes nothing.
+use Rattle.std.specs.Prelude.{Some, None}
 use Rattle.std.proofs.Common.{◌≡◌, ℕ, ◌+◌, ◌-◌, ◌<◌, ◌≤◌, List, [], ◌∷◌, sym, refl, ap, ◌∙◌, arith, ne_eqb}
 use mathlib.Core.Option.{Option, none, some}
 use Rattle.words.specs.Ast.{Token, Binding}
@@ -8,9 +9,7 @@ use Rattle.tree.specs.At.{ValueAt, BindingAt, RunAt, run_size, double}
 use Rattle.definition.specs.Uses.{Limits}
 use Rattle.definition.specs.Book.{Book, add_book_constant, define_context_local, set_local_value, value_of, compile_value, compile_binding_by}
 use Rattle.definition.specs.Book.{compile_binding, compile_local_definition, NoConstant}
-use Rattle.building.specs.declared.scopes.Found.{Found}
-use Rattle.building.specs.declared.scopes.Found.TheVariants.{At, Nothing}
-use Rattle.building.specs.Found.{found_of}
+use Rattle.building.specs.Found.{Found, found_of}
 use Rattle.compiler_laws.specs.InsideFunction.{standing_of}
 use Rattle.compiler_laws.specs.BookSteps.{AddedLocal}
 use Rattle.compiler_laws.proofs.UnchangedByBooks.{unchanged_constant, unchanged_local, unchanged_binding_by}
@@ -111,18 +110,18 @@ module _ (tree : List ℕ) (at next : ℕ) {name : ℕ} (hn : name ≡ value_at 
       absent (some i) none y there q = refl
       absent (some i) (some t) y there q = absurd (there.1 (ap (λ (v : Token). v.kind) there.0.token ∙ q))
 
-  pub binds_again : m₁.book.full ≡ 0 → found ≡ Nothing → CompilesBinding tree at next m m₁
+  pub binds_again : m₁.book.full ≡ 0 → found ≡ None → CompilesBinding tree at next m m₁
   binds_again z lost =
       after_name (λ κ ps others y v there H H₁.
       let d = define_context_local name y in
       rw (again d.place v d.book (sym lost ∙ (local_defined D).sought κ ps others y H z)) H₁)
     where
-      again : (o : Option ℕ) (v : Option Token) (y : Book) → Nothing ≡ found_of o → compile_binding_by o v y ≡ y
+      again : (o : Option ℕ) (v : Option Token) (y : Book) → None ≡ found_of o → compile_binding_by o v y ≡ y
       again none v y q = refl
       again (some i) v y q = absurd (let z : ◌≡◌ {A = ℕ} 0 1 = cc in omega arith)
 
-  pub binds_value : m₁.book.full ≡ 0 → {kind : ℕ} → kind ≡ kind_at tree next → (kind ≡ 49 → ⊥) → {i : ℕ} → found ≡ At i
-      → {m' : BookMemory} → GivesLocalValue tree next (At i) m₁ m' → CompilesBinding tree at next m m'
+  pub binds_value : m₁.book.full ≡ 0 → {kind : ℕ} → kind ≡ kind_at tree next → (kind ≡ 49 → ⊥) → {i : ℕ} → found ≡ Some i
+      → {m' : BookMemory} → GivesLocalValue tree next (Some i) m₁ m' → CompilesBinding tree at next m m'
   unfolding ValueAt
   binds_value z hk n₁ {i} is {m'} G =
       after_name (λ κ ps others y v there H H₁.
@@ -131,7 +130,7 @@ module _ (tree : List ℕ) (at next : ℕ) {name : ℕ} (hn : name ≡ value_at 
       go κ ps others d.book d.place v there (λ q. n₁ (hk ∙ q)) (sym is ∙ (local_defined D).sought κ ps others y H z) (defined_added name y many) H₁)
     where
       go : (κ : Limits) (ps : List ℕ) (others : ℕ → List ℕ) (y : Book) (o : Option ℕ) (v : Option Token) → ValueAt v tree next
-          → (kind_at tree next ≡ 49 → ⊥) → At i ≡ found_of o → AddedLocal o y.context
+          → (kind_at tree next ≡ 49 → ⊥) → Some i ≡ found_of o → AddedLocal o y.context
           → RepresentsBook κ ps others m₁ y → RepresentsBook κ ps others m' (compile_binding_by o v y)
       go κ ps others y none v there n₁ q below H₁ = absurd (let z : ◌≡◌ {A = ℕ} 0 1 = cc in omega arith)
       go κ ps others y (some j) none there n₁ q below H₁ = absurd (n₁ there.kind_is)

@@ -19,9 +19,8 @@ use Rattle.definition_laws.proofs.StepPreserves.{preserves_emit_constant, preser
 use Rattle.tree.specs.At.{size_e}
 use Rattle.tree.proofs.View.{head_e, size_e_pos}
 use Rattle.building.specs.declared.function_state.FunctionState.{FunctionState}
-use Rattle.building.specs.declared.scopes.Found.{Found}
 use Rattle.building.specs.Emission.{next_c, emit_c, emit_last_c, replace_c, enter_break_c, exit_break_c}
-use Rattle.building.specs.Found.{found_of, wrapped}
+use Rattle.building.specs.Found.{Found, found_of, wrapped}
 use Rattle.building.specs.Scopes.{enter_scope_c, exit_scope_c, define_anonymous_c}
 use Rattle.building.specs.RepresentsMachine.{is_open}
 use Rattle.building.proofs.ScopeLaws.{define_mark}

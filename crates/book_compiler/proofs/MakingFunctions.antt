@@ -21,12 +21,11 @@ use Rattle.definition.specs.Book.{working, compile_base, add_function, add_plain
 use Rattle.definition_laws.proofs.Good.{function_moves}
 use Rattle.definition_laws.proofs.StepPreserves.{preserves_base}
 use Rattle.building.specs.declared.function_state.FunctionState.{FunctionState}
-use Rattle.building.specs.declared.scopes.Found.{Found}
 use Rattle.building.specs.Emission.{Coded, coded, drop_c}
 use Rattle.building.specs.State.{begun, with_code_count}
 use Rattle.building.specs.Scopes.{Naming, naming, end_function_c}
 use Rattle.building.specs.Taking.{given_up}
-use Rattle.building.specs.Found.{found_of}
+use Rattle.building.specs.Found.{Found, found_of}
 use Rattle.building.specs.RepresentsMachine.{machine}
 use Rattle.building.proofs.Filling.{capped}
 use Rattle.building.proofs.BreakLaws.{drop_law}

@@ -1,4 +1,6 @@
 -- One lemma for each way through the routines of a model definition: what its calls ensure is the definition's. Assumes nothing.
+use Rattle.std.specs.Prelude.{Some, None}
+use Rattle.building.specs.Found.{Found}
 use Rattle.std.proofs.Common.{◌≡◌, ℕ, suc, ◌+◌, ◌*◌, ◌<◌, ◌≤◌, Bool, true, false, cond, List, [], ◌∷◌, ◌++◌, length, sym, refl, ap, ◌∙◌, subst, append_assoc}
 use Rattle.std.proofs.Common.{append-nil, arith, length-append}
 use Rattle.words.specs.Ast.{Token}
@@ -12,8 +14,6 @@ use Rattle.definition.specs.Book.{Context, Book, Placed, Model, Properties, has_
 use Rattle.definition.specs.Book.{add_property, compile_properties, add_model, add_book_constant, define_context_local, compile_model_definition}
 use Rattle.definition.specs.Program.{Entries, entries_from, model_entry, model_properties, property_entries, model_table, property_table}
 use Rattle.definition_laws.proofs.Cells.{all_any, entries_length}
-use Rattle.building.specs.declared.scopes.Found.{Found}
-use Rattle.building.specs.declared.scopes.Found.TheVariants.{At, Nothing}
 use Rattle.building.specs.declared.taking.Taken.{Taken}
 use Rattle.building.specs.Taking.{Took}
 use Rattle.building.proofs.ContextLaws.{took_law}
@@ -44,7 +44,7 @@ module _ {tree : List ℕ} {at first : ℕ} {m : BookMemory} where
   property_marked ne = record { meets = λ κ ps others w start H. represents_longer (unchanged_property (token_at tree at) ps w).uses ne H }
 
   module _ (z : m.book.full ≡ 0) {g : Found} {name : ℕ} (value : name ≡ value_at tree at) (searched : FindsProperty first name g m) {m' : BookMemory} where
-    pub property_again : {i : ℕ} → g ≡ At i → PushesBookError 6 (token_at tree at) m m' → AddsModelProperty tree at first m m'
+    pub property_again : {i : ℕ} → g ≡ Some i → PushesBookError 6 (token_at tree at) m m' → AddsModelProperty tree at first m m'
     property_again at_i E = record {
       meets = λ κ ps others w start H.
           area_law (omega arith) refl E.counts
@@ -55,7 +55,7 @@ module _ {tree : List ℕ} {at first : ℕ} {m : BookMemory} where
           (area_of m context_locals_area) (area_of m public_names_area) (area_of m scope_names_area) (area_of m breaks_area) κ ps w start H.keeping);
     }
 
-    pub property_more : g ≡ Nothing → TakesProperty name m m' → AddsModelProperty tree at first m m'
+    pub property_more : g ≡ None → TakesProperty name m m' → AddsModelProperty tree at first m m'
     property_more lost T = record {
       meets = λ κ ps others w start H.
           area_law (omega arith) refl T.counts

@@ -1,13 +1,12 @@
 -- The methods of a book where some stood before the bundle: a routine does to what area 6 says what the law of `compiler_laws` says of it, whatever is noted
 -- in the words. By the laws of `undo`. Assumes nothing.
+use Rattle.std.specs.Prelude.{Some, None}
 use Rattle.std.proofs.Common.{◌≡◌, ℕ, ◌^◌, ◌<◌, ◌≤◌, List, [], ◌∷◌, sym, refl, ap, ◌∙◌, subst, arith}
 use native.Mathlib.Decide.{ℕ_discrete}
 use Rattle.words.specs.Areas.{methods_area, entry_field, write_word}
-use Rattle.building.specs.declared.scopes.Found.{Found}
-use Rattle.building.specs.declared.scopes.Found.TheVariants.{At, Nothing}
 use Rattle.building.specs.declared.taking.Taken.{Taken}
 use Rattle.building.specs.Taking.{Took, taken_of, took_words}
-use Rattle.building.specs.Found.{found_of}
+use Rattle.building.specs.Found.{Found, found_of}
 use Rattle.compiler_laws.specs.declared.book.Book as struct
 use Rattle.compiler_laws.specs.IncludeSteps.{find_pair_c}
 use Rattle.compiler_laws.proofs.BookCounts.{with_method_count}
@@ -43,7 +42,7 @@ module _ (model name function : ℕ) {s : struct.Book} {t : List ℕ} where
   pub inserts_full : (s.full ≡ 0 → ⊥) → InsertsNoted model name function s t s t
   inserts_full ne = record { inserts = λ h f. insert_full model name function ne; spares = methods_stay s t; counts = same_counts s }
 
-  pub inserts_there : s.full ≡ 0 → {g : Found} {i : ℕ} → g ≡ found_of (find_pair_c 3 0 s.methods model name (methods_said s t)) → g ≡ At i → {t' : List ℕ}
+  pub inserts_there : s.full ≡ 0 → {g : Found} {i : ℕ} → g ≡ found_of (find_pair_c 3 0 s.methods model name (methods_said s t)) → g ≡ Some i → {t' : List ℕ}
       → t' ≡ with_function_word s.standing_methods i function t → InsertsNoted model name function s t s t'
   inserts_there z {g} {i} searched at {t'} q = record {
     inserts = λ h small. insert_there model name function z searched at {t' = methods_said s t'} (record {
@@ -54,7 +53,7 @@ module _ (model name function : ℕ) {s : struct.Book} {t : List ℕ} where
     counts = same_counts s;
   }
 
-  pub inserts_new : s.full ≡ 0 → {g : Found} → g ≡ found_of (find_pair_c 3 0 s.methods model name (methods_said s t)) → g ≡ Nothing → {r : Taken} {t' : List ℕ}
+  pub inserts_new : s.full ≡ 0 → {g : Found} → g ≡ found_of (find_pair_c 3 0 s.methods model name (methods_said s t)) → g ≡ None → {r : Taken} {t' : List ℕ}
       → Took methods_area s.full s.methods (model ∷ name ∷ function ∷ []) t r t' → InsertsNoted model name function s t (with_method_count r s) t'
   inserts_new z searched lost {r} {t'} T = record {
     inserts = λ h small. insert_new model name function z searched lost (record {

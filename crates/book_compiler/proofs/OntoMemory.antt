@@ -1,5 +1,6 @@
 -- Calls on a program over one memory: the set of the books that stand has room for their file numbers, and what is promised of the parts is promised of the
 -- areas in the memory; a program that fails the check is left as it is, and a stale commit leaves no errors. By the laws of the layout. Assumes nothing.
+use Rattle.std.specs.Prelude.{Ok, Err}
 use Rattle.std.proofs.Common.{◌≡◌, ℕ, zero, suc, ◌+◌, ◌*◌, ◌<◌, Bool, true, false, ◌&&◌, T, ltb, leb, List, [], ◌∷◌, ◌++◌, length, get_or, take, replicate, sym}
 use Rattle.std.proofs.Common.{refl, ap, ◌∙◌, subst, arith, leb-true}
 use mathlib.Core.Option.{Option, none, some}
@@ -7,9 +8,11 @@ use Rattle.memory.specs.Layout.{part, starts_of, Fits}
 use Rattle.memory.proofs.Starts.{starts_fit}
 use Rattle.words.specs.Areas.{errors_area, books_area}
 use Rattle.words.specs.Record.{most_text}
+use Rattle.words.specs.Row.{row_number}
+use Rattle.words.specs.declared.row.Refused.{Refused}
+use Rattle.words.specs.declared.row.Row.TheVariants.{BadShape}
 use Rattle.words.specs.declared.reply.Totals.{Totals}
 use Rattle.words.specs.declared.reply.Reply as struct
-use Rattle.tree.specs.declared.Shape.TheVariants.{Fine, Refused}
 use Rattle.program_check.specs.Answer.{answer_of}
 use Rattle.program_check.specs.OneMemory as check
 use Rattle.definition.specs.Program.{flat}
@@ -36,11 +39,6 @@ use Rattle.book_compiler.proofs.LentParts.{part_lengths, lent_does, lent_other, 
 use Rattle.book_compiler.proofs.PartsInTurn.{slots_lent, slots_zero}
 use Rattle.book_compiler.proofs.OntoEnding.{errors_alone}
 use Rattle.book_compiler.proofs.StandingSets.{zeros_empty}
-
--- the last of several tests
-pub alone : (b : Bool) → b ≡ b && true
-alone true = refl
-alone false = refl
 
 -- `add_standing`, from an empty set with room
 pub books_held : {t : Totals} {a w set after : List ℕ} → Zero set → BooksBelow (length set * 64) t a w
@@ -77,14 +75,14 @@ books_below t a w = record {
 }
 
 -- a program that passes the check
-no_fault : (o : Option ℕ) → Fine ≡ answer_of o → o ≡ none
+no_fault : (o : Option ℕ) → Ok tt ≡ answer_of o → o ≡ none
 unfolding answer_of
 no_fault none q = refl
 no_fault (some area) q = absurd (let y : ◌≡◌ {A = ℕ} 0 1 = cc in omega arith)
 
 module _ {o : Order} {strict : Bool} {tree : List ℕ} {t : Totals} (lengths w : List ℕ) {w' a : List ℕ} {r : struct.Reply} (twelve : length lengths ≡ 12)
     (a-is : a ≡ starts_of lengths (length w)) (long : length w' ≡ length w)
-    (fine : Fine ≡ answer_of (counted_fault (lent_counted (check.areas_in lengths w) t))) where
+    (fine : Ok tt ≡ answer_of (counted_fault (lent_counted (check.areas_in lengths w) t))) where
   -- what is promised of the parts, and no slots
   into : (let starts = starts_of lengths (length w) in Fits starts (length w) → counted_fault (lent_counted (parts_of starts w) t) ≡ none
       → Answers o strict tree t (parts_of starts w) (parts_of starts w') r × Zero (part starts slots_part w')) → AnswersInto o strict tree t lengths w w' r
@@ -147,28 +145,31 @@ module _ {o : Order} {strict : Bool} {tree : List ℕ} {t : Totals} (lengths w :
         slots_zero f₁ S'.slots,
       ))
 
-fits_not : (number place : ℕ) → Refused number place ≡ answer_of none → ⊥
+fits_not : (found : Refused) → Err found ≡ answer_of none → ⊥
 unfolding answer_of
-fits_not number place q = absurd (let y : ◌≡◌ {A = ℕ} 0 1 = cc in omega arith)
+fits_not found q = absurd (let y : ◌≡◌ {A = ℕ} 0 1 = cc in omega arith)
 
-told : (number place area : ℕ) → Refused number place ≡ answer_of (some area) → (number ≡ 3) × (place ≡ 1048576 + area)
+told : (found : Refused) (area : ℕ) → Err found ≡ answer_of (some area) → (row_number found.row ≡ 3) × (found.place ≡ 1048576 + area)
 unfolding answer_of
-told number place area q = (cc, cc)
+told found area q =
+    let same : found ≡ record { row = BadShape; place = 1048576 + area } = cc in
+    (ap (λ (f : Refused). row_number f.row) same, ap (λ (f : Refused). f.place) same)
 
 -- a program that fails the check is left, and its totals are answered
-pub unfit_into : {o : Order} {strict : Bool} {tree : List ℕ} {t : Totals} (lengths w : List ℕ) {r : struct.Reply} {number place : ℕ} → length lengths ≡ 12
-    → Refused number place ≡ answer_of (counted_fault (lent_counted (check.areas_in lengths w) t)) → r ≡ refusal_with t number place
+pub unfit_into : {o : Order} {strict : Bool} {tree : List ℕ} {t : Totals} (lengths w : List ℕ) {r : struct.Reply} {found : Refused} {number : ℕ}
+    → length lengths ≡ 12
+    → Err found ≡ answer_of (counted_fault (lent_counted (check.areas_in lengths w) t)) → number ≡ row_number found.row → r ≡ refusal_with t number found.place
     → AnswersInto o strict tree t lengths w w r
 unfolding check.areas_in reply_ordered reply_onto areas_ordered areas_onto
-unfit_into {o} {strict} {tree} {t} lengths w {r} {number} {place} twelve refused says = go (counted_fault (lent_counted (areas_in lengths w) t)) refl
+unfit_into {o} {strict} {tree} {t} lengths w {r} {found} {number} twelve refused row says = go (counted_fault (lent_counted (areas_in lengths w) t)) refl
   where
     go : (f : Option ℕ) → counted_fault (lent_counted (areas_in lengths w) t) ≡ f → AnswersInto o strict tree t lengths w w r
-    go none q = absurd (fits_not number place (refused ∙ ap answer_of q))
+    go none q = absurd (fits_not found (refused ∙ ap answer_of q))
     go (some area) q =
         let p = lent_counted (areas_in lengths w) t in
-        let (number_is, place_is) = told number place area (refused ∙ ap answer_of q) in
+        let (number_is, place_is) = told found area (refused ∙ ap answer_of q) in
         let is : answer_in o strict tree t lengths w ≡ Unfit area = ordered_unfit o strict tree p area q in
-        let reply : counted r ≡ reply_ordered o p (answer_in o strict tree t lengths w) = rw (is, says, number_is, place_is) refl in
+        let reply : counted r ≡ reply_ordered o p (answer_in o strict tree t lengths w) = rw (is, says, row, number_is, place_is) refl in
         let words : areas_in lengths w ≡ areas_ordered o p (answer_in o strict tree t lengths w) = rw is refl in
         record { answers = record { reply = reply; words = words }; words = rw is (memory_is lengths w twelve) }
 

@@ -1,13 +1,13 @@
 -- A program that stands made ready for a bundle, and given back: one lemma for each way through the routines of `onto.rt` that do it. By the law of parts, and
 -- of the words of one part by what each routine of `undo` leaves. Assumes nothing.
-use Rattle.std.proofs.Common.{◌≡◌, ℕ, ◌+◌, ◌-◌, ◌*◌, ◌/◌, ◌<◌, ◌≤◌, Bool, true, false, cond, ◌||◌, eqb, List, ◌++◌, length, take, replicate, sym, refl, ap, ◌∙◌}
-use Rattle.std.proofs.Common.{subst, append-nil, div-lt_iff_lt-mul, mul-zero, le-div_iff_mul-le, arith, take_all, eq-eqb, ne_eqb}
+use Rattle.std.proofs.Common.{◌≡◌, ℕ, ◌+◌, ◌<◌, ◌≤◌, Bool, true, false, cond, ◌||◌, eqb, List, length, sym, refl, ap, ◌∙◌}
+use Rattle.std.proofs.Common.{subst, arith}
 use borrow.Author.Tests.{eqb-false}
 use Rattle.memory.specs.Layout.{part, Fits}
-use Rattle.words.specs.Areas.{constants_area, methods_area, errors_area, width_of, cleared_from}
+use Rattle.words.specs.Areas.{constants_area, methods_area, errors_area, cleared_from}
 use Rattle.words.specs.declared.reply.Totals.{Totals}
 use Rattle.words.specs.Reply.{total_of}
-use Rattle.undo.specs.Notes.{noted_marks, noted_methods, restored_marks, restored_methods}
+use Rattle.undo.specs.Notes.{noted_marks, noted_methods}
 use Rattle.constant_slots.specs.Plain.{pool_of}
 use Rattle.constant_slots.specs.Slots.{slots_of}
 use Rattle.compiler_laws.proofs.CallEnd.{cleared_zero}
@@ -78,39 +78,6 @@ made_ready t {a} {w} {w₁} {w₂} {w₃} {w₄} E K T S = record {
             ∙ by-constants i h (λ e. eqb-false i constants_area (not_constants i q) (sym e)) ∙ by-errors i h (λ e. not_errors i q (sym e));
       };
 }
-
--- the ways of `clear_entries`
-module _ (area count : ℕ) (l : List ℕ) {width : ℕ} (width_is : width ≡ width_of area) where
-  pub clear_all : width ≡ 0 → {after : List ℕ} → after ≡ cleared_from 0 l → after ≡ cleared_from (count * width_of area) l
-  clear_all z is =
-      let none : count * width_of area ≡ 0 = ap (λ (n : ℕ). count * n) (sym width_is ∙ z) ∙ mul-zero count in
-      is ∙ ap (λ (n : ℕ). cleared_from n l) (sym none)
-
-  pub clear_behind : {after : List ℕ} → after ≡ cleared_from (count * width) l → after ≡ cleared_from (count * width_of area) l
-  clear_behind is = is ∙ ap (λ (n : ℕ). cleared_from (count * n) l) width_is
-
-  module _ (ne : width ≡ 0 → ⊥) where
-    pub entries_fit : count ≤ length l / width → count * width ≤ length l
-    entries_fit h = (le-div_iff_mul-le {k = width} {x = count} {y = length l} (omega (arith, ne))).0 h
-
-    -- nothing is behind them
-    pub clear_nothing : length l / width < count → l ≡ cleared_from (count * width_of area) l
-    clear_nothing h =
-        let past : length l < count * width = (div-lt_iff_lt-mul {k = width} {x = length l} {y = count} (omega (arith, ne))).0 h in
-        let none : length l - count * width ≡ 0 = omega arith in
-        clear_behind
-        (sym (ap (λ (n : ℕ). take (count * width) l ++ replicate n 0) none ∙ append-nil (take (count * width) l) ∙ take_all (count * width) l (omega arith)))
-
--- the ways of `give_back_words`
-module _ (i count : ℕ) (l : List ℕ) {l₁ : List ℕ} (cleared : l₁ ≡ cleared_from (count * width_of i) l) where
-  pub back_constants : i ≡ constants_area → {after : List ℕ} → after ≡ restored_marks count l₁ → after ≡ given_back i count l
-  back_constants e is = rw (eq-eqb i constants_area e) (is ∙ ap (restored_marks count) cleared)
-
-  pub back_methods : (i ≡ constants_area → ⊥) → i ≡ methods_area → {after : List ℕ} → after ≡ restored_methods count l₁ → after ≡ given_back i count l
-  back_methods ne e is = rw (ne_eqb i constants_area ne, eq-eqb i methods_area e) (is ∙ ap (restored_methods count) cleared)
-
-  pub back_other : (i ≡ constants_area → ⊥) → (i ≡ methods_area → ⊥) → l₁ ≡ given_back i count l
-  back_other ne ne' = rw (ne_eqb i constants_area ne, ne_eqb i methods_area ne') cleared
 
 -- the ways of `give_back`: a part more, and the slots after the last
 pub back_more : (t : Totals) {i total : ℕ} {a w w₁ w₂ : List ℕ} → i < slots_part → ChangedUpTo (λ j l. given_back j (total_of t j) l) 1 i a w w₁

@@ -1,5 +1,6 @@
 -- One lemma for each way through the routines that compile a function's parameters and its base, on one memory. With the mark set nothing that is found
 -- says anything, so they return at once. Assumes nothing.
+use Rattle.std.specs.Prelude.{Some, None, is_some}
 use Rattle.std.proofs.Common.{◌≡◌, ℕ, ◌+◌, ◌<◌, ◌≤◌, Bool, true, false, cond, eqb, List, [], ◌∷◌, length, sym, refl, ap, ◌∙◌, subst, arith}
 use mathlib.Core.Option.{Option, none, some}
 use Rattle.words.specs.Ast.{Token}
@@ -15,11 +16,9 @@ use Rattle.definition.specs.Program.{Entries}
 use Rattle.definition_laws.proofs.StepPreserves.{preserves_parameter, preserves_parameters}
 use Rattle.tree.specs.At.{Leaf, ParametersAt}
 use Rattle.building.specs.declared.function_state.FunctionState.{FunctionState}
-use Rattle.building.specs.declared.scopes.Found.{Found}
-use Rattle.building.specs.declared.scopes.Found.TheVariants.{At, Nothing}
 use Rattle.building.specs.Emission.{parameters_c, emit_return_c}
 use Rattle.building.specs.State.{with_parameters}
-use Rattle.building.specs.Found.{found_of, wrapped}
+use Rattle.building.specs.Found.{Found, found_of, wrapped}
 use Rattle.building.specs.RepresentsMachine.{RepresentsMachine, is_open}
 use Rattle.building.proofs.StateLaws.{parameters_law}
 use Rattle.building.proofs.Notes.{held_longer}
@@ -34,6 +33,15 @@ use Rattle.book_compiler.specs.FunctionSteps.{CompilesParameter, CompilesParamet
 use Rattle.book_compiler.proofs.ConstantCount.{parameters_count}
 use Rattle.book_compiler.proofs.StoodFunctions.{Onward, onward_unless}
 use Rattle.book_compiler.proofs.Laws.{alone, defined, defined_found, pushed, returned, last_is}
+
+-- what was found, or that nothing was
+pub some_is : (found : Found) → is_some found ≡ true → (i : ℕ) × (found ≡ Some i)
+some_is (Some i) e = (i, refl)
+some_is None e = absurd (let z : ◌≡◌ {A = ℕ} 0 1 = cc in omega arith)
+
+pub none_is : (found : Found) → is_some found ≡ false → found ≡ None
+none_is (Some i) e = absurd (let z : ◌≡◌ {A = ℕ} 0 1 = cc in omega arith)
+none_is None e = refl
 
 -- the mark stays
 parameters_mark : (i : Bool) (p : ℕ) (s : FunctionState) → (parameters_c i p s).full ≡ s.full
@@ -93,19 +101,19 @@ module _ {tree : List ℕ} {at : ℕ} {s : FunctionState} {a l : List ℕ} where
       found_is : found ≡ found_of (wrapped (define_local t.value (flagged t w).function).found)
       found_is = defined_found D' flagged_held live₁ open'
 
-    pub parameter_new : {index : ℕ} → found ≡ At index → CompilesParameter tree at (laid s a l) (laid s₂ a l')
+    pub parameter_new : {index : ℕ} → found ≡ Some index → CompilesParameter tree at (laid s a l) (laid s₂ a l')
     unfolding compile_parameter compile_bare
     parameter_new {index} new = record {
       meets = λ t h κ E others w o H.
           go t (define_local t.value (flagged t w).function).found (sym (found_is o H t h) ∙ new) (defined_held o H t h);
     }
       where
-        go : {κ : Limits} {E : Entries} {others : ℕ → List ℕ} {w : Work} (t : Token) (o : Option ℕ) → found_of (wrapped o) ≡ At index
+        go : {κ : Limits} {E : Entries} {others : ℕ → List ℕ} {w : Work} (t : Token) (o : Option ℕ) → found_of (wrapped o) ≡ Some index
             → Represents κ E others (laid s₂ a l') w → Represents κ E others (laid s₂ a l') (bare_by o 7 t w)
         go t none q H = absurd (let z : ◌≡◌ {A = ℕ} 0 1 = cc in omega arith)
         go t (some j) q H = H
 
-    pub parameter_there : found ≡ Nothing → {position : ℕ} {m' : Memory} → position ≡ position_at tree at → PushesError 7 position kind name (laid s₂ a l') m'
+    pub parameter_there : found ≡ None → {position : ℕ} {m' : Memory} → position ≡ position_at tree at → PushesError 7 position kind name (laid s₂ a l') m'
         → CompilesParameter tree at (laid s a l) m'
     unfolding compile_parameter compile_bare
     parameter_there lost {position} {m'} position-is F = record {
@@ -115,7 +123,7 @@ module _ {tree : List ℕ} {at : ℕ} {s : FunctionState} {a l : List ℕ} where
     }
       where
         go : {κ : Limits} {E : Entries} {others : ℕ → List ℕ} {w : Work} (t : Token) → t ≡ token position kind name → (o : Option ℕ)
-            → found_of (wrapped o) ≡ Nothing → Represents κ E others (laid s₂ a l') w → Represents κ E others m' (bare_by o 7 t w)
+            → found_of (wrapped o) ≡ None → Represents κ E others (laid s₂ a l') w → Represents κ E others m' (bare_by o 7 t w)
         go t h none q H = rw h (pushed 7 (token position kind name) F H)
         go t h (some j) q H = absurd (let z : ◌≡◌ {A = ℕ} 0 1 = cc in omega arith)
 

@@ -1,9 +1,9 @@
 -- A routine that is lent one part of the memory does to the machine that the memory is what it does to its area. One law over the part's number.
 -- Assumes nothing.
-use Rattle.std.proofs.Common.{◌≡◌, ℕ, suc, ◌<◌, Bool, true, false, cond, eqb, List, length, get_or, sym, refl, ap, ◌∙◌, subst, arith, ne_eqb, eqb-true}
+use Rattle.std.proofs.Common.{◌≡◌, ℕ, ◌<◌, Bool, true, false, cond, eqb, List, length, sym, refl, ap, ◌∙◌, subst, arith, ne_eqb, eqb-true}
 use borrow.Author.Tests.{eqb-false}
 use Rattle.memory.specs.Layout.{part, with_part, Fits}
-use Rattle.memory.proofs.Parts.{put_part, put_fits, ends_within}
+use Rattle.memory.proofs.Parts.{put_part, put_fits}
 use Rattle.constant_slots.specs.Plain.{pool_of}
 use Rattle.constant_slots.specs.Slots.{slots_of}
 use Rattle.definition.specs.Uses.{Limits}
@@ -14,7 +14,6 @@ use Rattle.building.specs.RepresentsMachine.{Machine, machine, RepresentsMachine
 use Rattle.undo.specs.Notes.{plain_marks}
 use Rattle.undo.specs.Stood.{Stood}
 use Rattle.book_compiler.specs.Represents.{Memory, laid, part_of, view, is_built, Behind, Preserves, SlotsFilled, Represents, On}
-use Rattle.book_compiler.specs.Leaves.{Reads}
 use Rattle.book_compiler.proofs.Stood.{stood_put}
 
 -- the machine that a memory is with another state and another part i
@@ -113,24 +112,3 @@ pub on_other : {κ : Limits} {E : Entries} {others : ℕ → List ℕ} {i : ℕ}
     → ((x : List ℕ) → R (part_of m i) x → RepresentsMachine κ E (with_area i m'.state x m) w') → Represents κ E others m' w'
 on_other {m = m} {m' = m'} lt built not_slots not_constants o H spared count law = on_law lt built not_slots o H spared
     (λ x r. ap (λ (t : Bool). pool_of m'.state.constants (cond t x (part_of m 2))) not_constants ∙ ap (λ (n : ℕ). pool_of n (part_of m 2)) (count x r)) law
-
--- what a routine that was lent part i does to it, once the memory has its layout
-pub on_part : {i : ℕ} {R : List ℕ → List ℕ → Type 0} {s s' : FunctionState} (a w x : List ℕ) → R (part a i w) x → length x ≡ length (part a i w)
-    → On i R (laid s a w) (laid s' a (with_part a i x w))
-on_part a w x r l = record { same = refl; on = λ f. record { words = x; does = r; long = l; is = refl } }
-
--- and one that was not lent it, since it does not fit
-pub on_wide : {i : ℕ} → i < 14 → {R : List ℕ → List ℕ → Type 0} {s s' : FunctionState} (a w w' : List ℕ) → length w < get_or a (suc i) 0
-    → On i R (laid s a w) (laid s' a w')
-on_wide {i} h a w w' n = record { same = refl; on = λ f. absurd (omega (arith, ends_within f i h)) }
-
-pub on_back : {i : ℕ} → i < 14 → {R : List ℕ → List ℕ → Type 0} {s s' : FunctionState} (a w w' : List ℕ) → get_or a (suc i) 0 < get_or a i 0
-    → On i R (laid s a w) (laid s' a w')
-on_back {i} h a w w' n = record { same = refl; on = λ f. absurd (omega (arith, f.ordered i h)) }
-
--- a routine that reads part i
-pub reads_wide : {i : ℕ} → i < 14 → {R : List ℕ → Type 0} {s : FunctionState} (a w : List ℕ) → length w < get_or a (suc i) 0 → Reads i R (laid s a w)
-reads_wide {i} h a w n = record { on = λ f. absurd (omega (arith, ends_within f i h)) }
-
-pub reads_back : {i : ℕ} → i < 14 → {R : List ℕ → Type 0} {s : FunctionState} (a w : List ℕ) → get_or a (suc i) 0 < get_or a i 0 → Reads i R (laid s a w)
-reads_back {i} h a w n = record { on = λ f. absurd (omega (arith, f.ordered i h)) }

@@ -1,56 +1,14 @@
--- Routines that are lent part after part, but for that of the errors: the ways of one that is lent a part by its number, and the turns of a loop over the
--- parts, whatever it makes of each; and the slots cleared. By the law of parts. Assumes nothing.
-use Rattle.std.proofs.Common.{◌≡◌, ℕ, suc, ◌+◌, ◌-◌, ◌<◌, ◌≤◌, List, ◌++◌, length, get_or, take, drop, replicate, sym, refl, ap, ◌∙◌, subst, arith}
+-- Routines that are lent part after part, but for that of the errors: the turns of a loop over the parts, whatever it makes of each; and the slots cleared.
+-- By the law of parts. Assumes nothing.
+use Rattle.std.proofs.Common.{◌≡◌, ℕ, ◌+◌, ◌<◌, ◌≤◌, List, length, replicate, sym, ap, ◌∙◌, subst, arith}
 use native.Mathlib.Decide.{ℕ_discrete}
 use lib.ListN.{length-replicate}
-use Rattle.memory.specs.Layout.{part, with_part, part_count, Fits}
+use Rattle.memory.specs.Layout.{part, part_count, Fits}
 use Rattle.words.specs.Areas.{errors_area}
 use Rattle.compiler_laws.specs.BooksInOrder.{Zero}
 use Rattle.book_compiler.specs.Leaves.{ClearsSlots}
 use Rattle.book_compiler.specs.BookOrder.{LentPart, LentButErrors}
-use Rattle.book_compiler.proofs.LentParts.{part_lent, part_wide, part_back, lent_does, lent_other}
-
--- the errors' part is passed over
-pub errors_stay : {i : ℕ} {R : List ℕ → List ℕ → Type 0} {a w : List ℕ} → i ≡ errors_area → LentButErrors i R a w w
-errors_stay e = record { errors = λ _. refl; others = λ n _. absurd (n e) }
-
--- another one is lent: it ends where the next one begins
-pub lent_at : (i e : ℕ) → e ≡ i + 1 → (i ≡ errors_area → ⊥) → {R : List ℕ → List ℕ → Type 0} (a w x : List ℕ)
-    → R (take (get_or a e 0 - get_or a i 0) (drop (get_or a i 0) w)) x → length x ≡ length (take (get_or a e 0 - get_or a i 0) (drop (get_or a i 0) w))
-    → LentButErrors i R a w (take (get_or a i 0) w ++ (x ++ drop (get_or a e 0 - get_or a i 0) (drop (get_or a i 0) w)))
-unfolding part with_part
-lent_at i e e-is n {R} a w x r l =
-    let next : e ≡ suc i = omega (arith, e-is) in
-    record {
-      errors = λ h. absurd (n h);
-      others = λ _ _.
-          subst (λ (k : ℕ). LentPart i R a w (take (get_or a i 0) w ++ (x ++ drop (get_or a k 0 - get_or a i 0) (drop (get_or a i 0) w)))) (sym next)
-          (part_lent {i = i} a w x (subst (λ (k : ℕ). R (take (get_or a k 0 - get_or a i 0) (drop (get_or a i 0) w)) x) next r)
-          (subst (λ (k : ℕ). length x ≡ length (take (get_or a k 0 - get_or a i 0) (drop (get_or a i 0) w))) next l));
-    }
-
--- it does not fit
-pub wide_at : (i e : ℕ) → e ≡ i + 1 → (i ≡ errors_area → ⊥) → {R : List ℕ → List ℕ → Type 0} (a w : List ℕ) → length w < get_or a e 0
-    → LentButErrors i R a w w
-wide_at i e e-is n a w h =
-    let next : e ≡ suc i = omega (arith, e-is) in
-    record {
-      errors = λ q. absurd (n q);
-      others = λ _ g. part_wide {i = i} g a w w (subst (λ (k : ℕ). length w < get_or a k 0) next h);
-    }
-
-pub back_at : (i e : ℕ) → e ≡ i + 1 → (i ≡ errors_area → ⊥) → {R : List ℕ → List ℕ → Type 0} (a w : List ℕ) → get_or a e 0 < get_or a i 0
-    → LentButErrors i R a w w
-back_at i e e-is n a w h =
-    let next : e ≡ suc i = omega (arith, e-is) in
-    record {
-      errors = λ q. absurd (n q);
-      others = λ _ g. part_back {i = i} g a w w (subst (λ (k : ℕ). get_or a k 0 < get_or a i 0) next h);
-    }
-
--- there is no such part
-pub no_part : {i : ℕ} {R : List ℕ → List ℕ → Type 0} {a w : List ℕ} → (i ≡ errors_area → ⊥) → part_count ≤ i → LentButErrors i R a w w
-no_part n h = record { errors = λ e. absurd (n e); others = λ _ g. absurd (omega arith) }
+use Rattle.book_compiler.proofs.LentParts.{lent_does, lent_other}
 
 -- the parts from one up to another were changed, each by its number, but for that of the errors
 pub record ChangedUpTo (F : ℕ → List ℕ → List ℕ) (from i : ℕ) (starts before after : List ℕ) : Type 0 where
@@ -58,9 +16,6 @@ pub record ChangedUpTo (F : ℕ → List ℕ → List ℕ) (from i : ℕ) (start
   pub errors : Fits starts (length before) → part starts errors_area after ≡ part starts errors_area before
   pub done : Fits starts (length before) → (j : ℕ) → from ≤ j → j < i → (j ≡ errors_area → ⊥) → part starts j after ≡ F j (part starts j before)
   pub left : Fits starts (length before) → (j : ℕ) → i ≤ j → j < part_count → part starts j after ≡ part starts j before
-
-pub change_start : (F : ℕ → List ℕ → List ℕ) (i : ℕ) (a w : List ℕ) → ChangedUpTo F i i a w w
-change_start F i a w = record { long = refl; errors = λ f. refl; done = λ f j lo hi n. absurd (omega arith); left = λ f j lo hi. refl }
 
 -- a part more
 pub change_more : {F : ℕ → List ℕ → List ℕ} {from i : ℕ} {a w w₁ w₂ : List ℕ} → i < part_count → ChangedUpTo F from i a w w₁

@@ -6,29 +6,28 @@ use lib.ListN.{get_or-append}
 use Rattle.words.specs.Areas.{entries_in, entry_field, set_entry, word_fits}
 use Rattle.words.specs.Object.{Constant, constant_of}
 use Rattle.words.proofs.Entries.{field_in}
-use Rattle.constant_slots.specs.Plain.{constant_at, constants_from, pool_of, is_constant}
-use Rattle.constant_slots.specs.Plain as plain
+use Rattle.constant_slots.specs.Plain.{constant_at, constants_from, pool_of}
 use Rattle.constant_slots.specs.Slots.{slots_of, search_slots, put_slot, put_number}
 use Rattle.constant_slots.proofs.Filling.{slots_grow, pool_grows, pool_length}
 use Rattle.constant_slots.proofs.Agree.{slots_agree}
 use Rattle.building.specs.declared.function_state.FunctionState.{FunctionState}
 use Rattle.building.specs.Found.{find_constant_c}
 use Rattle.building.specs.Found as building
+use Rattle.constant_slots.specs.Plain as plain
 use Rattle.building.specs.Taking.{taken}
 use Rattle.building.specs.Pool.{add_no_check_c, mark_global_c}
 use Rattle.building.proofs.Filling.{room_fits}
 use Rattle.book_compiler.specs.Leaves.{mark_unmarked_c}
 
--- the plain search of `constant_slots` is that of `building`
+-- the plain search of `constant_slots` is that of `building`: both are the one of `words`
 first_same : (test : ℕ → Bool) (k i : ℕ) → plain.first_from test k i ≡ building.first_from test k i
-unfolding plain.first_from building.first_from
-first_same test zero i = refl
-first_same test (suc k) i = rw (first_same test k (i + 1)) refl
+first_same test k i = refl
 
+-- the search through a table so filled
 pub search_same : (n count : ℕ) (c : Constant) (w slots : List ℕ) → slots ≡ slots_of n (pool_of count w)
     → (search_slots count c w slots).found ≡ find_constant_c count c w
 search_same n count c w slots q =
-    ap (λ (t : List ℕ). (search_slots count c w t).found) q ∙ slots_agree n count w c ∙ first_same (is_constant c w) count 0
+    ap (λ (t : List ℕ). (search_slots count c w t).found) q ∙ slots_agree n count w c
 
 -- the pool by its constants
 pool_alike : (k i : ℕ) (w v : List ℕ) → ((j : ℕ) → j < i + k → constant_at v j ≡ constant_at w j) → constants_from k i v ≡ constants_from k i w

@@ -1,6 +1,6 @@
 -- The slots of one memory filled anew with the first constants, or cleared: the turns of `fill_slots`, and that the
 -- slots are then as `Represents` wants them. By the constants so far. Assumes nothing.
-use Rattle.std.proofs.Common.{◌≡◌, ℕ, suc, ◌+◌, ◌-◌, ◌<◌, ◌≤◌, List, ◌++◌, length, get_or, take, drop, replicate, sym, refl, ap, ◌∙◌, subst, arith}
+use Rattle.std.proofs.Common.{◌≡◌, ℕ, suc, ◌+◌, ◌-◌, ◌<◌, ◌≤◌, min, Bool, true, false, ltb, ltb-true, ltb-false, List, ◌++◌, length, get_or, take, drop, replicate, sym, refl, ap, ◌∙◌, subst, arith}
 use Rattle.std.proofs.Common.{take-append-drop, length-take-le, take_at, drop_at}
 use Rattle.memory.specs.Layout.{part, with_part, Fits}
 use Rattle.memory.proofs.Parts.{put_part, put_fits, part_length, ends_within}
@@ -8,6 +8,7 @@ use Rattle.constant_slots.specs.Plain.{constants_from, pool_of}
 use Rattle.constant_slots.specs.Slots.{fill, slots_of}
 use Rattle.constant_slots.proofs.Filling.{filled_again, filled_early}
 use Rattle.book_compiler.specs.Represents.{SlotsFilled, Replaced}
+use Rattle.book_compiler.specs.BookOrder.{ReadsPart}
 use Rattle.book_compiler.specs.Leaves.{PutsSlot, FillsSlots, ClearsSlots, ConstantWord}
 
 -- of two parts of the same number the second counts
@@ -59,22 +60,27 @@ module _ {a w : List ℕ} where
         };
   }
 
-  pub fill_last : {i count : ℕ} {w₁ : List ℕ} → FillsZeros i a w w₁ → i ≡ count → FillsZeros count a w w₁
-  fill_last {w₁ = w₁} F q = subst (λ (n : ℕ). FillsZeros n a w w₁) q F
-
-  pub fill_early : {i count : ℕ} {w₁ : List ℕ} → FillsZeros i a w w₁ → i ≡ get_or a 14 0 - get_or a 13 0 → i ≤ count → FillsZeros count a w w₁
-  fill_early {i} {count} F q h = record {
+  -- up to the last constant, or to the last slot
+  pub fill_last : {i count : ℕ} {w₁ x : List ℕ} → FillsZeros i a w w₁ → ReadsPart 13 (λ (y : List ℕ). x ≡ y) a w → i ≡ min count (length x)
+      → FillsZeros count a w w₁
+  fill_last {i} {count} {w₁} {x} F R q = record {
     on = λ f z.
         let P = F.on f z in
         let n = length (part a 13 w) in
-        let all : i ≡ n = q ∙ sym (part_length w f 13 (omega arith)) in
-        record {
-          words = P.words;
-          does = filled_early n n i count (part a 2 w) P.does refl all h;
-          long = P.long;
-          is = P.is;
-        };
+        let size : length x ≡ n = ap length (R.on f) in
+        let full : n ≤ count → P.words ≡ slots_of n (pool_of count (part a 2 w)) =
+        λ h. filled_early n n i count (part a 2 w) P.does refl (omega (arith, q, size, h)) (omega (arith, q)) in
+        let all : count ≤ n → P.words ≡ slots_of n (pool_of count (part a 2 w)) =
+        λ h. subst (λ (k : ℕ). P.words ≡ slots_of n (pool_of k (part a 2 w))) (omega (arith, q, size, h)) P.does in
+        record { words = P.words; does = either n count full all; long = P.long; is = P.is };
   }
+    where
+      either : {A : Type 0} (n k : ℕ) → (n ≤ k → A) → (k ≤ n → A) → A
+      either {A} n k f g = go (ltb n k) refl
+        where
+          go : (t : Bool) → ltb n k ≡ t → A
+          go true e = f (omega (arith, ltb-true n k e))
+          go false e = g (ltb-false n k e)
 
   pub fill_all : {count : ℕ} {w₁ w₂ : List ℕ} → ClearsSlots a w w₁ → FillsZeros count a w₁ w₂ → FillsSlots count a w w₂
   fill_all {count} {w₁} {w₂} C Z = record {
@@ -106,7 +112,3 @@ module _ {a w : List ℕ} where
             ∙ ap (λ (n : ℕ). slots_of n (pool_of count (part a 2 w))) (sym (ap length table ∙ P.long))
             ∙ ap (λ (k : List ℕ). slots_of (length (part a 13 w₁)) (pool_of count k)) (sym pool);
       }
-
-  -- and without constants the empty ones
-  pub slots_cleared : {w₁ : List ℕ} → ClearsSlots a w w₁ → Fits a (length w) → SlotsFilled 0 a w₁
-  slots_cleared C f = slots_filled (fill_all C fill_first) f

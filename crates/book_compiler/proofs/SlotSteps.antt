@@ -1,68 +1,27 @@
 -- The ways through the routines of `slots.rt` and through `add_constant`: constants and slots lent one after the other, by the parts of the memory. Assumes
 -- nothing.
-use Rattle.std.proofs.Common.{◌≡◌, ℕ, suc, ◌+◌, ◌<◌, ◌≤◌, Bool, true, false, cond, eqb, List, length, get_or, sym, refl, ap, ◌∙◌, subst, arith, ne_eqb}
+use Rattle.std.proofs.Common.{◌≡◌, ℕ, ◌+◌, ◌<◌, ◌≤◌, Bool, true, false, cond, eqb, List, length, sym, refl, ap, ◌∙◌, subst, arith, ne_eqb}
 use mathlib.Core.Option.{Option, none, some}
 use borrow.Author.Tests.{eqb-false}
-use Rattle.memory.specs.Layout.{part, with_part, Fits}
-use Rattle.memory.proofs.Parts.{put_part, put_fits, ends_within}
+use Rattle.memory.specs.Layout.{part, Fits}
+use Rattle.memory.proofs.Parts.{put_part, put_fits}
 use Rattle.words.specs.Object.{constant_of, is_shared}
-use Rattle.constant_slots.specs.declared.plain.Found as slots
-use Rattle.constant_slots.specs.declared.plain.Found.TheVariants as found
-use Rattle.constant_slots.specs.declared.slots.Looked.{Looked}
+use Rattle.std.specs.Prelude as code
 use Rattle.constant_slots.specs.Plain as plain
 use Rattle.constant_slots.specs.Plain.{pool_of}
-use Rattle.constant_slots.specs.Slots.{slots_of, put_number, search_slots, looked_of}
+use Rattle.constant_slots.specs.Slots.{slots_of, put_number}
 use Rattle.building.specs.declared.function_state.FunctionState.{FunctionState}
-use Rattle.building.specs.State.{with_constants}
-use Rattle.building.specs.Taking.{taken}
 use Rattle.building.specs.Found.{found_of, find_constant_c}
 use Rattle.building.specs.Pool.{Pooling, pooling, add_no_check_c}
 use Rattle.building.proofs.PoolWays.{add_full, add_found, add_new, add_plain}
-use Rattle.book_compiler.specs.Represents.{Memory, laid, part_of, Slotted, Replaced}
+use Rattle.book_compiler.specs.Represents.{Memory, laid, part_of, Slotted}
 use Rattle.book_compiler.specs.Leaves.{ConstantAdded, AddsConstant, AddsNewConstant, AddsNoCheck, FindsConstant, PutsSlot}
 use Rattle.book_compiler.proofs.Parts.{slots_same}
 use Rattle.book_compiler.proofs.BothParts.{replacing}
 use Rattle.book_compiler.proofs.PoolSlots.{search_same, slots_more, more_constants, same_constants}
 
--- `add_constant_no_check` in cells
-pub no_check_words : (kind value : ℕ) (s : FunctionState) (k : List ℕ) {i : ℕ} {a : FunctionState} {k' : List ℕ} (t : FunctionState)
-    → a ≡ with_constants (taken t.full t.constants) s → pooling i t k' ≡ add_no_check_c kind value s k
-    → pooling i a k' ≡ add_no_check_c kind value s k
-no_check_words kind value s k t kept q =
-    let is = ap (λ (m : Pooling). m.state) q in
-    rw (kept ∙ ap (λ (t : FunctionState). with_constants (taken t.full t.constants) s) is ∙ sym is) q
-
--- a part that was lent, and one that was not, since it does not fit
-pub part_put : {i : ℕ} {R : List ℕ → List ℕ → Type 0} (a w x : List ℕ) → R (part a i w) x → length x ≡ length (part a i w)
-    → Replaced i R a w (with_part a i x w)
-part_put a w x r l = record { words = x; does = r; long = l; is = refl }
-
-pub part_wide : {i : ℕ} → i < 14 → {R : List ℕ → List ℕ → Type 0} {a w w' : List ℕ} → Fits a (length w) → length w < get_or a (suc i) 0
-    → Replaced i R a w w'
-part_wide {i} h f n = absurd (omega (arith, ends_within f i h))
-
-pub part_back : {i : ℕ} → i < 14 → {R : List ℕ → List ℕ → Type 0} {a w w' : List ℕ} → Fits a (length w) → get_or a (suc i) 0 < get_or a i 0
-    → Replaced i R a w w'
-part_back {i} h f n = absurd (omega (arith, f.ordered i h))
-
--- `find_constant`
-pub finds_wide : {i : ℕ} → i < 14 → {kind value : ℕ} {r : slots.Found} {s : FunctionState} (a w : List ℕ) → length w < get_or a (suc i) 0
-    → FindsConstant kind value r (laid s a w)
-finds_wide {i} h a w n = record { on = λ f. absurd (omega (arith, ends_within f i h)) }
-
-pub finds_back : {i : ℕ} → i < 14 → {kind value : ℕ} {r : slots.Found} {s : FunctionState} (a w : List ℕ) → get_or a (suc i) 0 < get_or a i 0
-    → FindsConstant kind value r (laid s a w)
-finds_back {i} h a w n = record { on = λ f. absurd (omega (arith, f.ordered i h)) }
-
-pub finds_constant : {kind value count : ℕ} {s : FunctionState} {a w : List ℕ} {r : Looked} → count ≡ s.constants
-    → r ≡ looked_of (search_slots count (constant_of kind value) (part a 2 w) (part a 13 w)) → FindsConstant kind value r.found (laid s a w)
-finds_constant {kind} {value} {count} {s} {a} {w} {r} n q = record {
-  on = λ f. ap (λ (l : Looked). l.found) q
-      ∙ ap (λ (k : ℕ). plain.found_of (search_slots k (constant_of kind value) (part a 2 w) (part a 13 w)).found) n;
-}
-
 -- on filled slots it finds what `building` finds
-finds_same : {kind value : ℕ} {r : slots.Found} {m : Memory} → FindsConstant kind value r m → Fits m.starts (length m.words) → Slotted m
+finds_same : {kind value : ℕ} {r : code.Option ℕ} {m : Memory} → FindsConstant kind value r m → Fits m.starts (length m.words) → Slotted m
     → r ≡ plain.found_of (find_constant_c m.state.constants (constant_of kind value) (part_of m 2))
 finds_same {kind} {value} {r} {m} F f S =
     F.on f ∙ ap plain.found_of (search_same (length (part_of m 13)) m.state.constants (constant_of kind value) (part_of m 2) (part_of m 13) S.filled)
@@ -76,18 +35,18 @@ pub adds_full : (kind value : ℕ) {m : Memory} → (m.state.full ≡ 0 → ⊥)
 adds_full kind value {m} ne = record { adds = λ f S. unchanged f S (add_full kind value m.state (part_of m 2) ne) }
 
 module _ {kind value index : ℕ} {m : Memory} (z : m.state.full ≡ 0) {shared : Bool} (q : shared ≡ is_shared kind) where
-  pub adds_found : shared ≡ true → {r : slots.Found} → FindsConstant kind value r m → r ≡ found.At index → AddsConstant kind value index m m
+  pub adds_found : shared ≡ true → {r : code.Option ℕ} → FindsConstant kind value r m → r ≡ code.Some index → AddsConstant kind value index m m
   adds_found y {r} F at = record {
     adds = λ f S. unchanged f S
         (add_found kind value m.state (part_of m 2) z q y (go (find_constant_c m.state.constants (constant_of kind value) (part_of m 2))
         (sym (finds_same F f S) ∙ at)) refl);
   }
     where
-      go : (o : Option ℕ) → plain.found_of o ≡ found.At index → found_of (some index) ≡ found_of o
+      go : (o : Option ℕ) → plain.found_of o ≡ code.Some index → found_of (some index) ≡ found_of o
       go none e = absurd (let x : ◌≡◌ {A = ℕ} 0 1 = cc in omega arith)
       go (some j) e = let same : index ≡ j = cc in rw same
 
-  pub adds_new : shared ≡ true → {r : slots.Found} → FindsConstant kind value r m → r ≡ found.Nothing → {m' : Memory}
+  pub adds_new : shared ≡ true → {r : code.Option ℕ} → FindsConstant kind value r m → r ≡ code.None → {m' : Memory}
       → AddsNewConstant kind value index m m' → AddsConstant kind value index m m'
   adds_new y {r} F lost {m'} A = record {
     adds = λ f S.
@@ -101,7 +60,7 @@ module _ {kind value index : ℕ} {m : Memory} (z : m.state.full ≡ 0) {shared 
         };
   }
     where
-      go : (o : Option ℕ) → plain.found_of o ≡ found.Nothing → found_of none ≡ found_of o
+      go : (o : Option ℕ) → plain.found_of o ≡ code.None → found_of none ≡ found_of o
       go none e = refl
       go (some j) e = absurd (let x : ◌≡◌ {A = ℕ} 0 1 = cc in omega arith)
 

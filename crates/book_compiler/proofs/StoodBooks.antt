@@ -1,5 +1,6 @@
 -- Each routine of a book's definitions leaves what stood before the call: it writes nothing with the mark set, and else behind a count, or to an entry of the
 -- book's own. By cases over each, and by what a step leaves of the context. Assumes nothing.
+use Rattle.std.specs.Prelude.{Some, None}
 use Rattle.std.proofs.Common.{◌≡◌, ℕ, zero, suc, ◌+◌, ◌-◌, ◌*◌, ◌^◌, ◌<◌, ◌≤◌, Bool, true, false, cond, eqb, ltb, List, [], ◌∷◌, ◌++◌, length, sym, refl, ap}
 use Rattle.std.proofs.Common.{◌∙◌, subst, arith, length-append}
 use mathlib.Core.Option.{Option, none, some}
@@ -20,12 +21,10 @@ use Rattle.definition.specs.Program.{bit, public_entries, assembly_publics, cons
 use Rattle.definition_laws.proofs.Cells.{single_length}
 use Rattle.definition_laws.proofs.StepPreserves.{NotesGrow}
 use Rattle.building.specs.declared.function_state.FunctionState.{FunctionState}
-use Rattle.building.specs.declared.scopes.Found.{Found}
-use Rattle.building.specs.declared.scopes.Found.TheVariants.{At, Nothing}
 use Rattle.building.specs.declared.taking.Taken.{Taken}
 use Rattle.building.specs.State.{begun}
 use Rattle.building.specs.Taking.{Took, taken, taken_of}
-use Rattle.building.specs.Found.{found_of, first_from, find_context_local_c}
+use Rattle.building.specs.Found.{Found, found_of, first_from, find_context_local_c}
 use Rattle.building.specs.Pool.{Pooling, pooling, add_constant_c}
 use Rattle.building.specs.Context.{Localing, localing, define_context_by, define_context_c, set_value_c, function_state_words}
 use Rattle.compiler_laws.specs.declared.book.Book as struct
@@ -244,12 +243,12 @@ local_spares s name {g} {T} {l} {l'} q =
   where
     go : (t : Bool) (o : Option ℕ)
         → Spares context_locals_area s.full (s.locals * 4) l
-        (cond t (define_context_by o s.full s.locals s.file name l) (localing Nothing (taken s.full s.locals) l)).locals
+        (cond t (define_context_by o s.full s.locals s.file name l) (localing None (taken s.full s.locals) l)).locals
     go false o = spares_refl l
     go true (some i) = spares_refl l
     go true none = spares_took context_locals_area s.full s.locals (s.locals * 4) (s.file ∷ name ∷ 0 ∷ 0 ∷ []) l (λ z. omega arith)
 
-pub value_spares : {s : struct.Book} {found : Found} (constant : ℕ) {l l' : List ℕ} → s.full ≡ 0 → (i : ℕ) → found ≡ At i
+pub value_spares : {s : struct.Book} {found : Found} (constant : ℕ) {l l' : List ℕ} → s.full ≡ 0 → (i : ℕ) → found ≡ Some i
     → l' ≡ set_value_c s.full s.locals i constant l → SparesLocals s found l l'
 unfolding set_value_c
 value_spares {s} {found} constant {l} {l'} z i at q = record {
@@ -330,7 +329,7 @@ pub publics_stay : {s : struct.Book} {u : List ℕ} → SparesPublics s u u
 publics_stay {u = u} = record { words = λ below h g. spares_refl u }
 
 pub public_replaced : {s : struct.Book} (name : ℕ) {place i : ℕ} {g : Found} {u u' : List ℕ} {a : Bool} → s.full ≡ 0
-    → g ≡ found_of (find_pair_c 3 s.first_public s.publics s.file name u) → g ≡ At i → Patched 3 i 2 place u u' a → SparesPublics s u u'
+    → g ≡ found_of (find_pair_c 3 s.first_public s.publics s.file name u) → g ≡ Some i → Patched 3 i 2 place u u' a → SparesPublics s u u'
 public_replaced {s} name {place} {i} {g} {u} {u'} z searched at P = record {
   words = λ below h g.
       let own : s.first_public ≤ i = go (find_pair_c 3 s.first_public s.publics s.file name u) refl (sym searched ∙ at) in
@@ -339,7 +338,7 @@ public_replaced {s} name {place} {i} {g} {u} {u'} z searched at P = record {
       let lower : k < below = under z in omega (arith, lower, low, own, e)));
 }
   where
-    go : (o : Option ℕ) → find_pair_c 3 s.first_public s.publics s.file name u ≡ o → found_of o ≡ At i → s.first_public ≤ i
+    go : (o : Option ℕ) → find_pair_c 3 s.first_public s.publics s.file name u ≡ o → found_of o ≡ Some i → s.first_public ≤ i
     go none q e = absurd (let y : ◌≡◌ {A = ℕ} 0 1 = cc in omega arith)
     go (some j) q e =
         let same : j ≡ i = cc in

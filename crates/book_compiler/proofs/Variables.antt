@@ -1,5 +1,6 @@
 -- One lemma for each way through a local statement's variables. A local's number stands in 64 bits, and an instruction's word has its low bits only; with
 -- the mark set nothing that is found says anything. Assumes nothing.
+use Rattle.std.specs.Prelude.{Some, None}
 use Rattle.std.proofs.Common.{◌≡◌, ℕ, ◌+◌, ◌%◌, ◌^◌, ◌<◌, ◌≤◌, Bool, true, false, eqb, List, length, sym, refl, ap, ◌∙◌, subst, arith, eqb-true}
 use mathlib.Core.Option.{Option, none, some}
 use borrow.Author.Tests.{eqb-false}
@@ -18,13 +19,11 @@ use Rattle.definition_laws.proofs.StepPreserves.{preserves_expression}
 use Rattle.tree.specs.At.{VariablesAt, size_e, size_vs}
 use Rattle.tree.proofs.View.{head_e, size_e_pos, value_there}
 use Rattle.building.specs.RepresentsMachine.{is_open}
-use Rattle.building.specs.declared.scopes.Found.{Found}
-use Rattle.building.specs.declared.scopes.Found.TheVariants.{At, Nothing}
 use Rattle.building.specs.Emission.{emit_c}
-use Rattle.building.specs.Found.{found_of, wrapped}
+use Rattle.building.specs.Found.{Found, found_of, wrapped}
 use Rattle.building.specs.Scopes.{naming, Defines, define_c}
 use Rattle.compiler_laws.specs.InsideFunction.{Inside, skip_c}
-use Rattle.compiler_laws.specs.Cells.{defined}
+use Rattle.building.specs.Scopes.{defined}
 use Rattle.compiler_laws.proofs.ScopesBalanced.{scopes_define, scopes_bare, scopes_valued, scopes_expression}
 use Rattle.compiler_laws.proofs.StepsInOrder.{inside_after}
 use Rattle.compiler_laws.proofs.ConstantLeaves.{low_bits}
@@ -37,7 +36,7 @@ use Rattle.book_compiler.proofs.Laws.{emitted, defined_found, pushed}
 use Rattle.book_compiler.proofs.Laws as laws
 
 -- what was defined was defined where nothing is full
-defined_live : {name index : ℕ} {m m' : Memory} {found : Found} → DefinesLocal name found m m' → found ≡ At index → Fits m.starts (length m.words)
+defined_live : {name index : ℕ} {m m' : Memory} {found : Found} → DefinesLocal name found m m' → found ≡ Some index → Fits m.starts (length m.words)
     → m.state.full ≡ 0
 unfolding define_c
 defined_live {name} {index} {m} {m'} {found} D at f = go (eqb m.state.full 0) refl
@@ -51,7 +50,7 @@ defined_live {name} {index} {m} {m'} {found} D at f = go (eqb m.state.full 0) re
 
 -- it is what the definition defines
 here : {κ : Limits} {E : Entries} {others : ℕ → List ℕ} {w : Work} {name index : ℕ} {m m' : Memory} {found : Found} → DefinesLocal name found m m'
-    → found ≡ At index → Represents κ E others m w → is_open w.function.scopes ≡ true → found_of (wrapped (define_local name w.function).found) ≡ At index
+    → found ≡ Some index → Represents κ E others m w → is_open w.function.scopes ≡ true → found_of (wrapped (define_local name w.function).found) ≡ Some index
 here D new H op = sym (defined_found D H (defined_live D new H.fits) op) ∙ new
 
 -- a name defined, and then a step by what was found
@@ -68,7 +67,7 @@ as_token tree at k p v q = rw (k, p, v) q
 module _ {tree : List ℕ} {at end start count name position : ℕ} (name-is : name ≡ value_at tree at) (position-is : position ≡ position_at tree at)
     {m m₁ : Memory} {found : Found} (D : DefinesLocal name found m m₁) where
   -- the name is there already
-  pub variable_there : {kind : ℕ} {m' : Memory} → found ≡ Nothing → kind ≡ kind_at tree at → PushesError 1 position kind name m₁ m'
+  pub variable_there : {kind : ℕ} {m' : Memory} → found ≡ None → kind ≡ kind_at tree at → PushesError 1 position kind name m₁ m'
       → CompilesVariable tree at end start count m m'
   unfolding compile_bare compile_valued
   variable_there {kind} {m'} lost kind_is F = record {
@@ -82,7 +81,7 @@ module _ {tree : List ℕ} {at end start count name position : ℕ} (name-is : n
       u = token position kind name
 
       by_found : (by : Option ℕ → Step) → ((w : Work) → by none w ≡ push_error 1 u w) → {κ : Limits} {E : Entries} {others : ℕ → List ℕ} (w : Work)
-          → Represents κ E others m' (push_error 1 u w) → (o : Option ℕ) → found_of (wrapped o) ≡ Nothing → Represents κ E others m' (by o w)
+          → Represents κ E others m' (push_error 1 u w) → (o : Option ℕ) → found_of (wrapped o) ≡ None → Represents κ E others m' (by o w)
       by_found by q w G none z = rw (q w) G
       by_found by q w G (some j) z = absurd (let y : ◌≡◌ {A = ℕ} 0 1 = cc in omega arith)
 
@@ -105,7 +104,7 @@ module _ {tree : List ℕ} {at end start count name position : ℕ} (name-is : n
           (λ S. record { meets = λ κ E others w I H. go by q S κ E others w I H (eqb m.state.full 0) refl })
 
   -- a new name
-  module _ {index : ℕ} (new : found ≡ At index) {kind : ℕ} (kind_is : kind ≡ kind_at tree (at + 1)) where
+  module _ {index : ℕ} (new : found ≡ Some index) {kind : ℕ} (kind_is : kind ≡ kind_at tree (at + 1)) where
     pub variable_bare : kind ≡ 49 → CompilesVariable tree at end start count m m₁
     unfolding compile_bare
     variable_bare q = record {
@@ -118,7 +117,7 @@ module _ {tree : List ℕ} {at end start count name position : ℕ} (name-is : n
     }
       where
         go : {κ : Limits} {E : Entries} {others : ℕ → List ℕ} (t : Token) (w : Work) → Represents κ E others m₁ w → (o : Option ℕ)
-            → found_of (wrapped o) ≡ At index → Represents κ E others m₁ (bare_by o 1 t w)
+            → found_of (wrapped o) ≡ Some index → Represents κ E others m₁ (bare_by o 1 t w)
         go t w H none z = absurd (let y : ◌≡◌ {A = ℕ} 0 1 = cc in omega arith)
         go t w H (some j) z = H
 
@@ -140,7 +139,7 @@ module _ {tree : List ℕ} {at end start count name position : ℕ} (name-is : n
       where
         go : (κ : Limits) (E : Entries) (others : ℕ → List ℕ) (t : Token) (x : Expression) → position ≡ t.position → (w : Work)
             → Represents κ E others m₂ (compile_expression x w)
-            → (o : Option ℕ) → found_of (wrapped o) ≡ At index → Represents κ E others m' (valued_by o t (compile_expression x) w)
+            → (o : Option ℕ) → found_of (wrapped o) ≡ Some index → Represents κ E others m' (valued_by o t (compile_expression x) w)
         go κ E others t x p w H none z = absurd (let y : ◌≡◌ {A = ℕ} 0 1 = cc in omega arith)
         go κ E others t x p w H (some j) z =
             let same : index ≡ j % 2 ^ 64 = cc in

@@ -1,15 +1,14 @@
 -- What a routine does to a book where it is lent one part of the memory
 -- Private contracts alone cite this file: whoever reads the promises need not believe it
+use Rattle.std.specs.Prelude.{Some}
 use Rattle.std.specs.Prelude.{◌≡◌, ℕ, ◌*◌, ◌^◌, ◌<◌, ◌≤◌, Bool, List, length, ◌≢◌}
 use Rattle.memory.specs.Layout.{Fits}
 use Rattle.words.specs.Ast.{Token}
 use Rattle.words.specs.Areas.{constants_area, properties_area, methods_area, context_locals_area, public_names_area, errors_area, books_area}
 use Rattle.definition.specs.Book.{push_book_error, define_context_local}
 use Rattle.building.specs.declared.function_state.FunctionState.{FunctionState}
-use Rattle.building.specs.declared.scopes.Found.{Found}
-use Rattle.building.specs.declared.scopes.Found.TheVariants.{At}
 use Rattle.building.specs.State.{begun}
-use Rattle.building.specs.Found.{found_of, find_context_local_c}
+use Rattle.building.specs.Found.{Found, found_of, find_context_local_c}
 use Rattle.compiler_laws.specs.declared.book.Book as struct
 use Rattle.compiler_laws.specs.BookSteps.{resumed_book, ErrorsDo, LocalsSeek, LocalsValue}
 use Rattle.compiler_laws.specs.IncludeSteps.{find_pair_c, included_c, AsksMode}
@@ -27,7 +26,7 @@ pub record SameCounts (s s' : struct.Book) : Type 0 where
 
 -- a value is written to the local that was found
 pub record SparesLocals (s : struct.Book) (found : Found) (l l' : List ℕ) : Type 0 where
-  pub words : (below : ℕ) → (s.full ≡ 0 → (i : ℕ) → found ≡ At i → below ≤ i * 4) → Spares context_locals_area s.full below l l'
+  pub words : (below : ℕ) → (s.full ≡ 0 → (i : ℕ) → found ≡ Some i → below ≤ i * 4) → Spares context_locals_area s.full below l l'
 
 -- of the methods that stood functions alone are written, and what is noted in their words stays
 pub record SparesMethods (s : struct.Book) (t : List ℕ) (s' : struct.Book) (t' : List ℕ) : Type 0 where

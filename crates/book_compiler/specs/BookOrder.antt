@@ -1,6 +1,7 @@
 -- What the routines of `driver.rt`, `order.rt` and `ending.rt` promise: the books of a bundle one after the other over one memory, and how they end
 -- Private contracts alone cite this file: whoever reads the promises need not believe it
-use Rattle.std.specs.Prelude.{◌≡◌, ℕ, ◌+◌, ◌/◌, ◌%◌, ◌<◌, ◌≤◌, Bool, true, false, cond, List, [], ◌∷◌, ◌++◌, length, drop, ◌==◌, ◌≢◌, slice_index}
+use Rattle.std.specs.Prelude.{◌≡◌, Option, Some, None, ℕ, ◌+◌, ◌/◌, ◌%◌, ◌<◌, ◌≤◌, Bool}
+use Rattle.std.specs.Prelude.{true, false, cond, List, [], ◌∷◌, ◌++◌, length, drop, ◌==◌, ◌≢◌, slice_index}
 use Rattle.memory.specs.Layout.{part, part_count, Fits}
 use Rattle.words.specs.Ast.{Document}
 use Rattle.words.specs.Areas.{entries_in, entry_field, constants_area, errors_area, books_area}
@@ -47,18 +48,20 @@ with_books others books i = cond (i == books_area) books (others i)
 pub record AtRest (κ : Limits) (others : ℕ → List ℕ) (m : BookMemory) (context : Context) (uses : List Use) : Type 0 where
   pub represents : RepresentsContext κ (with_books others (area_of m books_area)) m context uses
 
--- `next_book`: the first waiting book that is ready, its number at the place of entry `done` of area 12; an index from the count on where none is ready
+-- `next_book`: the first waiting book that is ready, its number at the place of entry `done` of area 12; nothing where none is ready
 pub record Picked (tree : List ℕ) (end done count : ℕ) (set : List ℕ) (r : Next) (books after : List ℕ) : Type 0 where
+  pub index : ℕ
+  pub inside : index < count
   -- area 12 before the number was moved
   pub marked : List ℕ
-  pub ready : FindsReady tree end done count set books r.index marked
-  pub file : r.file ≡ entry_field 1 r.index 0 marked / book_unit
-  pub at : r.at ≡ entry_field 1 r.index 0 marked % place_unit
-  pub moved : Brings marked done r.index r.file after
+  pub ready : FindsReady tree end done count set books index marked
+  pub file : r.file ≡ entry_field 1 index 0 marked / book_unit
+  pub at : r.at ≡ entry_field 1 index 0 marked % place_unit
+  pub moved : Brings marked done index r.file after
 
-pub record PicksNext (tree : List ℕ) (end done count : ℕ) (set : List ℕ) (r : Next) (books after : List ℕ) : Type 0 where
-  pub found : r.index < count → Picked tree end done count set r books after
-  pub nothing : count ≤ r.index → FindsReady tree end done count set books r.index after
+pub record PicksNext (tree : List ℕ) (end done count : ℕ) (set : List ℕ) (found : Option Next) (books after : List ℕ) : Type 0 where
+  pub picked : (next : Next) → found ≡ Some next → Picked tree end done count set next books after
+  pub nothing : found ≡ None → FindsReady tree end done count set books count after
 
 -- `ring`: an error for each book left; the other parts stay
 pub record PushesRingErrorsIn (i count : ℕ) (t : Taken) (starts before : List ℕ) (r : Taken) (after : List ℕ) : Type 0 where

@@ -1,5 +1,6 @@
 -- What the routines of a book's definitions promise over one memory: whatever book it stands for before, it stands for the definition's after
 -- Private contracts alone cite this file: whoever reads the promises need not believe it
+use Rattle.building.specs.Found.{Found}
 use Rattle.std.specs.Prelude.{◌≡◌, ℕ, ◌+◌, ◌^◌, ◌<◌, ◌≤◌, List, [], ◌∷◌, length}
 use Rattle.std.proofs.Math.Option.{Option, some}
 use Rattle.words.specs.Ast.{Token, Binding, Alias, FunctionDefinition, IncludeDefinition, ApplyDefinition}
@@ -14,7 +15,6 @@ use Rattle.definition.specs.Book.{compile_alias, compile_include_definition, com
 use Rattle.definition.specs.Book.{compile_model_definition, find_model_index_by_local_name, compile_apply_definition, compile_function_definition}
 use Rattle.definition.specs.Book.{add_methods, compile_implement_definition}
 use Rattle.definition.specs.Within.{All}
-use Rattle.building.specs.declared.scopes.Found.{Found}
 use Rattle.building.specs.declared.taking.Taken.{Taken}
 use Rattle.building.specs.Taking.{Took}
 use Rattle.compiler_laws.specs.declared.book.Book as struct

@@ -12,8 +12,7 @@ use Rattle.definition.specs.Compiler.{Work, with_function, compile_parameter, co
 use Rattle.definition.specs.Book.{Book, push_book_error, compile_base, add_plain_function}
 use Rattle.definition.specs.Program.{Entries, code_table}
 use Rattle.building.specs.declared.function_state.FunctionState.{FunctionState}
-use Rattle.building.specs.declared.scopes.Found.{Found}
-use Rattle.building.specs.Found.{found_of}
+use Rattle.building.specs.Found.{Found, found_of}
 use Rattle.building.specs.RepresentsMachine.{LocalsHeld, is_open}
 use Rattle.compiler_laws.specs.declared.book.Book as struct
 use Rattle.compiler_laws.specs.BookSteps.{AddedLocal}

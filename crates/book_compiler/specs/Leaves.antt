@@ -5,19 +5,18 @@ use Rattle.memory.specs.Layout.{part_count, Fits}
 use Rattle.words.specs.Areas.{code_area, constants_area, context_locals_area, scope_names_area, breaks_area, errors_area, entry_field}
 use Rattle.words.specs.Object.{constant_of}
 use Rattle.words.specs.Opcode.{to_instruction, word, Jump}
-use Rattle.constant_slots.specs.declared.plain.Found as slots
+use Rattle.std.specs.Prelude as code
 use Rattle.constant_slots.specs.Plain as plain
 use Rattle.constant_slots.specs.Plain.{pool_of}
 use Rattle.constant_slots.specs.Slots.{slots_of, put_number, search_slots}
 use Rattle.building.specs.declared.function_state.FunctionState.{FunctionState}
-use Rattle.building.specs.declared.scopes.Found.{Found}
 use Rattle.building.specs.State.{with_breaks}
 use Rattle.building.specs.Taking.{taken_of, took_words, given_up}
-use Rattle.building.specs.Found.{found_of, find_context_local_c}
+use Rattle.building.specs.Found.{Found, found_of, find_context_local_c}
 use Rattle.building.specs.Emission.{Coded, coded, Breaking, breaking, last_position_c, next_c, patch_c}
 use Rattle.building.specs.Scopes.{Naming, naming, find_local_c, Defines}
 use Rattle.building.specs.Pool.{Pooling, pooling, add_no_check_c, add_constant_c, mark_global_c, erring, push_error_c}
-use Rattle.compiler_laws.specs.Cells.{defined}
+use Rattle.building.specs.Scopes.{defined}
 use Rattle.memory.specs.Layout.{part}
 use Rattle.book_compiler.specs.Represents.{Memory, part_of, slots_part, Slotted, Replaced, On}
 
@@ -52,7 +51,7 @@ pub record AddsNoCheck (kind value index : ℕ) (m m' : Memory) : Type 0 where
   pub acts : On constants_area (λ k k'. pooling index m'.state k' ≡ add_no_check_c kind value m.state k) m m'
 
 -- the search through the slots, of constants and slots as they are
-pub record FindsConstant (kind value : ℕ) (r : slots.Found) (m : Memory) : Type 0 where
+pub record FindsConstant (kind value : ℕ) (r : code.Option ℕ) (m : Memory) : Type 0 where
   pub on : Fits m.starts (length m.words)
       → r ≡ plain.found_of (search_slots m.state.constants (constant_of kind value) (part_of m constants_area) (part_of m slots_part)).found
 
@@ -98,7 +97,7 @@ pub record FindsLocal (name : ℕ) (r : Found) (m : Memory) : Type 0 where
 pub record FindsContextLocal (start count name : ℕ) (r : Found) (m : Memory) : Type 0 where
   pub reads : Reads context_locals_area (λ l. r ≡ found_of (find_context_local_c start count name l)) m
 
--- a break's entry more, in cells
+-- a break's entry more
 pub record PushesBreak (index : ℕ) (s : FunctionState) (b : List ℕ) (s' : FunctionState) (b' : List ℕ) : Type 0 where
   pub state : s' ≡ with_breaks (taken_of breaks_area 1 s.full s.breaks (length b)) s
   pub breaks : b' ≡ took_words s.full s.breaks (index ∷ []) b

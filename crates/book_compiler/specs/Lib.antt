@@ -1,5 +1,6 @@
 pub mod Represents
 pub mod Leaves
+pub mod Lending
 pub mod Members
 pub mod Onto
 pub mod Orders
@@ -9,4 +10,7 @@ pub mod BookLeaves
 pub mod DefinitionSteps
 pub mod BookOrder
 pub mod Promise
+pub mod Rows
+pub mod Subtrees
+pub mod SetMembers
 pub mod FunctionSteps

@@ -10,8 +10,7 @@ use Rattle.definition.specs.Uses.{Use, Limits}
 use Rattle.definition.specs.Book.{Context, Book, BookStep, Placed, MaybePlaced, book_count, opened, compile_definition, compile_definitions}
 use Rattle.definition.specs.Within.{All}
 use Rattle.definition_laws.proofs.Limits.{LimitedFunction, LimitedDocument, functions_in}
-use Rattle.building.specs.declared.scopes.Found.{Found}
-use Rattle.building.specs.Found.{found_of}
+use Rattle.building.specs.Found.{Found, found_of}
 use Rattle.compiler_laws.specs.declared.book.Book as struct
 use Rattle.compiler_laws.specs.BookAreas.{BookAreas, book_areas, RepresentsAreas, NamesBooks}
 use Rattle.compiler_laws.specs.OpenedBooks.{opened_book, nobody}

@@ -1,50 +1,35 @@
-// The book under compilation over one memory: its errors, lent their part, and its constants. Part i has the words from starts[i] up to starts[i + 1].
+// The book under compilation over one memory: its errors, lent their part, and its constants.
 ghost use Rattle.std.specs.Prelude.{◌≡◌};
 ghost use Rattle.words.specs.Record.{token_at, kind_at, position_at, value_at};
+ghost use Rattle.words.specs.Reply.{number_of_error};
 ghost use Rattle.building.specs.Pool.{erring, push_error_c};
 ghost use Rattle.building.specs.State.{begun};
 ghost use Rattle.compiler_laws.specs.BookSteps.{resumed_book};
 ghost use Rattle.book_compiler.specs.RepresentsBook.{book_laid};
 ghost use Rattle.book_compiler.specs.BookLeaves.{PushesBookError, AddsBookConstant};
 
-use crate::{cells, function_state};
+use crate::function_state;
+use crate::lent::lend_with;
 use building::function_state::FunctionState;
-use building::pool;
-use building::scopes::Found;
 use compiler_laws::book::Book;
-use words::record;
 use words::record::field;
-
-// A constant's number, with the book.
-#[derive(Clone, Copy)]
-pub struct Placed {
-    pub place: u64,
-    pub book: Book,
-}
-
-// What may be found, with the book.
-#[derive(Clone, Copy)]
-pub struct Sought {
-    pub found: Found,
-    pub book: Book,
-}
+use words::reply::CompileError;
+use words::{areas, record};
 
 // The state that functions, constants and errors work on, and back.
-pub(crate) fn working(book: Book) -> FunctionState
-    ensures { result ≡ begun book.full book.code book.constants book.errors }
+pub(crate) fn working(book: &Book) -> FunctionState
+    ensures { result ≡ begun book.now.full book.now.code book.now.constants book.now.errors }
 {
-    building::function_state::new(book.full, book.code, book.constants, book.errors)
+    FunctionState::new(book.full, book.code, book.constants, book.errors)
 }
 
-pub(crate) fn resumed(book: Book, state: FunctionState) -> Book
-    ensures { result ≡ resumed_book book state }
+pub(crate) fn resume(book: &mut Book, state: FunctionState)
+    ensures { book.new ≡ resumed_book book.old state }
 {
-    let mut b = book;
-    b.full = state.full;
-    b.code = state.code;
-    b.constants = state.constants;
-    b.errors = state.errors;
-    b
+    book.full = state.full;
+    book.code = state.code;
+    book.constants = state.constants;
+    book.errors = state.errors;
 }
 
 // An error at the token that a record is, with the state that errors work on.
@@ -52,16 +37,16 @@ fn fault(
     tree: &[u64],
     at: usize,
     errors: &mut [u64],
-    state: FunctionState,
-    number: u64,
-) -> FunctionState
-    ensures { erring result errors.new ≡ push_error_c number (position_at tree.now at) (kind_at tree.now at)
-        (value_at tree.now at) state errors.old }
+    state: &mut FunctionState,
+    error: CompileError,
+)
+    ensures { erring state.new errors.new ≡ push_error_c (number_of_error error) (position_at tree.now at) (kind_at tree.now at)
+        (value_at tree.now at) state.old errors.old }
 {
     let kind = field(tree, at, record::KIND);
     let position = field(tree, at, record::POSITION);
     let value = field(tree, at, record::VALUE);
-    pool::push_error(errors, state, number, position, kind, value)
+    state.push_error(errors, error.number(), position, kind, value);
 }
 
 // An error at the token that a record is.
@@ -70,40 +55,36 @@ pub(crate) fn push_error(
     memory: &mut [u64],
     tree: &[u64],
     at: usize,
-    book: Book,
-    number: u64,
-) -> Book
-    ensures { PushesBookError number (token_at tree.now at) (book_laid book starts.now memory.old)
-        (book_laid result starts.now memory.new) }
+    book: &mut Book,
+    error: CompileError,
+)
+    ensures { PushesBookError (number_of_error error) (token_at tree.now at) (book_laid book.old starts.now memory.old)
+        (book_laid book.new starts.now memory.new) }
 {
-    let start = starts[11];
-    let end = starts[12];
-    if start <= end {
-        if end <= memory.len() {
-            let before = working(book);
-            let state = fault(tree, at, &mut memory[start..end], before, number);
-            return resumed(book, state);
-        }
-    }
-    book
+    let mut state = working(book);
+    lend_with(
+        starts,
+        memory,
+        areas::ERRORS,
+        &mut state,
+        |errors, state| fault(tree, at, errors, state, error),
+    );
+    resume(book, state);
 }
 
 // The constant of a function that begins, in the book's state.
 pub(crate) fn add_constant(
     starts: &[usize; 15],
     memory: &mut [u64],
-    book: Book,
+    book: &mut Book,
     kind: u64,
     value: u64,
-) -> Placed
-    ensures { AddsBookConstant kind value result.place (book_laid book starts.now memory.old)
-        (book_laid result.book starts.now memory.new) }
+) -> u64
+    ensures { AddsBookConstant kind value result (book_laid book.old starts.now memory.old)
+        (book_laid book.new starts.now memory.new) }
 {
-    let before = working(book);
-    let mut cells: [u64; 15] = [0; 15];
-    cells::store(&mut cells, before);
-    let place = function_state::add_constant(starts, memory, &mut cells, kind, value);
-    let state = cells::load(&cells);
-    let after = resumed(book, state);
-    Placed { place, book: after }
+    let mut state = working(book);
+    let place = function_state::add_constant(starts, memory, &mut state, kind, value);
+    resume(book, state);
+    place
 }

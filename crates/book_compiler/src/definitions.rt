@@ -1,10 +1,11 @@
 // `backend/compiler.rs`: definitions and `compile_document` over one memory.
 ghost use Rattle.book_compiler.specs.RepresentsBook.{book_laid, CompilesDefinition, CompilesDefinitions, CompilesDocument};
 
-use crate::{functions, implements, includes, locals, models, subtree};
+use crate::subtree::Subtrees;
+use crate::{functions, implements, includes, locals, models};
 use compiler_laws::book::Book;
 use words::record;
-use words::record::field;
+use words::record::{RecordKind, field};
 
 // By its kind; what is public is then published.
 fn compile_definition(
@@ -13,40 +14,42 @@ fn compile_definition(
     end: usize,
     starts: &[usize; 15],
     memory: &mut [u64],
-    book: Book,
-) -> Book
-    ensures { CompilesDefinition tree.now at end (book_laid book starts.now memory.old)
-        (book_laid result starts.now memory.new) }
+    book: &mut Book,
+)
+    ensures { CompilesDefinition tree.now at end (book_laid book.old starts.now memory.old)
+        (book_laid book.new starts.now memory.new) }
 {
-    let kind = field(tree, at, record::KIND);
-    if kind == record::LOCAL_DEFINITION {
-        return locals::compile_local_definition(tree, at, end, starts, memory, book);
+    let kind = RecordKind::try_from(field(tree, at, record::KIND));
+    match kind.unwrap_or(RecordKind::ApplyDefinition) {
+        RecordKind::LocalDefinition => {
+            locals::compile_local_definition(tree, at, end, starts, memory, book);
+        }
+        RecordKind::IncludeDefinition => {
+            includes::compile_include_definition(tree, at, end, starts, memory, book);
+        }
+        RecordKind::ModelDefinition => {
+            models::compile_model_definition(tree, at, end, starts, memory, book);
+        }
+        RecordKind::PublicModelDefinition => {
+            let name = field(tree, at, record::VALUE);
+            let model = models::compile_model_definition(tree, at, end, starts, memory, book);
+            models::publish(starts, memory, book, model, name);
+        }
+        RecordKind::FunctionDefinition => {
+            functions::compile_function_definition(tree, at, end, starts, memory, book);
+        }
+        RecordKind::PublicFunctionDefinition => {
+            let name = field(tree, at, record::VALUE);
+            let function = functions::compile_function_definition(
+                tree, at, end, starts, memory, book,
+            );
+            models::publish(starts, memory, book, function, name);
+        }
+        RecordKind::ImplementDefinition => {
+            implements::compile_implement_definition(tree, at, end, starts, memory, book);
+        }
+        _ => models::compile_apply_definition(tree, at, end, starts, memory, book),
     }
-    if kind == record::INCLUDE_DEFINITION {
-        return includes::compile_include_definition(tree, at, end, starts, memory, book);
-    }
-    if kind == record::MODEL_DEFINITION {
-        let p = models::compile_model_definition(tree, at, end, starts, memory, book);
-        return p.book;
-    }
-    if kind == record::PUBLIC_MODEL_DEFINITION {
-        let name = field(tree, at, record::VALUE);
-        let p = models::compile_model_definition(tree, at, end, starts, memory, book);
-        return models::publish(starts, memory, p, name);
-    }
-    if kind == record::FUNCTION_DEFINITION {
-        let p = functions::compile_function_definition(tree, at, end, starts, memory, book);
-        return p.book;
-    }
-    if kind == record::PUBLIC_FUNCTION_DEFINITION {
-        let name = field(tree, at, record::VALUE);
-        let p = functions::compile_function_definition(tree, at, end, starts, memory, book);
-        return models::publish(starts, memory, p, name);
-    }
-    if kind == record::IMPLEMENT_DEFINITION {
-        return implements::compile_implement_definition(tree, at, end, starts, memory, book);
-    }
-    models::compile_apply_definition(tree, at, end, starts, memory, book)
 }
 
 // The definitions from a place up to the end.
@@ -56,19 +59,14 @@ fn compile_definitions(
     end: usize,
     starts: &[usize; 15],
     memory: &mut [u64],
-    book: Book,
-) -> Book
-    ensures { CompilesDefinitions tree.now at end (book_laid book starts.now memory.old)
-        (book_laid result starts.now memory.new) }
+    book: &mut Book,
+)
+    ensures { CompilesDefinitions tree.now at end (book_laid book.old starts.now memory.old)
+        (book_laid book.new starts.now memory.new) }
 {
-    let mut i = at;
-    let mut b = book;
-    while i < end {
-        let next = subtree::skip(tree, i, end);
-        b = compile_definition(tree, i, next, starts, memory, b);
-        i = next;
+    for definition in (Subtrees { tree, at, end }) {
+        compile_definition(tree, definition.at, definition.end, starts, memory, book);
     }
-    b
 }
 
 // Of the document at a place: its index is the number of books compiled.
@@ -78,19 +76,18 @@ pub(crate) fn compile_document(
     end: usize,
     starts: &[usize; 15],
     memory: &mut [u64],
-    before: Book,
+    book: &mut Book,
     index: u64,
-) -> Book
-    ensures { CompilesDocument tree.now at end index (book_laid before starts.now memory.old)
-        (book_laid result starts.now memory.new) }
+)
+    ensures { CompilesDocument tree.now at end index (book_laid book.old starts.now memory.old)
+        (book_laid book.new starts.now memory.new) }
 {
-    let mut b = before;
-    b.file = index;
-    b.first_local = b.locals;
-    b.first_public = b.publics;
+    book.file = index;
+    book.first_local = book.locals;
+    book.first_public = book.publics;
     if end <= at {
-        return b;
+        return;
     }
     let first = at + 1;
-    compile_definitions(tree, first, end, starts, memory, b)
+    compile_definitions(tree, first, end, starts, memory, book);
 }

@@ -1,31 +1,25 @@
 // `backend/dependency_solver.rs`: the books of a bundle, one after the other, over one memory. Private: their promise is relational.
 // Part i has the words from starts[i] up to starts[i + 1].
-ghost use Rattle.std.specs.Prelude.{◌≡◌, ◌/◌, ◌≤◌, true, length, replicate};
+ghost use Rattle.std.specs.Prelude.{◌≡◌, ◌≤◌, length, replicate};
 ghost use Rattle.words.specs.Areas.{constants_area, books_area};
 ghost use Rattle.words.specs.Record.{most_records};
-ghost use Rattle.compiler_laws.specs.SolverSteps.{TakesBooks, Narrows};
+ghost use Rattle.compiler_laws.specs.SolverSteps.{TakesBooks};
 ghost use Rattle.undo.specs.Notes.{plain_marks};
 ghost use Rattle.compiler_laws.specs.BooksInOrder.{ChecksRows, Fresh, FirstConstants, begun_book};
 ghost use Rattle.book_compiler.specs.RepresentsBook.{book_laid};
+ghost use Rattle.book_compiler.specs.Rows.{row_in, place_in, place_or_books};
 ghost use Rattle.book_compiler.specs.BookOrder.{LentPart, Drives, CompilesNeeded, Works, Runs};
 
 use crate::definitions::compile_document;
 use crate::ending::Ended;
+use crate::lent::lend;
 use crate::{ending, order, slots, solver, subtree};
-use building::scopes::Found;
 use building::taking;
 use building::taking::Taken;
 use compiler_laws::book::Book;
-use tree::Shape;
 use words::reply::Reply;
-use words::{areas, record, reply};
-
-// A row of 01 and its place; row 0 for none.
-#[derive(Clone, Copy)]
-pub struct Row {
-    pub number: u64,
-    pub place: u64,
-}
+use words::row::{Refused, Row};
+use words::{areas, record};
 
 // Rows 2 to 6, and the set of the books needed, from the set of those that stand and three empty sets.
 pub(crate) fn check_bundle(
@@ -34,61 +28,61 @@ pub(crate) fn check_bundle(
     chosen: &mut [u64],
     present: &mut [u64],
     next: &mut [u64],
-) -> Row
+) -> Result<(), Refused>
     requires { Fresh tree.now chosen.old × (present.old ≡ chosen.old) × (next.old ≡ chosen.old) }
-    ensures { ChecksRows tree.now standing.now result.number result.place chosen.new }
+    ensures { ChecksRows tree.now standing.now (row_in result) (place_in result) chosen.new }
 {
-    let shape = tree::check(tree);
-    if let Shape::Refused(number, at) = shape {
-        let place = at as u64;
-        return Row { number, place };
-    }
+    tree::check(tree)?;
     let end = tree.len() / 4;
-    let double = solver::twice(tree, end, present);
-    if let Found::At(place) = double {
-        return Row {
-            number: reply::BOOK_TWICE,
-            place,
-        };
+    if let Some(place) = solver::twice(tree, end, present) {
+        return Err(Row::BookTwice.at(place as usize));
     }
-    areas::clear_from(present, 0);
+    present.fill(0);
     solver::needed(tree, end, standing, present, chosen, next);
-    areas::clear_from(present, 0);
+    present.fill(0);
     solver::twice(tree, end, present);
-    let absent = solver::missing(chosen, present);
-    if let Found::At(place) = absent {
-        return Row {
-            number: reply::BOOK_MISSING,
-            place,
-        };
+    if let Some(file) = solver::missing(chosen, present) {
+        return Err(Row::BookMissing.at(file as usize));
     }
-    Row {
-        number: 0,
-        place: 0,
-    }
+    Ok(())
 }
 
 // The three constants that every program begins with: null, true and false.
 fn first_constants(constants: &mut [u64]) -> Taken
     ensures { FirstConstants (plain_marks constants.old) result (plain_marks constants.new) }
 {
-    let a = taking::take3(constants, areas::CONSTANTS, 0, 0, 0, 0, 0);
-    let b = taking::take3(constants, areas::CONSTANTS, a.full, a.count, 1, 1, 0);
-    taking::take3(constants, areas::CONSTANTS, b.full, b.count, 1, 0, 0)
+    let mut t = Taken { full: 0, count: 0 };
+    taking::take(
+        constants,
+        areas::CONSTANTS,
+        &mut t.full,
+        &mut t.count,
+        [0, 0, 0],
+    );
+    taking::take(
+        constants,
+        areas::CONSTANTS,
+        &mut t.full,
+        &mut t.count,
+        [1, 1, 0],
+    );
+    taking::take(
+        constants,
+        areas::CONSTANTS,
+        &mut t.full,
+        &mut t.count,
+        [1, 0, 0],
+    );
+    t
 }
 
 fn begin_constants(starts: &[usize; 15], memory: &mut [u64]) -> Taken
     ensures { LentPart constants_area (λ k k'. FirstConstants (plain_marks k) result (plain_marks k')) starts.now memory.old
         memory.new }
 {
-    let start = starts[2];
-    let end = starts[3];
-    if start <= end {
-        if end <= memory.len() {
-            return first_constants(&mut memory[start..end]);
-        }
-    }
-    Taken { full: 0, count: 0 }
+    lend(starts, memory, areas::CONSTANTS, |constants| {
+        first_constants(constants)
+    })
 }
 
 // An entry of area 12 for each book needed, behind those of the books that stand.
@@ -105,14 +99,9 @@ fn begin_books(
     ensures { LentPart books_area (λ o o'. TakesBooks tree.now records chosen.now full stand o result o') starts.now
         memory.old memory.new }
 {
-    let start = starts[12];
-    let end = starts[13];
-    if start <= end {
-        if end <= memory.len() {
-            return solver::take_books(tree, records, chosen, full, stand, &mut memory[start..end]);
-        }
-    }
-    Taken { full: 0, count: 0 }
+    lend(starts, memory, areas::BOOKS, |books| {
+        solver::take_books(tree, records, chosen, full, stand, books)
+    })
 }
 
 // The counts of the beginning.
@@ -145,55 +134,33 @@ fn drive(
     end: usize,
     from: usize,
     count: usize,
-    start: Book,
+    book: &mut Book,
     starts: &[usize; 15],
     memory: &mut [u64],
     compiled: &mut [u64],
-) -> Ended
-    requires { start.full ≡ 0 }
-    ensures { Drives tree.now end from count compiled.old (book_laid start starts.now memory.old)
-        (book_laid result.book starts.now memory.new) result.row result.place }
+) -> Result<usize, Refused>
+    requires { book.old.full ≡ 0 }
+    ensures { Drives tree.now end from count compiled.old (book_laid book.old starts.now memory.old)
+        (book_laid book.new starts.now memory.new) (row_in result) (place_or_books result) }
 {
-    let mut b = start;
-    let mut done = from;
-    while done < count {
-        let next = order::next_book(tree, end, done, count, compiled, starts, memory);
-        if count <= next.index {
-            let x = order::ring(done, count, starts, memory);
-            let mut left = b;
-            left.full = x.full;
-            left.errors = x.count;
-            let place = (count - done) as u64;
-            return Ended {
-                book: left,
-                row: reply::RING,
-                place,
-            };
-        }
+    for done in from..count {
+        let Some(next) = order::next_book(tree, end, done, count, compiled, starts, memory) else {
+            let errors = order::ring(done, count, starts, memory);
+            book.full = errors.full;
+            book.errors = errors.count;
+            return Err(Row::Ring.at(count - done));
+        };
         let last = subtree::skip(tree, next.at, end);
-        b = compile_document(tree, next.at, last, starts, memory, b, done as u64);
-        if b.full != 0 {
-            return Ended {
-                book: b,
-                row: 0,
-                place: 0,
-            };
+        compile_document(tree, next.at, last, starts, memory, book, done as u64);
+        if book.full != 0 {
+            return Ok(done);
         }
-        if b.errors != 0 {
-            return Ended {
-                book: b,
-                row: reply::BOOK_FAULTY,
-                place: next.file,
-            };
+        if book.errors != 0 {
+            return Err(Row::BookFaulty.at(next.file as usize));
         }
         solver::add(compiled, next.file);
-        done += 1;
     }
-    Ended {
-        book: b,
-        row: 0,
-        place: done as u64,
-    }
+    Ok(count)
 }
 
 // `compile_to` after row 6: the books that are needed, behind the `stand` books that stand in a memory; the set of the compiled begins with those.
@@ -201,31 +168,22 @@ pub(crate) fn compile_needed(
     tree: &[u64],
     chosen: &[u64],
     stand: usize,
-    start: Book,
+    book: &mut Book,
     starts: &[usize; 15],
     memory: &mut [u64],
     compiled: &mut [u64],
-) -> Ended
+) -> Result<usize, Refused>
     ensures { CompilesNeeded tree.now chosen.now compiled.old stand
-        (book_laid start starts.now memory.old) (book_laid result.book starts.now memory.new) result.row result.place }
+        (book_laid book.old starts.now memory.old) (book_laid book.new starts.now memory.new) (row_in result) (place_or_books result) }
 {
     let end = tree.len() / 4;
     if record::MOST_RECORDS < end {
-        return Ended {
-            book: start,
-            row: 0,
-            place: 0,
-        };
+        return Ok(stand);
     }
-    let t = begin_books(tree, end, chosen, start.full, stand, starts, memory);
-    let mut book = start;
+    let t = begin_books(tree, end, chosen, book.full, stand, starts, memory);
     book.full = t.full;
     if t.full != 0 {
-        return Ended {
-            book,
-            row: 0,
-            place: 0,
-        };
+        return Ok(stand);
     }
     drive(tree, end, stand, t.count, book, starts, memory, compiled)
 }
@@ -241,12 +199,13 @@ fn work(
 ) -> Ended
     requires { compiled.old ≡ replicate (length chosen.now) 0 }
     ensures { Works strict tree.now chosen.now starts.now memory.old
-        (book_laid result.book starts.now memory.new) result.row result.place }
+        (book_laid result.book starts.now memory.new) (row_in result.outcome) (place_or_books result.outcome) }
 {
     let x = begin_constants(starts, memory);
     slots::fill_slots(starts, memory, x.count);
-    let start = begun(x, strict);
-    compile_needed(tree, chosen, 0, start, starts, memory, compiled)
+    let mut book = begun(x, strict);
+    let outcome = compile_needed(tree, chosen, 0, &mut book, starts, memory, compiled);
+    Ended { book, outcome }
 }
 
 // The call from a memory of zeros and three empty sets: no book stands; rows 2 to 6, the work, its end. The third set, cleared, is that of the books compiled.
@@ -263,60 +222,44 @@ fn run_in(
     ensures { Runs strict tree.now starts.now memory.old memory.new result }
 {
     let none = [0; 1];
-    let row = check_bundle(tree, &none, chosen, present, next);
-    if row.number != 0 {
-        return Reply::refused(row.number, row.place);
+    if let Err(refused) = check_bundle(tree, &none, chosen, present, next) {
+        return ending::refused_at(refused);
     }
-    areas::clear_from(next, 0);
+    next.fill(0);
     let ended = work(tree, strict, chosen, starts, memory, next);
     ending::finish(ended, starts, memory)
 }
 
-// With sets of 64 words: 1.5 KiB in all.
-fn run_short(tree: &[u64], strict: bool, starts: &[usize; 15], memory: &mut [u64]) -> Reply
-    requires { Narrows tree.now 0 (length tree.now / 4) true }
+// The same with sets of N words, in which every file number of the bundle has a bit.
+fn run_with<const N: usize>(
+    tree: &[u64],
+    strict: bool,
+    starts: &[usize; 15],
+    memory: &mut [u64],
+) -> Reply
+    requires short { N ≤ 16384 }
+    requires fresh { Fresh tree.now (replicate N 0) }
     ensures { Runs strict tree.now starts.now memory.old memory.new result }
 {
-    let mut chosen = [0; 64];
-    let mut present = [0; 64];
-    let mut next = [0; 64];
     run_in(
         tree,
         strict,
-        &mut chosen,
-        &mut present,
-        &mut next,
+        &mut [0; N],
+        &mut [0; N],
+        &mut [0; N],
         starts,
         memory,
     )
 }
 
-// With sets that have a bit for every file number: 384 KiB in all.
-fn run_long(tree: &[u64], strict: bool, starts: &[usize; 15], memory: &mut [u64]) -> Reply
-    ensures { Runs strict tree.now starts.now memory.old memory.new result }
-{
-    let mut chosen = [0; 16384];
-    let mut present = [0; 16384];
-    let mut next = [0; 16384];
-    run_in(
-        tree,
-        strict,
-        &mut chosen,
-        &mut present,
-        &mut next,
-        starts,
-        memory,
-    )
-}
-
-// The call from a memory of zeros. Its sets of file numbers are short where the bundle's numbers are small: clearing and scanning long ones takes longer than
-// compiling a small bundle, and a call that does not need them does not reserve their words.
+// The call from a memory of zeros. Its sets of file numbers are short where the bundle's numbers are small, 1.5 KiB in all, else 384 KiB: clearing and
+// scanning long ones takes longer than compiling a small bundle, and a call that does not need them does not reserve their words.
 pub(crate) fn run(tree: &[u64], strict: bool, starts: &[usize; 15], memory: &mut [u64]) -> Reply
     ensures { Runs strict tree.now starts.now memory.old memory.new result }
 {
     let end = tree.len() / 4;
     if solver::narrow(tree, end) {
-        return run_short(tree, strict, starts, memory);
+        return run_with::<{ solver::NARROW_WORDS }>(tree, strict, starts, memory);
     }
-    run_long(tree, strict, starts, memory)
+    run_with::<{ solver::SET_WORDS }>(tree, strict, starts, memory)
 }

@@ -3,27 +3,24 @@ ghost use Rattle.std.specs.Prelude.{◌≡◌};
 ghost use Rattle.tree.specs.At.{is_parameter};
 ghost use Rattle.building.specs.Emission.{drop_c};
 ghost use Rattle.building.specs.Scopes.{end_function_c};
-ghost use Rattle.compiler_laws.specs.Cells.{state_of};
 ghost use Rattle.compiler_laws.specs.MakingFunctions.{instance_by, ParametersEnd};
 ghost use Rattle.compiler_laws.specs.AddingFunctions.{AddsFunction};
 ghost use Rattle.book_compiler.specs.Represents.{laid};
 ghost use Rattle.book_compiler.specs.Leaves.{OnCode, OnNames};
-ghost use Rattle.book_compiler.specs.Members.{CompilesStatements};
 ghost use Rattle.book_compiler.specs.RepresentsBook.{book_laid};
 ghost use Rattle.book_compiler.specs.FunctionSteps.{CompilesParameter, CompilesParameters, CompilesBase, MakesFunction, AddsBookFunction};
 ghost use Rattle.book_compiler.specs.FunctionSteps.{SparesFunctions, DropsBookFunction, AddsPlainFunction};
 ghost use Rattle.book_compiler.specs.DefinitionSteps.{CompilesFunctionDefinition, ImplementsFunction};
 
-use crate::book::Placed;
-use crate::statements::compile_statement;
-use crate::subtree::skip;
-use crate::{book, cells, function_state, locals};
+use crate::lent::lend_with;
+use crate::statements::compile_statements;
+use crate::{book, function_state, locals};
+use building::context;
 use building::function_state::FunctionState;
-use building::scopes::Found;
-use building::{context, scopes};
 use compiler_laws::book::Book;
 use words::record::field;
-use words::{object, record, reply};
+use words::reply::CompileError;
+use words::{areas, object, record};
 
 // The text of the entry point's name.
 const MAIN: u64 = 1;
@@ -32,10 +29,7 @@ const MAIN: u64 = 1;
 fn instance_by(kind: u64, before: bool) -> bool
     ensures { result ≡ instance_by kind before }
 {
-    if kind == record::THIS_PARAMETER {
-        return true;
-    }
-    before
+    kind == record::THIS_PARAMETER || before
 }
 
 // A parameter: a name of the function's scope.
@@ -44,30 +38,27 @@ fn parameter(
     at: usize,
     starts: &[usize; 15],
     memory: &mut [u64],
-    cells: &mut [u64; 15],
+    state: &mut FunctionState,
 )
-    ensures { CompilesParameter tree.now at (laid (state_of cells.old) starts.now memory.old)
-        (laid (state_of cells.new) starts.now memory.new) }
+    ensures { CompilesParameter tree.now at (laid state.old starts.now memory.old)
+        (laid state.new starts.now memory.new) }
 {
-    let state = cells::load(cells);
     if state.full != 0 {
         return;
     }
     let kind = field(tree, at, record::KIND);
     let name = field(tree, at, record::VALUE);
     let instance = instance_by(kind, state.is_instance);
-    let flagged = building::function_state::with_parameters(state, instance, state.parameter_count);
-    cells::store(cells, flagged);
-    let found = function_state::define_local(starts, memory, cells, name);
-    if let Found::At(_) = found {
+    state.set_parameters(instance, state.parameter_count);
+    if function_state::define_local(starts, memory, state, name).is_some() {
         return;
     }
     let position = field(tree, at, record::POSITION);
     function_state::push_error(
         starts,
         memory,
-        cells,
-        reply::ERROR_PARAMETER_EXISTS,
+        state,
+        CompileError::ParameterExists,
         position,
         kind,
         name,
@@ -81,15 +72,13 @@ fn parameters(
     end: usize,
     starts: &[usize; 15],
     memory: &mut [u64],
-    cells: &mut [u64; 15],
+    state: &mut FunctionState,
 )
-    ensures { CompilesParameters tree.now at end (laid (state_of cells.old) starts.now memory.old)
-        (laid (state_of cells.new) starts.now memory.new) }
+    ensures { CompilesParameters tree.now at end (laid state.old starts.now memory.old)
+        (laid state.new starts.now memory.new) }
 {
-    let mut i = at;
-    while i < end {
-        parameter(tree, i, starts, memory, cells);
-        i += 1;
+    for i in at..end {
+        parameter(tree, i, starts, memory, state);
     }
 }
 
@@ -97,10 +86,7 @@ fn parameters(
 fn is_parameter(kind: u64) -> bool
     ensures { result ≡ is_parameter kind }
 {
-    if kind == record::NAME {
-        return true;
-    }
-    kind == record::THIS_PARAMETER
+    kind == record::NAME || kind == record::THIS_PARAMETER
 }
 
 // Where the parameters end and the body starts.
@@ -108,37 +94,11 @@ fn parameters_end(tree: &[u64], at: usize, end: usize) -> usize
     ensures { ParametersEnd tree.now at end result }
 {
     let mut i = at;
-    while i < end {
-        let kind = field(tree, i, record::KIND);
-        if is_parameter(kind) {
-            i += 1;
-        } else {
-            return i;
-        }
+    // No `for`: the loop ends at the first record that is no parameter, and its place is the answer.
+    while i < end && is_parameter(field(tree, i, record::KIND)) {
+        i += 1;
     }
     i
-}
-
-// The statements from a place up to the end.
-fn compile_statements(
-    tree: &[u64],
-    at: usize,
-    end: usize,
-    starts: &[usize; 15],
-    memory: &mut [u64],
-    cells: &mut [u64; 15],
-    start: usize,
-    count: usize,
-)
-    ensures { CompilesStatements tree.now at end start count (laid (state_of cells.old) starts.now memory.old)
-        (laid (state_of cells.new) starts.now memory.new) }
-{
-    let mut i = at;
-    while i < end {
-        let next = skip(tree, i, end);
-        compile_statement(tree, i, next, starts, memory, cells, start, count);
-        i = next;
-    }
 }
 
 // `compile_function_definition_base`, in a state that begins a function.
@@ -148,53 +108,49 @@ fn compile_function_definition_base(
     end: usize,
     starts: &[usize; 15],
     memory: &mut [u64],
-    cells: &mut [u64; 15],
+    state: &mut FunctionState,
     start: usize,
     count: usize,
 )
-    ensures { CompilesBase tree.now at end start count (laid (state_of cells.old) starts.now memory.old)
-        (laid (state_of cells.new) starts.now memory.new) }
+    ensures { CompilesBase tree.now at end start count (laid state.old starts.now memory.old)
+        (laid state.new starts.now memory.new) }
 {
     if at < end {
         let first = parameters_end(tree, at + 1, end);
-        parameters(tree, at + 1, first, starts, memory, cells);
-        let state = cells::load(cells);
+        parameters(tree, at + 1, first, starts, memory, state);
         let many = first - (at + 1);
-        let counted = building::function_state::with_parameters(state, state.is_instance, many);
-        cells::store(cells, counted);
-        compile_statements(tree, first, end, starts, memory, cells, start, count);
-        let position = function_state::get_last_position(starts, memory, cells);
-        function_state::emit_return(starts, memory, cells, position);
+        state.set_parameters(state.is_instance, many);
+        compile_statements(tree, first, end, starts, memory, state, start, count);
+        let position = function_state::get_last_position(starts, memory, state);
+        function_state::emit_return(starts, memory, state, position);
         return;
     }
 }
 
 // A function's end: no name is left.
-fn end_function(starts: &[usize; 15], memory: &mut [u64], state: FunctionState) -> FunctionState
-    ensures { OnNames end_function_c (laid state starts.now memory.old) (laid result starts.now memory.new) }
+fn end_function(starts: &[usize; 15], memory: &mut [u64], state: &mut FunctionState)
+    ensures { OnNames end_function_c (laid state.old starts.now memory.old) (laid state.new starts.now memory.new) }
 {
-    let start = starts[9];
-    let end = starts[10];
-    if start <= end {
-        if end <= memory.len() {
-            return scopes::end_function(&mut memory[start..end], state);
-        }
-    }
-    state
+    lend_with(
+        starts,
+        memory,
+        areas::SCOPE_NAMES,
+        state,
+        |names, state| state.end_function(names),
+    );
 }
 
 // A function's code is given back.
-fn drop_function(starts: &[usize; 15], memory: &mut [u64], state: FunctionState) -> FunctionState
-    ensures { OnCode drop_c (laid state starts.now memory.old) (laid result starts.now memory.new) }
+fn drop_function(starts: &[usize; 15], memory: &mut [u64], state: &mut FunctionState)
+    ensures { OnCode drop_c (laid state.old starts.now memory.old) (laid state.new starts.now memory.new) }
 {
-    let start = starts[1];
-    let end = starts[2];
-    if start <= end {
-        if end <= memory.len() {
-            return building::function_state::drop_function(&mut memory[start..end], state);
-        }
-    }
-    state
+    lend_with(
+        starts,
+        memory,
+        areas::CODE,
+        state,
+        |code, state| state.drop_function(code),
+    );
 }
 
 // A function of a book, compiled to its end; nothing is done with the mark set.
@@ -204,63 +160,64 @@ fn make(
     end: usize,
     starts: &[usize; 15],
     memory: &mut [u64],
-    book: Book,
+    book: &Book,
 ) -> FunctionState
-    ensures { MakesFunction tree.now at end (book_laid book starts.now memory.old)
+    ensures { MakesFunction tree.now at end (book_laid book.now starts.now memory.old)
         (laid result starts.now memory.new) }
 {
-    let state = book::working(book);
+    let mut state = book::working(book);
     if book.full != 0 {
         return state;
     }
-    let mut cells: [u64; 15] = [0; 15];
-    cells::store(&mut cells, state);
     compile_function_definition_base(
         tree,
         at,
         end,
         starts,
         memory,
-        &mut cells,
+        &mut state,
         book.first_local,
         book.locals,
     );
-    let made = cells::load(&cells);
-    end_function(starts, memory, made)
+    end_function(starts, memory, &mut state);
+    state
 }
 
 // An entry of area 3 more.
-fn add_entry(functions: &mut [u64], book: Book, state: FunctionState, name: u64) -> Book
-    ensures { (AddsFunction name book state functions.old result functions.new
-        × SparesFunctions state book functions.old result functions.new)
-        × ((result.constants ≡ state.constants) × (result.standing_methods ≡ book.standing_methods)) }
+fn add_entry(functions: &mut [u64], book: &mut Book, state: FunctionState, name: u64)
+    ensures { (AddsFunction name book.old state functions.old book.new functions.new
+        × SparesFunctions state book.old functions.old book.new functions.new)
+        × ((book.new.constants ≡ state.constants) × (book.new.standing_methods ≡ book.old.standing_methods)) }
 {
-    let mut b = book::resumed(book, state);
-    let t = context::add_function(functions, b.full, b.functions, state, b.file, name);
-    b.full = t.full;
-    b.functions = t.count;
-    b
+    book::resume(book, state);
+    context::add_function(
+        functions,
+        &mut book.full,
+        &mut book.functions,
+        &state,
+        book.file,
+        name,
+    );
 }
 
 // `add_function`
 fn add_function(
     starts: &[usize; 15],
     memory: &mut [u64],
-    book: Book,
+    book: &mut Book,
     state: FunctionState,
     name: u64,
-) -> Book
-    ensures { AddsBookFunction name state (book_laid book starts.now memory.old)
-        (book_laid result starts.now memory.new) }
+)
+    ensures { AddsBookFunction name state (book_laid book.old starts.now memory.old)
+        (book_laid book.new starts.now memory.new) }
 {
-    let start = starts[3];
-    let end = starts[4];
-    if start <= end {
-        if end <= memory.len() {
-            return add_entry(&mut memory[start..end], book, state, name);
-        }
-    }
-    book
+    lend_with(
+        starts,
+        memory,
+        areas::FUNCTIONS,
+        book,
+        |functions, book| add_entry(functions, book, state, name),
+    );
 }
 
 // An instance's function outside of a model is given up.
@@ -269,40 +226,45 @@ fn drop_instance(
     at: usize,
     starts: &[usize; 15],
     memory: &mut [u64],
-    book: Book,
+    book: &mut Book,
     state: FunctionState,
-) -> Book
-    ensures { DropsBookFunction tree.now at state (book_laid book starts.now memory.old)
-        (book_laid result starts.now memory.new) }
+)
+    ensures { DropsBookFunction tree.now at state (book_laid book.old starts.now memory.old)
+        (book_laid book.new starts.now memory.new) }
 {
-    let dropped = drop_function(starts, memory, state);
-    let b = book::resumed(book, dropped);
-    book::push_error(starts, memory, tree, at, b, reply::ERROR_INSTANCE_FUNCTION)
+    let mut dropped = state;
+    drop_function(starts, memory, &mut dropped);
+    book::resume(book, dropped);
+    book::push_error(
+        starts,
+        memory,
+        tree,
+        at,
+        book,
+        CompileError::InstanceFunction,
+    );
 }
 
 // The rest of `compile_function_definition`: the function, its constant, its local's value; the last `main`, text 1, is the entry point.
 fn add_plain(
     starts: &[usize; 15],
     memory: &mut [u64],
-    book: Book,
+    book: &mut Book,
     state: FunctionState,
-    found: Found,
+    found: Option<u64>,
     name: u64,
-) -> Placed
-    ensures { AddsPlainFunction name found state (book_laid book starts.now memory.old)
-        (book_laid result.book starts.now memory.new) result.place }
+) -> u64
+    ensures { AddsPlainFunction name found state (book_laid book.old starts.now memory.old)
+        (book_laid book.new starts.now memory.new) result }
 {
     let index = book.functions as u64;
-    let b1 = add_function(starts, memory, book, state, name);
-    let a = book::add_constant(starts, memory, b1, object::FUNCTION, index);
-    let place = a.place;
-    let mut b2 = a.book;
-    locals::set_value(starts, memory, b2, found, place);
+    add_function(starts, memory, book, state, name);
+    let place = book::add_constant(starts, memory, book, object::FUNCTION, index);
+    locals::set_value(starts, memory, book, found, place);
     if name == MAIN {
-        b2.entry_point = index;
-        return Placed { place, book: b2 };
+        book.entry_point = index;
     }
-    Placed { place, book: b2 }
+    place
 }
 
 // `compile_function_definition`
@@ -312,31 +274,23 @@ pub(crate) fn compile_function_definition(
     end: usize,
     starts: &[usize; 15],
     memory: &mut [u64],
-    book: Book,
-) -> Placed
-    ensures { CompilesFunctionDefinition tree.now at end result.place (book_laid book starts.now memory.old)
-        (book_laid result.book starts.now memory.new) }
+    book: &mut Book,
+) -> u64
+    ensures { CompilesFunctionDefinition tree.now at end result (book_laid book.old starts.now memory.old)
+        (book_laid book.new starts.now memory.new) }
 {
     let name = field(tree, at, record::VALUE);
-    let d = locals::define_local(starts, memory, book, name);
-    let b = d.book;
-    let found = d.found;
-    let s = make(tree, at, end, starts, memory, b);
-    if s.full != 0 {
-        let kept = book::resumed(b, s);
-        return Placed {
-            place: 0,
-            book: kept,
-        };
+    let found = locals::define_local(starts, memory, book, name);
+    let state = make(tree, at, end, starts, memory, book);
+    if state.full != 0 {
+        book::resume(book, state);
+        return 0;
     }
-    if s.is_instance {
-        let kept = drop_instance(tree, at, starts, memory, b, s);
-        return Placed {
-            place: 0,
-            book: kept,
-        };
+    if state.is_instance {
+        drop_instance(tree, at, starts, memory, book, state);
+        return 0;
     }
-    add_plain(starts, memory, b, s, found, name)
+    add_plain(starts, memory, book, state, found, name)
 }
 
 // A function of an implement definition.
@@ -346,12 +300,12 @@ pub(crate) fn implement_function(
     end: usize,
     starts: &[usize; 15],
     memory: &mut [u64],
-    book: Book,
-) -> Book
-    ensures { ImplementsFunction tree.now at end (book_laid book starts.now memory.old)
-        (book_laid result starts.now memory.new) }
+    book: &mut Book,
+)
+    ensures { ImplementsFunction tree.now at end (book_laid book.old starts.now memory.old)
+        (book_laid book.new starts.now memory.new) }
 {
     let name = field(tree, at, record::VALUE);
-    let s = make(tree, at, end, starts, memory, book);
-    add_function(starts, memory, book, s, name)
+    let state = make(tree, at, end, starts, memory, book);
+    add_function(starts, memory, book, state, name);
 }

@@ -1,17 +1,17 @@
 // Calls on a program that stands in the memory: laying on (2026-01), a trial and a commit (2026-08). Private: their promise is relational.
 // Part i has the words from starts[i] up to starts[i + 1].
-ghost use Rattle.std.specs.Prelude.{◌≡◌, ◌*◌, ◌/◌, true, length};
-ghost use Rattle.compiler_laws.specs.FileSets.{narrow_size};
-ghost use Rattle.compiler_laws.specs.SolverSteps.{Narrows};
+ghost use Rattle.std.specs.Prelude.{◌≡◌, ◌≤◌, ◌*◌, length, replicate};
 ghost use Rattle.compiler_laws.specs.BooksInOrder.{Fresh, begun_onto};
 ghost use Rattle.compiler_laws.specs.CallEnd as ends;
 ghost use Rattle.compiler_laws.specs.CallEnd.{refusal_with, mark_refusal_with};
 ghost use Rattle.words.specs.Reply.{delivery};
+ghost use Rattle.words.specs.Row.{row_number};
 ghost use Rattle.definition.specs.Promise.{saying};
 ghost use Rattle.definition.specs.Trial.{is_stale, line_one, same_numbers};
 ghost use Rattle.book_compiler.specs.RepresentsBook.{book_laid};
 ghost use Rattle.book_compiler.specs.Onto.{FinishesOnto, Undoes, RefusesStale, RunsOnto, AnswersInto, BooksBelow};
-ghost use Rattle.book_compiler.specs.Orders.{order_of};
+ghost use Rattle.book_compiler.specs.Orders.{order_of, numbers};
+ghost use Rattle.book_compiler.specs.Rows.{row_in, place_or_books};
 
 use crate::driver::{check_bundle, compile_needed};
 use crate::ending::Ended;
@@ -19,9 +19,9 @@ use crate::{ending, onto, order, slots, solver};
 use compiler_laws::book::Book;
 use memory::starts_of;
 use program_check::check_program;
-use tree::Shape;
 use words::reply;
 use words::reply::{Reply, Totals};
+use words::row::{Refused, Row};
 
 // What is wanted of a bundle: to lay it on, to see what that would answer, or to lay on what a trial was answered with these totals.
 #[derive(Clone, Copy)]
@@ -31,15 +31,39 @@ pub enum Order {
     Commit(Totals),
 }
 
+// Line 1's totals.
+#[derive(Clone, Copy, PartialEq, Eq)]
+struct LineOne {
+    functions: u64,
+    constants: u64,
+    models: u64,
+    context_locals: u64,
+    entry_point: u64,
+    files: u64,
+    global_dependencies: u64,
+}
+
+impl LineOne {
+    fn of(totals: Totals) -> Self
+        ensures { numbers result ≡ line_one (saying (delivery totals)) }
+    {
+        LineOne {
+            functions: totals.functions,
+            constants: totals.constants,
+            models: totals.models,
+            context_locals: totals.context_locals,
+            entry_point: totals.entry_point,
+            files: totals.books,
+            global_dependencies: totals.global_dependencies,
+        }
+    }
+}
+
 // Whether the program is given back where the work delivers.
 fn is_trial(order: Order) -> bool
     ensures { result ≡ ends.is_trial (order_of order) }
 {
-    match order {
-        Order::Lay => false,
-        Order::Trial => true,
-        Order::Commit(_) => false,
-    }
+    matches!(order, Order::Trial)
 }
 
 // Whether a commit's trial saw another number of bundles.
@@ -47,35 +71,15 @@ fn is_stale(order: Order, bundles: u64) -> bool
     ensures { result ≡ is_stale (order_of order) bundles }
 {
     match order {
-        Order::Lay => false,
-        Order::Trial => false,
         Order::Commit(trial) => trial.bundles != bundles,
+        _ => false,
     }
 }
 
-// Line 1's totals: functions, constants, models, context locals, entry point, files, global dependencies.
 fn same_line_one(a: Totals, b: Totals) -> bool
     ensures { result ≡ same_numbers (line_one (saying (delivery a))) (line_one (saying (delivery b))) }
 {
-    if a.functions != b.functions {
-        return false;
-    }
-    if a.constants != b.constants {
-        return false;
-    }
-    if a.models != b.models {
-        return false;
-    }
-    if a.context_locals != b.context_locals {
-        return false;
-    }
-    if a.entry_point != b.entry_point {
-        return false;
-    }
-    if a.books != b.books {
-        return false;
-    }
-    a.global_dependencies == b.global_dependencies
+    LineOne::of(a) == LineOne::of(b)
 }
 
 // Whether a commit's trial was answered other totals than the work came to.
@@ -83,9 +87,8 @@ fn differs(order: Order, totals: Totals) -> bool
     ensures { result ≡ ends.differs (order_of order) totals }
 {
     match order {
-        Order::Lay => false,
-        Order::Trial => false,
         Order::Commit(trial) => !same_line_one(trial, totals),
+        _ => false,
     }
 }
 
@@ -114,12 +117,12 @@ fn begun_onto(standing: Totals, strict: bool) -> Book
 }
 
 // A refusal returns the totals lent.
-fn refused_with(standing: Totals, number: u64, place: u64) -> Reply
-    ensures { result ≡ refusal_with standing number place }
+fn refused_with(standing: Totals, refused: Refused) -> Reply
+    ensures { result ≡ refusal_with standing (row_number refused.row) refused.place }
 {
     Reply {
-        number,
-        place,
+        number: refused.row.number(),
+        place: refused.place as u64,
         totals: standing,
     }
 }
@@ -129,12 +132,11 @@ fn mark_refused(standing: Totals, full: u64) -> Reply
     ensures { result ≡ mark_refusal_with standing full }
 {
     if full < reply::FIRST_NOT_PUBLIC {
-        return refused_with(standing, reply::AREA_FULL, full);
+        return refused_with(standing, Row::AreaFull.at(full as usize));
     }
     refused_with(
         standing,
-        reply::NAME_NOT_PUBLIC,
-        full - reply::FIRST_NOT_PUBLIC,
+        Row::NameNotPublic.at((full - reply::FIRST_NOT_PUBLIC) as usize),
     )
 }
 
@@ -155,39 +157,34 @@ fn finish_onto(
     starts: &[usize; 15],
     memory: &mut [u64],
 ) -> Reply
-    ensures { FinishesOnto (order_of order) standing (book_laid ended.book starts.now memory.old) ended.row ended.place
-        memory.new result }
+    ensures { FinishesOnto (order_of order) standing (book_laid ended.book starts.now memory.old) (row_in ended.outcome)
+        (place_or_books ended.outcome) memory.new result }
 {
     let full = ended.book.full;
     if full != 0 {
         undo(standing, starts, memory);
         return mark_refused(standing, full);
     }
-    if ended.row != 0 {
-        onto::give_back(standing, starts, memory);
-        return refused_with(standing, ended.row, ended.place);
-    }
-    let marked = ending::count_global_dependencies(ended.book.constants, starts, memory);
-    let tried = ending::delivered(ended, marked, standing.bundles);
+    let books = match ended.outcome {
+        Ok(books) => books,
+        Err(refused) => {
+            onto::give_back(standing, starts, memory);
+            return refused_with(standing, refused);
+        }
+    };
+    let book = ended.book;
+    let marked = ending::count_global_dependencies(book.constants, starts, memory);
+    let tried = ending::delivered(book, books, marked, standing.bundles);
     if differs(order, tried.totals) {
         undo(standing, starts, memory);
-        return refused_with(standing, reply::TOTALS_DIFFER, 0);
+        return refused_with(standing, Row::TotalsDiffer.at(0));
     }
     if is_trial(order) {
         undo(standing, starts, memory);
         return tried;
     }
-    ending::settle(
-        ended.book.constants,
-        ended.book.standing_methods,
-        starts,
-        memory,
-    );
-    ending::delivered(
-        ended,
-        marked,
-        std::num::wrapping_add_u64(standing.bundles, 1),
-    )
+    ending::settle(book.constants, book.standing_methods, starts, memory);
+    ending::delivered(book, books, marked, standing.bundles.wrapping_add(1))
 }
 
 // The work with four empty sets: that of the books that stand, which becomes that of the books compiled, and three for the books needed.
@@ -210,18 +207,17 @@ fn run_onto_in(
     let stand = standing.books as usize;
     order::add_standing(stand, starts, memory, stands);
     onto::make_ready(standing, starts, memory);
-    let row = check_bundle(tree, stands, chosen, present, next);
-    if row.number != 0 {
+    if let Err(refused) = check_bundle(tree, stands, chosen, present, next) {
         onto::give_back(standing, starts, memory);
-        return refused_with(standing, row.number, row.place);
+        return refused_with(standing, refused);
     }
-    let start = begun_onto(standing, strict);
-    let ended = compile_needed(tree, chosen, stand, start, starts, memory, stands);
-    finish_onto(ended, order, standing, starts, memory)
+    let mut book = begun_onto(standing, strict);
+    let outcome = compile_needed(tree, chosen, stand, &mut book, starts, memory, stands);
+    finish_onto(Ended { book, outcome }, order, standing, starts, memory)
 }
 
-// With sets of 64 words: 2 KiB in all.
-fn run_onto_short(
+// The same with sets of N words, in which every file number of the bundle and of the books that stand has a bit.
+fn run_onto_with<const N: usize>(
     tree: &[u64],
     strict: bool,
     order: Order,
@@ -229,57 +225,26 @@ fn run_onto_short(
     starts: &[usize; 15],
     memory: &mut [u64],
 ) -> Reply
-    requires { Narrows tree.now 0 (length tree.now / 4) true × BooksBelow narrow_size standing starts.now memory.old }
+    requires short { N ≤ 16384 }
+    requires fresh { Fresh tree.now (replicate N 0) }
+    requires below { BooksBelow (N * 64) standing starts.now memory.old }
     ensures { RunsOnto (order_of order) strict tree.now standing starts.now memory.old memory.new result }
 {
-    let mut stands = [0; 64];
-    let mut chosen = [0; 64];
-    let mut present = [0; 64];
-    let mut next = [0; 64];
     run_onto_in(
         tree,
         strict,
         order,
         standing,
-        &mut stands,
-        &mut chosen,
-        &mut present,
-        &mut next,
+        &mut [0; N],
+        &mut [0; N],
+        &mut [0; N],
+        &mut [0; N],
         starts,
         memory,
     )
 }
 
-// With sets that have a bit for every file number: 512 KiB in all.
-fn run_onto_long(
-    tree: &[u64],
-    strict: bool,
-    order: Order,
-    standing: Totals,
-    starts: &[usize; 15],
-    memory: &mut [u64],
-) -> Reply
-    ensures { RunsOnto (order_of order) strict tree.now standing starts.now memory.old memory.new result }
-{
-    let mut stands = [0; 16384];
-    let mut chosen = [0; 16384];
-    let mut present = [0; 16384];
-    let mut next = [0; 16384];
-    run_onto_in(
-        tree,
-        strict,
-        order,
-        standing,
-        &mut stands,
-        &mut chosen,
-        &mut present,
-        &mut next,
-        starts,
-        memory,
-    )
-}
-
-// The work. Its sets of file numbers are short where the bundle's numbers and those of the books that stand are small.
+// The work. Its sets of file numbers are short where the bundle's numbers and those of the books that stand are small: 2 KiB in all, else 512 KiB.
 fn run_onto(
     tree: &[u64],
     strict: bool,
@@ -294,10 +259,12 @@ fn run_onto(
     let stand = standing.books as usize;
     if solver::narrow(tree, end) {
         if order::narrow_standing(stand, starts, memory) {
-            return run_onto_short(tree, strict, order, standing, starts, memory);
+            return run_onto_with::<{ solver::NARROW_WORDS }>(
+                tree, strict, order, standing, starts, memory,
+            );
         }
     }
-    run_onto_long(tree, strict, order, standing, starts, memory)
+    run_onto_with::<{ solver::SET_WORDS }>(tree, strict, order, standing, starts, memory)
 }
 
 // Row 12: area 11 and the slots are zeros, as after any refusal by the work.
@@ -306,7 +273,7 @@ fn refuse_stale(standing: Totals, starts: &[usize; 15], memory: &mut [u64]) -> R
 {
     onto::clear_errors(starts, memory);
     slots::clear_slots(starts, memory);
-    refused_with(standing, reply::STALE_TRIAL, standing.bundles)
+    refused_with(standing, Row::StaleTrial.at(standing.bundles as usize))
 }
 
 // A call on a program that stands: the program check first of all, then whether a commit's trial is stale, then the work.
@@ -320,9 +287,8 @@ pub(crate) fn answer_onto(
 ) -> Reply
     ensures { AnswersInto (order_of order) strict tree.now standing lengths memory.old memory.new result }
 {
-    let shape = check_program(memory, lengths, standing);
-    if let Shape::Refused(number, place) = shape {
-        return refused_with(standing, number, place as u64);
+    if let Err(refused) = check_program(memory, lengths, standing) {
+        return refused_with(standing, refused);
     }
     let starts = starts_of(lengths, memory.len());
     if is_stale(order, standing.bundles) {

@@ -2,8 +2,8 @@
 ghost use Rattle.book_compiler.specs.RepresentsBook.{book_laid};
 ghost use Rattle.book_compiler.specs.DefinitionSteps.{ImplementsFunctions, ImplementsMethods, CompilesImplementDefinition};
 
-use crate::{functions, methods, models, subtree};
-use building::scopes::Found;
+use crate::subtree::Subtrees;
+use crate::{functions, methods, models};
 use compiler_laws::book::Book;
 use words::record;
 use words::record::field;
@@ -15,19 +15,14 @@ fn implement_functions(
     end: usize,
     starts: &[usize; 15],
     memory: &mut [u64],
-    book: Book,
-) -> Book
-    ensures { ImplementsFunctions tree.now at end (book_laid book starts.now memory.old)
-        (book_laid result starts.now memory.new) }
+    book: &mut Book,
+)
+    ensures { ImplementsFunctions tree.now at end (book_laid book.old starts.now memory.old)
+        (book_laid book.new starts.now memory.new) }
 {
-    let mut i = at;
-    let mut b = book;
-    while i < end {
-        let next = subtree::skip(tree, i, end);
-        b = functions::implement_function(tree, i, next, starts, memory, b);
-        i = next;
+    for function in (Subtrees { tree, at, end }) {
+        functions::implement_function(tree, function.at, function.end, starts, memory, book);
     }
-    b
 }
 
 // The methods of a model: the functions from number `first` on.
@@ -37,26 +32,23 @@ fn implement_methods(
     end: usize,
     starts: &[usize; 15],
     memory: &mut [u64],
-    book: Book,
+    book: &mut Book,
     model: u64,
     first: usize,
-) -> Book
-    ensures { ImplementsMethods tree.now at end model first book.functions
-        (book_laid book starts.now memory.old) (book_laid result starts.now memory.new) }
+)
+    ensures { ImplementsMethods tree.now at end model first book.old.functions
+        (book_laid book.old starts.now memory.old) (book_laid book.new starts.now memory.new) }
 {
-    let mut i = at;
-    let mut f = first;
-    let mut b = book;
-    while i < end {
-        if f >= book.functions {
-            return b;
+    let count = book.functions;
+    let mut number = first;
+    for function in (Subtrees { tree, at, end }) {
+        if number >= count {
+            return;
         }
-        let name = field(tree, i, record::VALUE);
-        b = methods::insert_method(starts, memory, b, model, name, f as u64);
-        f += 1;
-        i = subtree::skip(tree, i, end);
+        let name = field(tree, function.at, record::VALUE);
+        methods::insert_method(starts, memory, book, model, name, number as u64);
+        number += 1;
     }
-    b
 }
 
 pub(crate) fn compile_implement_definition(
@@ -65,27 +57,24 @@ pub(crate) fn compile_implement_definition(
     end: usize,
     starts: &[usize; 15],
     memory: &mut [u64],
-    book: Book,
-) -> Book
-    ensures { CompilesImplementDefinition tree.now at end (book_laid book starts.now memory.old)
-        (book_laid result starts.now memory.new) }
+    book: &mut Book,
+)
+    ensures { CompilesImplementDefinition tree.now at end (book_laid book.old starts.now memory.old)
+        (book_laid book.new starts.now memory.new) }
 {
     if book.full != 0 {
-        return book;
+        return;
     }
     if at < end {
         let first = at + 1;
-        let b1 = implement_functions(tree, first, end, starts, memory, book);
-        let m = models::find_model_index_by_local_name(tree, at, starts, memory, b1);
-        let b2 = m.book;
-        let found = m.found;
-        if b2.full != 0 {
-            return b2;
+        let before = book.functions;
+        implement_functions(tree, first, end, starts, memory, book);
+        let found = models::find_model_index_by_local_name(tree, at, starts, memory, book);
+        if book.full != 0 {
+            return;
         }
-        if let Found::At(model) = found {
-            return implement_methods(tree, first, end, starts, memory, b2, model, book.functions);
+        if let Some(model) = found {
+            implement_methods(tree, first, end, starts, memory, book, model, before);
         }
-        return b2;
     }
-    book
 }

@@ -8,8 +8,9 @@ ghost use Rattle.book_compiler.specs.RepresentsBook.{book_laid};
 ghost use Rattle.book_compiler.specs.BookLeaves.{FindsIncluded, GivesIncluded};
 ghost use Rattle.book_compiler.specs.DefinitionSteps.{CompilesAlias, CompilesAliases, CompilesIncludeDefinition};
 
+use crate::lent::part;
+use crate::subtree::Pairs;
 use crate::{locals, pairs};
-use building::scopes::Found;
 use compiler_laws::book::Book;
 use words::record::field;
 use words::{areas, record, reply};
@@ -18,70 +19,55 @@ use words::{areas, record, reply};
 const CONSTANT: usize = 2;
 
 // The book of a file, the books compiled so far being the first of area 12.
-fn find_book(books: &[u64], many: usize, file: u64) -> Found
+fn find_book(books: &[u64], many: usize, file: u64) -> Option<u64>
     ensures { result ≡ found_of (find_book_c many file books.now) }
 {
-    let mut i: usize = 0;
-    while i < many {
+    for i in 0..many {
         if areas::entry_word(books, areas::BOOK_WORDS, i, 0) == file {
-            return Found::At(i as u64);
+            return Some(i as u64);
         }
-        i += 1;
     }
-    Found::Nothing
+    None
 }
 
 // The constant of a public name of a file, by areas 8 and 12.
-fn included_name(publics: &[u64], books: &[u64], book: Book, file: u64, name: u64) -> Found
-    ensures { result ≡ found_of (included_c book.file book.publics file name books.now publics.now) }
+fn included_name(publics: &[u64], books: &[u64], book: &Book, file: u64, name: u64) -> Option<u64>
+    ensures { result ≡ found_of (included_c book.now.file book.now.publics file name books.now publics.now) }
 {
     let many = book.file as usize;
     let there = find_book(books, many, file);
-    if let Found::At(j) = there {
+    if let Some(j) = there {
         let found = pairs::find_pair(publics, areas::PUBLIC_NAME_WORDS, 0, book.publics, j, name);
-        if let Found::At(i) = found {
+        if let Some(i) = found {
             let constant = areas::entry_word(
                 publics,
                 areas::PUBLIC_NAME_WORDS,
                 i as usize,
                 CONSTANT,
             );
-            return Found::At(constant);
+            return Some(constant);
         }
-        return Found::Nothing;
+        return None;
     }
-    Found::Nothing
+    None
 }
 
 fn find_constant_index_by_include(
     starts: &[usize; 15],
     memory: &[u64],
-    book: Book,
+    book: &Book,
     file: u64,
     name: u64,
-) -> Found
-    ensures { FindsIncluded file name result (book_laid book starts.now memory.now) }
+) -> Option<u64>
+    ensures { FindsIncluded file name result (book_laid book.now starts.now memory.now) }
 {
-    let start = starts[8];
-    let end = starts[9];
-    let first = starts[12];
-    let last = starts[13];
-    if start <= end {
-        if end <= memory.len() {
-            if first <= last {
-                if last <= memory.len() {
-                    return included_name(
-                        &memory[start..end],
-                        &memory[first..last],
-                        book,
-                        file,
-                        name,
-                    );
-                }
-            }
-        }
-    }
-    Found::Nothing
+    included_name(
+        part(starts, memory, areas::PUBLIC_NAMES),
+        part(starts, memory, areas::BOOKS),
+        book,
+        file,
+        name,
+    )
 }
 
 // A pair of an include: an unfound public name leaves its local without value.
@@ -92,25 +78,21 @@ fn compile_alias(
     starts: &[usize; 15],
     memory: &mut [u64],
     file: u64,
-    book: Book,
-) -> Book
-    ensures { CompilesAlias tree.now at next file (book_laid book starts.now memory.old)
-        (book_laid result starts.now memory.new) }
+    book: &mut Book,
+)
+    ensures { CompilesAlias tree.now at next file (book_laid book.old starts.now memory.old)
+        (book_laid book.new starts.now memory.new) }
 {
     let local = field(tree, next, record::VALUE);
-    let d = locals::define_local(starts, memory, book, local);
-    let b = d.book;
-    if b.full != 0 {
-        return b;
+    let found = locals::define_local(starts, memory, book, local);
+    if book.full != 0 {
+        return;
     }
-    let found = d.found;
     let name = field(tree, at, record::VALUE);
-    let value = find_constant_index_by_include(starts, memory, b, file, name);
-    if let Found::At(constant) = value {
-        locals::set_value(starts, memory, b, found, constant);
-        return b;
+    let value = find_constant_index_by_include(starts, memory, book, file, name);
+    if let Some(constant) = value {
+        locals::set_value(starts, memory, book, found, constant);
     }
-    b
 }
 
 // The pairs of an include.
@@ -120,23 +102,15 @@ fn compile_aliases(
     end: usize,
     starts: &[usize; 15],
     memory: &mut [u64],
-    book: Book,
-) -> Book
+    book: &mut Book,
+)
     ensures { CompilesAliases tree.now (at + 1) end (value_at tree.now at)
-        (book_laid book starts.now memory.old) (book_laid result starts.now memory.new) }
+        (book_laid book.old starts.now memory.old) (book_laid book.new starts.now memory.new) }
 {
-    if end <= at {
-        return book;
-    }
     let file = field(tree, at, record::VALUE);
-    let mut i = at + 1;
-    let mut b = book;
-    while 1 < end - i {
-        let next = i + 1;
-        b = compile_alias(tree, i, next, starts, memory, file, b);
-        i = next + 1;
+    for name in (Pairs { at, end }) {
+        compile_alias(tree, name, name + 1, starts, memory, file, book);
     }
-    b
 }
 
 // Whether a book has a public name.
@@ -144,27 +118,18 @@ fn is_public(publics: &[u64], count: usize, book: u64, name: u64) -> bool
     ensures { result ≡ is_some (included_by (some book) count name publics.now) }
 {
     let found = pairs::find_pair(publics, areas::PUBLIC_NAME_WORDS, 0, count, book, name);
-    if let Found::At(_i) = found {
-        return true;
-    }
-    false
+    found.is_some()
 }
 
 // Whether a book has all the public names that the pairs of an include list.
 fn all_public(tree: &[u64], at: usize, end: usize, publics: &[u64], count: usize, book: u64) -> bool
     ensures { AsksNames tree.now (at + 1) end (some book) count publics.now result }
 {
-    if end <= at {
-        return true;
-    }
-    let mut i = at + 1;
-    while 1 < end - i {
-        let next = i + 1;
-        let name = field(tree, i, record::VALUE);
+    for place in (Pairs { at, end }) {
+        let name = field(tree, place, record::VALUE);
         if !is_public(publics, count, book, name) {
             return false;
         }
-        i = next + 1;
     }
     true
 }
@@ -174,11 +139,11 @@ fn gives_values(
     tree: &[u64],
     at: usize,
     end: usize,
-    book: Book,
+    book: &Book,
     publics: &[u64],
     books: &[u64],
 ) -> bool
-    ensures { AsksMode tree.now at end books.now publics.now book result }
+    ensures { AsksMode tree.now at end books.now publics.now book.now result }
 {
     if !book.strict {
         return true;
@@ -186,7 +151,7 @@ fn gives_values(
     let file = field(tree, at, record::VALUE);
     let many = book.file as usize;
     let there = find_book(books, many, file);
-    if let Found::At(j) = there {
+    if let Some(j) = there {
         return all_public(tree, at, end, publics, book.publics, j);
     }
     if end <= at {
@@ -202,31 +167,18 @@ fn include_gives_values(
     end: usize,
     starts: &[usize; 15],
     memory: &[u64],
-    book: Book,
+    book: &Book,
 ) -> bool
-    ensures { GivesIncluded tree.now at end result (book_laid book starts.now memory.now) }
+    ensures { GivesIncluded tree.now at end result (book_laid book.now starts.now memory.now) }
 {
-    let start = starts[8];
-    let stop = starts[9];
-    let first = starts[12];
-    let last = starts[13];
-    if start <= stop {
-        if stop <= memory.len() {
-            if first <= last {
-                if last <= memory.len() {
-                    return gives_values(
-                        tree,
-                        at,
-                        end,
-                        book,
-                        &memory[start..stop],
-                        &memory[first..last],
-                    );
-                }
-            }
-        }
-    }
-    true
+    gives_values(
+        tree,
+        at,
+        end,
+        book,
+        part(starts, memory, areas::PUBLIC_NAMES),
+        part(starts, memory, areas::BOOKS),
+    )
 }
 
 // In strict mode it is asked of all names first (2026-07), and row 11 takes the place of a full area's mark.
@@ -236,21 +188,20 @@ pub(crate) fn compile_include_definition(
     end: usize,
     starts: &[usize; 15],
     memory: &mut [u64],
-    book: Book,
-) -> Book
-    ensures { CompilesIncludeDefinition tree.now at end (book_laid book starts.now memory.old)
-        (book_laid result starts.now memory.new) }
+    book: &mut Book,
+)
+    ensures { CompilesIncludeDefinition tree.now at end (book_laid book.old starts.now memory.old)
+        (book_laid book.new starts.now memory.new) }
 {
     if book.full != 0 {
-        return book;
+        return;
     }
     if tree.len() <= at {
-        return book;
+        return;
     }
     if !include_gives_values(tree, at, end, starts, memory, book) {
-        let mut b = book;
-        b.full = reply::FIRST_NOT_PUBLIC + at as u64;
-        return b;
+        book.full = reply::FIRST_NOT_PUBLIC + at as u64;
+        return;
     }
-    compile_aliases(tree, at, end, starts, memory, book)
+    compile_aliases(tree, at, end, starts, memory, book);
 }

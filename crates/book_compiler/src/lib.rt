@@ -1,10 +1,9 @@
-// `backend/compiler.rs` and `backend/dependency_solver.rs` over one lent memory: parts by number, the state of a function in cells.
+// `backend/compiler.rs` and `backend/dependency_solver.rs` over one lent memory: parts by number, the state of a function is lent beside them.
 #![tactic(auto)]
 
 ghost use Rattle.book_compiler.specs.Promise.{CompilesInto, LaysOnInto, TriesInto, CommitsInto};
 
 mod book;
-mod cells;
 mod definitions;
 mod driver;
 mod ending;
@@ -14,6 +13,7 @@ mod functions;
 mod grown;
 mod implements;
 mod includes;
+mod lent;
 mod locals;
 mod methods;
 mod models;
@@ -57,6 +57,8 @@ pub fn lay_on(
 {
     grown::answer_onto(tree, strict, Order::Lay, standing, lengths, memory)
 }
+
+// `lay_on`, `trial` and `commit` stay three calls over one routine: the C interface has the three.
 
 // What laying the books on would answer (2026-08), the totals that the program would have among it; the number of bundles is as lent. The program stays as it
 // stands, and after rows 7 and 8 the errors are listed.

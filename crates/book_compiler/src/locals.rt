@@ -8,72 +8,61 @@ ghost use Rattle.book_compiler.specs.BookLeaves.{DefinesContextLocal, SetsLocalV
 ghost use Rattle.undo.specs.Stood.{Spares};
 ghost use Rattle.book_compiler.specs.DefinitionSteps.{AddsLocalValue, GivesLocalValue, CompilesBinding, CompilesLocalDefinition};
 
-use crate::book::Sought;
+use crate::lent::{lend, lend_with};
+use crate::subtree::Pairs;
 use crate::{book, expressions};
 use building::context;
-use building::scopes::Found;
 use compiler_laws::book::Book;
 use words::record::field;
-use words::{object, record, reply};
+use words::reply::CompileError;
+use words::{areas, object, record};
 
 // `define_local` of the compiler's state, on area 7; nothing is found with the mark set.
-fn define_entry(locals: &mut [u64], book: Book, name: u64) -> Sought
-    ensures { (LocalsSeek book locals.old result.book locals.new result.found (define_context_local name)
-        × Spares context_locals_area book.full (book.locals * 4) locals.old locals.new)
-        × SameCounts book result.book }
+fn define_entry(locals: &mut [u64], book: &mut Book, name: u64) -> Option<u64>
+    ensures { (LocalsSeek book.old locals.old book.new locals.new result (define_context_local name)
+        × Spares context_locals_area book.old.full (book.old.locals * 4) locals.old locals.new)
+        × SameCounts book.old book.new }
 {
     if book.full != 0 {
-        return Sought {
-            found: Found::Nothing,
-            book,
-        };
+        return None;
     }
-    let l = context::define_context_local(
+    context::define_context_local(
         locals,
-        book.full,
+        &mut book.full,
         book.first_local,
-        book.locals,
+        &mut book.locals,
         book.file,
         name,
-    );
-    let found = l.found;
-    let mut b = book;
-    b.full = l.full;
-    b.locals = l.count;
-    Sought { found, book: b }
+    )
 }
 
 pub(crate) fn define_local(
     starts: &[usize; 15],
     memory: &mut [u64],
-    book: Book,
+    book: &mut Book,
     name: u64,
-) -> Sought
-    ensures { DefinesContextLocal name result.found (book_laid book starts.now memory.old)
-        (book_laid result.book starts.now memory.new) }
+) -> Option<u64>
+    ensures { DefinesContextLocal name result (book_laid book.old starts.now memory.old)
+        (book_laid book.new starts.now memory.new) }
 {
-    let start = starts[7];
-    let end = starts[8];
-    if start <= end {
-        if end <= memory.len() {
-            return define_entry(&mut memory[start..end], book, name);
-        }
-    }
-    Sought {
-        found: Found::Nothing,
+    lend_with(
+        starts,
+        memory,
+        areas::CONTEXT_LOCALS,
         book,
-    }
+        |locals, book| define_entry(locals, book, name),
+    )
 }
 
 // `local_values.insert` on area 7, where there is a local.
-fn set_entry(locals: &mut [u64], book: Book, found: Found, constant: u64)
-    ensures { LocalsValue book locals.old locals.new found constant
-        × SparesLocals book found locals.old locals.new }
+fn set_entry(locals: &mut [u64], book: &Book, found: Option<u64>, constant: u64)
+    ensures { LocalsValue book.now locals.old locals.new found constant
+        × SparesLocals book.now found locals.old locals.new }
 {
     if book.full != 0 {
         return;
     }
-    if let Found::At(i) = found {
+    if let Some(i) = found {
         context::set_value(locals, book.full, book.locals, i, constant);
         return;
     }
@@ -82,40 +71,35 @@ fn set_entry(locals: &mut [u64], book: Book, found: Found, constant: u64)
 pub(crate) fn set_value(
     starts: &[usize; 15],
     memory: &mut [u64],
-    book: Book,
-    found: Found,
+    book: &Book,
+    found: Option<u64>,
     constant: u64,
 )
-    ensures { SetsLocalValue found constant (book_laid book starts.now memory.old)
-        (book_laid book starts.now memory.new) }
+    ensures { SetsLocalValue found constant (book_laid book.now starts.now memory.old)
+        (book_laid book.now starts.now memory.new) }
 {
-    let start = starts[7];
-    let end = starts[8];
-    if start <= end {
-        if end <= memory.len() {
-            set_entry(&mut memory[start..end], book, found, constant);
-            return;
-        }
-    }
+    lend(
+        starts,
+        memory,
+        areas::CONTEXT_LOCALS,
+        |locals| set_entry(locals, book, found, constant),
+    );
 }
 
 // A constant that is the value of a local.
 fn add_value(
     starts: &[usize; 15],
     memory: &mut [u64],
-    book: Book,
-    found: Found,
+    book: &mut Book,
+    found: Option<u64>,
     kind: u64,
     value: u64,
-) -> Book
-    ensures { AddsLocalValue found kind value (book_laid book starts.now memory.old)
-        (book_laid result starts.now memory.new) }
+)
+    ensures { AddsLocalValue found kind value (book_laid book.old starts.now memory.old)
+        (book_laid book.new starts.now memory.new) }
 {
-    let a = book::add_constant(starts, memory, book, kind, value);
-    let place = a.place;
-    let b = a.book;
-    set_value(starts, memory, b, found, place);
-    b
+    let place = book::add_constant(starts, memory, book, kind, value);
+    set_value(starts, memory, book, found, place);
 }
 
 // The value of a local: a constant that stands, one to add, or none.
@@ -124,30 +108,28 @@ fn give_value(
     at: usize,
     starts: &[usize; 15],
     memory: &mut [u64],
-    book: Book,
-    found: Found,
-) -> Book
-    ensures { GivesLocalValue tree.now at found (book_laid book starts.now memory.old)
-        (book_laid result starts.now memory.new) }
+    book: &mut Book,
+    found: Option<u64>,
+)
+    ensures { GivesLocalValue tree.now at found (book_laid book.old starts.now memory.old)
+        (book_laid book.new starts.now memory.new) }
 {
     let kind = field(tree, at, record::KIND);
     let value = field(tree, at, record::VALUE);
-    let constant = expressions::standing(kind, value);
-    if kind == record::NULL {
-        set_value(starts, memory, book, found, constant);
-        return book;
+    match kind {
+        record::NULL | record::BOOLEAN => {
+            set_value(
+                starts,
+                memory,
+                book,
+                found,
+                expressions::standing(kind, value),
+            );
+        }
+        record::INTEGER => add_value(starts, memory, book, found, object::INTEGER, value),
+        record::FLOAT => add_value(starts, memory, book, found, object::FLOAT, value),
+        _ => book::push_error(starts, memory, tree, at, book, CompileError::ConstantOnly),
     }
-    if kind == record::BOOLEAN {
-        set_value(starts, memory, book, found, constant);
-        return book;
-    }
-    if kind == record::INTEGER {
-        return add_value(starts, memory, book, found, object::INTEGER, value);
-    }
-    if kind == record::FLOAT {
-        return add_value(starts, memory, book, found, object::FLOAT, value);
-    }
-    book::push_error(starts, memory, tree, at, book, reply::ERROR_CONSTANT_ONLY)
 }
 
 // A pair of a local definition: a repeated name is passed over before its value is looked at.
@@ -157,26 +139,23 @@ fn compile_binding(
     next: usize,
     starts: &[usize; 15],
     memory: &mut [u64],
-    book: Book,
-) -> Book
-    ensures { CompilesBinding tree.now at next (book_laid book starts.now memory.old)
-        (book_laid result starts.now memory.new) }
+    book: &mut Book,
+)
+    ensures { CompilesBinding tree.now at next (book_laid book.old starts.now memory.old)
+        (book_laid book.new starts.now memory.new) }
 {
     let name = field(tree, at, record::VALUE);
-    let d = define_local(starts, memory, book, name);
-    let b = d.book;
-    if b.full != 0 {
-        return b;
+    let found = define_local(starts, memory, book, name);
+    if book.full != 0 {
+        return;
     }
     let kind = field(tree, next, record::KIND);
     if kind == record::ABSENT {
-        return b;
+        return;
     }
-    let found = d.found;
-    if let Found::At(i) = found {
-        return give_value(tree, next, starts, memory, b, Found::At(i));
+    if let Some(i) = found {
+        give_value(tree, next, starts, memory, book, Some(i));
     }
-    b
 }
 
 // Its pairs.
@@ -186,20 +165,12 @@ pub(crate) fn compile_local_definition(
     end: usize,
     starts: &[usize; 15],
     memory: &mut [u64],
-    book: Book,
-) -> Book
-    ensures { CompilesLocalDefinition tree.now (at + 1) end (book_laid book starts.now memory.old)
-        (book_laid result starts.now memory.new) }
+    book: &mut Book,
+)
+    ensures { CompilesLocalDefinition tree.now (at + 1) end (book_laid book.old starts.now memory.old)
+        (book_laid book.new starts.now memory.new) }
 {
-    if end <= at {
-        return book;
+    for name in (Pairs { at, end }) {
+        compile_binding(tree, name, name + 1, starts, memory, book);
     }
-    let mut i = at + 1;
-    let mut b = book;
-    while 1 < end - i {
-        let next = i + 1;
-        b = compile_binding(tree, i, next, starts, memory, b);
-        i = next + 1;
-    }
-    b
 }

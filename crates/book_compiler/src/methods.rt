@@ -3,17 +3,17 @@ ghost use Rattle.std.specs.Prelude.{◌≡◌};
 ghost use Rattle.book_compiler.specs.RepresentsBook.{book_laid};
 ghost use Rattle.book_compiler.specs.BookLeaves.{InsertsNoted, CopiesNoted, CopiesAllNoted, SameCounts, InsertsBookMethod, CopiesBookMethods};
 
-use building::scopes::Found;
+use crate::lent::lend_with;
 use building::taking;
 use compiler_laws::book::Book;
 use words::areas;
 
 // One entry for a model and a name: the last function wins.
-fn insert_entry(methods: &mut [u64], book: Book, model: u64, name: u64, function: u64) -> Book
-    ensures { InsertsNoted model name function book methods.old result methods.new }
+fn insert_entry(methods: &mut [u64], book: &mut Book, model: u64, name: u64, function: u64)
+    ensures { InsertsNoted model name function book.old methods.old book.new methods.new }
 {
     if book.full != 0 {
-        return book;
+        return;
     }
     let found = undo::methods::find_method(
         methods,
@@ -22,92 +22,72 @@ fn insert_entry(methods: &mut [u64], book: Book, model: u64, name: u64, function
         model,
         name,
     );
-    if let Found::At(i) = found {
+    if let Some(i) = found {
         undo::methods::set_function(methods, book.standing_methods, i as usize, function);
-        return book;
+        return;
     }
-    let t = taking::take3(
+    taking::take(
         methods,
         areas::METHODS,
-        book.full,
-        book.methods,
-        model,
-        name,
-        function,
+        &mut book.full,
+        &mut book.methods,
+        [model, name, function],
     );
-    let mut b = book;
-    b.full = t.full;
-    b.methods = t.count;
-    b
 }
 
 pub(crate) fn insert_method(
     starts: &[usize; 15],
     memory: &mut [u64],
-    book: Book,
+    book: &mut Book,
     model: u64,
     name: u64,
     function: u64,
-) -> Book
-    ensures { InsertsBookMethod model name function (book_laid book starts.now memory.old)
-        (book_laid result starts.now memory.new) }
+)
+    ensures { InsertsBookMethod model name function (book_laid book.old starts.now memory.old)
+        (book_laid book.new starts.now memory.new) }
 {
-    let start = starts[6];
-    let end = starts[7];
-    if start <= end {
-        if end <= memory.len() {
-            return insert_entry(&mut memory[start..end], book, model, name, function);
-        }
-    }
-    book
+    lend_with(starts, memory, areas::METHODS, book, |methods, book| {
+        insert_entry(methods, book, model, name, function)
+    })
 }
 
 // One method of the source under the target, if it is one.
-fn copy_entry(methods: &mut [u64], book: Book, i: usize, source: u64, target: u64) -> Book
-    ensures { CopiesNoted source target i book methods.old result methods.new }
+fn copy_entry(methods: &mut [u64], book: &mut Book, i: usize, source: u64, target: u64)
+    ensures { CopiesNoted source target i book.old methods.old book.new methods.new }
 {
     if book.full != 0 {
-        return book;
+        return;
     }
     let model = undo::methods::method_model(methods, book.standing_methods, i);
     if model != source {
-        return book;
+        return;
     }
     let name = undo::methods::method_name(methods, book.standing_methods, i);
     let function = undo::methods::method_function(methods, book.standing_methods, i);
-    insert_entry(methods, book, target, name, function)
+    insert_entry(methods, book, target, name, function);
 }
 
 // The methods that there are of the source, one by one under the target.
-fn copy_entries(methods: &mut [u64], book: Book, source: u64, target: u64) -> Book
-    ensures { CopiesAllNoted source target book methods.old result methods.new × SameCounts book result }
+fn copy_entries(methods: &mut [u64], book: &mut Book, source: u64, target: u64)
+    ensures { CopiesAllNoted source target book.old methods.old book.new methods.new × SameCounts book.old book.new }
 {
     let count = book.methods;
-    let mut i: usize = 0;
-    let mut b = book;
-    while i < count {
-        b = copy_entry(methods, b, i, source, target);
-        i += 1;
+    for i in 0..count {
+        copy_entry(methods, book, i, source, target);
     }
-    b
 }
 
 pub(crate) fn copy_methods(
     starts: &[usize; 15],
     memory: &mut [u64],
-    book: Book,
+    book: &mut Book,
     source: u64,
     target: u64,
-) -> Book
-    ensures { CopiesBookMethods source target (book_laid book starts.now memory.old)
-        (book_laid result starts.now memory.new) }
+)
+    ensures { CopiesBookMethods source target (book_laid book.old starts.now memory.old)
+        (book_laid book.new starts.now memory.new) }
 {
-    let start = starts[6];
-    let end = starts[7];
-    if start <= end {
-        if end <= memory.len() {
-            return copy_entries(&mut memory[start..end], book, source, target);
-        }
-    }
-    book
+    lend_with(starts, memory, areas::METHODS, book, |methods, book| {
+        copy_entries(methods, book, source, target)
+    })
 }

@@ -7,61 +7,37 @@ ghost use Rattle.book_compiler.specs.BookOrder.{LentPart, LentButErrors};
 ghost use Rattle.book_compiler.specs.Onto.{MakesReady, GivesBack};
 ghost use Rattle.book_compiler.specs.OntoParts.{given_back};
 
-use crate::slots;
+use crate::ending::PART_COUNT;
+use crate::lent::lend;
+use crate::{lent, slots};
 use words::areas;
 use words::reply::Totals;
-
-// The parts of the constants, the methods and the errors, and of the slots, which are behind the areas.
-const CONSTANTS_PART: usize = 2;
-
-const METHODS_PART: usize = 6;
-
-const ERRORS_PART: usize = 11;
-
-const SLOTS_PART: usize = 13;
-
-const PART_COUNT: usize = 14;
 
 // No errors.
 pub(crate) fn clear_errors(starts: &[usize; 15], memory: &mut [u64])
     ensures { LentPart errors_area (λ e e'. e' ≡ cleared_from 0 e) starts.now memory.old memory.new }
 {
-    let start = starts[11];
-    let end = starts[12];
-    if start <= end {
-        if end <= memory.len() {
-            areas::clear_from(&mut memory[start..end], 0);
-            return;
-        }
-    }
+    lend(starts, memory, areas::ERRORS, |errors| {
+        areas::clear_from(errors, 0)
+    });
 }
 
 // The marks of the constants that stand are noted.
 fn note_constants(count: usize, starts: &[usize; 15], memory: &mut [u64])
     ensures { LentPart constants_area (λ k k'. k' ≡ noted_marks count k) starts.now memory.old memory.new }
 {
-    let start = starts[2];
-    let end = starts[3];
-    if start <= end {
-        if end <= memory.len() {
-            undo::marks::note_marks(&mut memory[start..end], count);
-            return;
-        }
-    }
+    lend(starts, memory, areas::CONSTANTS, |constants| {
+        undo::marks::note_marks(constants, count)
+    });
 }
 
 // The functions of the methods that stand are noted.
 fn note_methods(count: usize, starts: &[usize; 15], memory: &mut [u64])
     ensures { LentPart methods_area (λ t t'. t' ≡ noted_methods count t) starts.now memory.old memory.new }
 {
-    let start = starts[6];
-    let end = starts[7];
-    if start <= end {
-        if end <= memory.len() {
-            undo::methods::note_methods(&mut memory[start..end], count);
-            return;
-        }
-    }
+    lend(starts, memory, areas::METHODS, |methods| {
+        undo::methods::note_methods(methods, count)
+    });
 }
 
 // A program that stands, of these totals, is ready for a bundle: no errors, the marks and the methods noted, the slots filled with its constants.
@@ -83,46 +59,31 @@ fn clear_entries(area: u64, count: usize, words: &mut [u64])
     let width = areas::width_of(area);
     if width == 0 {
         areas::clear_from(words, 0);
-        return;
-    }
-    let most = words.len() / width;
-    if count <= most {
+    } else if count <= words.len() / width {
         areas::clear_from(words, count * width);
-        return;
     }
 }
 
 // The words of area i as they were, where so many entries stood.
-fn give_back_words(i: usize, count: usize, words: &mut [u64])
+fn give_back_words(i: u64, count: usize, words: &mut [u64])
     ensures { words.new ≡ given_back i count words.old }
 {
-    clear_entries(i as u64, count, words);
-    if i == CONSTANTS_PART {
-        undo::marks::restore_marks(words, count);
-        return;
-    }
-    if i == METHODS_PART {
-        undo::methods::restore_methods(words, count);
-        return;
+    clear_entries(i, count, words);
+    match i {
+        areas::CONSTANTS => undo::marks::restore_marks(words, count),
+        areas::METHODS => undo::methods::restore_methods(words, count),
+        _ => (),
     }
 }
 
 // Part i; the errors of rows 7 and 8 stay.
-fn give_back_part(i: usize, count: usize, starts: &[usize; 15], memory: &mut [u64])
+fn give_back_part(i: u64, count: usize, starts: &[usize; 15], memory: &mut [u64])
     ensures { LentButErrors i (λ l l'. l' ≡ given_back i count l) starts.now memory.old memory.new }
 {
-    if i == ERRORS_PART {
-        return;
-    }
-    if i < PART_COUNT {
-        let start = starts[i];
-        let end = starts[i + 1];
-        if start <= end {
-            if end <= memory.len() {
-                give_back_words(i, count, &mut memory[start..end]);
-                return;
-            }
-        }
+    if i != areas::ERRORS && i < PART_COUNT {
+        lend(starts, memory, i, |words| {
+            give_back_words(i, count, words)
+        });
     }
 }
 
@@ -130,11 +91,9 @@ fn give_back_part(i: usize, count: usize, starts: &[usize; 15], memory: &mut [u6
 pub(crate) fn give_back(standing: Totals, starts: &[usize; 15], memory: &mut [u64])
     ensures { GivesBack standing starts.now memory.old memory.new }
 {
-    let mut i: usize = 1;
-    while i < SLOTS_PART {
-        let total = standing.total_of(i as u64);
+    for i in 1..lent::SLOTS {
+        let total = standing.total_of(i);
         give_back_part(i, total as usize, starts, memory);
-        i += 1;
     }
     slots::clear_slots(starts, memory);
 }

@@ -3,17 +3,13 @@ ghost use Rattle.std.specs.Prelude.{◌≡◌};
 ghost use Rattle.building.specs.Found.{found_of};
 ghost use Rattle.compiler_laws.specs.IncludeSteps.{is_pair, find_pair_c};
 
-use building::scopes::Found;
 use words::areas;
 
 // Whether the first two words of an entry are a and b.
 fn is_pair(area: &[u64], width: usize, i: usize, a: u64, b: u64) -> bool
     ensures { result ≡ is_pair width a b area.now i }
 {
-    if areas::entry_word(area, width, i, 0) == a {
-        return areas::entry_word(area, width, i, 1) == b;
-    }
-    false
+    areas::entry_word(area, width, i, 0) == a && areas::entry_word(area, width, i, 1) == b
 }
 
 // The first entry from `from` on, up to the count, whose first two words are a and b.
@@ -24,15 +20,13 @@ pub(crate) fn find_pair(
     count: usize,
     a: u64,
     b: u64,
-) -> Found
+) -> Option<u64>
     ensures { result ≡ found_of (find_pair_c width from count a b area.now) }
 {
-    let mut i = from;
-    while i < count {
+    for i in from..count {
         if is_pair(area, width, i, a, b) {
-            return Found::At(i as u64);
+            return Some(i as u64);
         }
-        i += 1;
     }
-    Found::Nothing
+    None
 }

@@ -1,13 +1,14 @@
 // `backend/dependency_solver.rs`: the books that a bundle needs and the next that is ready. Sets of file numbers are words of bits. `standing` is that of the
 // books that stand before the bundle, which are passed over (2026-01).
-ghost use Rattle.std.specs.Prelude.{◌≡◌, ◌<◌, ◌≤◌, true, false, length, take, if◌then◌else◌};
-ghost use Rattle.compiler_laws.specs.FileSets.{bit_of, Added, AddedAbsent, NextIn, NoneBetween, Zeros, set_size};
+ghost use Rattle.std.specs.Prelude.{◌≡◌, ◌<◌, ◌≤◌, ◌-◌, max, true, false, nat_lt, IfSome, length, if◌then◌else◌};
+ghost use Rattle.compiler_laws.specs.FileSets.{bit_of, Added, AddedAbsent, NextIn, NoneBetween, Zeros, set_size, narrow_size};
 ghost use Rattle.compiler_laws.specs.SolverSteps.{FindsTwice, Includes, Reaches, Needs, Misses, Lowers, Resumes, FindsNext, TakesBooks};
-ghost use Rattle.compiler_laws.specs.SolverSteps.{FirstUncompiled, FindsReady, Brings, NarrowIncludes, Narrows, NarrowNumbers, AddsNumbers};
+ghost use Rattle.compiler_laws.specs.SolverSteps.{FirstUncompiled, FindsReady, Brings, NarrowIncludes, Narrows, AddsNumbers};
+ghost use Rattle.std.specs.List.{list_all};
+ghost use Rattle.book_compiler.specs.Rows.{or_count};
 ghost use Rattle.words.specs.Record.{most_records};
 
-use crate::subtree::skip;
-use building::scopes::Found;
+use crate::subtree::{Subtrees, skip};
 use building::taking;
 use words::record::field;
 use words::{areas, record};
@@ -15,9 +16,11 @@ use words::{areas, record};
 // Numbers in sets are below this: every text number is.
 const SET_SIZE: u64 = 1048576;
 
-const SET_WORDS: usize = 16384;
+pub(crate) const SET_WORDS: usize = 16384;
 
-// A set of 64 words has a bit for every number below this.
+// A set of so many words has a bit for every number below NARROW.
+pub(crate) const NARROW_WORDS: usize = 64;
+
 const NARROW: u64 = 4096;
 
 // A book that waits in area 12 is its file number times this, how many records behind its document's were read times the next, and the place of its document.
@@ -29,10 +32,7 @@ pub(crate) fn has(set: &[u64], n: u64) -> bool
     ensures { result ≡ bit_of set.now n }
 {
     let at = (n / 64) as usize;
-    if at < set.len() {
-        return (set[at] >> (n % 64)) % 2 == 1;
-    }
-    false
+    at < set.len() && (set[at] >> (n % 64)) % 2 == 1
 }
 
 // Whether it is new.
@@ -53,25 +53,51 @@ pub(crate) fn add(set: &mut [u64], n: u64) -> bool
 fn add_absent(standing: &[u64], set: &mut [u64], n: u64) -> bool
     ensures { AddedAbsent standing.now set.old n set.new result }
 {
-    if has(standing, n) {
-        return false;
-    }
-    add(set, n)
+    !has(standing, n) && add(set, n)
 }
 
-// The first from `from` on that is in the set, or SET_SIZE; runs of words without a bit are passed over at once.
-fn next_in(set: &[u64], from: u64) -> u64
+// The first from `from` on that is in the set; runs of words without a bit are passed over at once.
+fn next_in(set: &[u64], from: u64) -> Option<u64>
     requires { from ≤ set_size }
-    ensures { NextIn set.now from result }
+    ensures finds { NextIn set.now from (or_count set_size result) }
+    ensures inside { IfSome result (λ n. n < set_size) }
 {
     let mut n = from;
+    // A `for` is no plainer: a step goes over as many numbers as have no bit.
     while n < SET_SIZE {
         if has(set, n) {
-            return n;
+            return Some(n);
         }
         n = after(set, n);
     }
-    n
+    None
+}
+
+// The numbers in a set, ascending, from `from` on.
+#[derive(Clone, Copy)]
+pub struct Members<'a> {
+    pub set: &'a [u64],
+    pub from: u64,
+}
+
+impl Iterator for Members<'_> {
+    ghost use Rattle.std.specs.Iterator.{at_most};
+    ghost use Rattle.book_compiler.specs.SetMembers.{StepsTo};
+
+    type Item = u64;
+
+    ghost next_gives = { λ s found s'. StepsTo s.set.now s.from found s'.set.now s'.from };
+
+    ghost remaining = { λ s. at_most (set_size - s.from) };
+
+    fn next(&mut self) -> Option<u64> {
+        if SET_SIZE <= self.from {
+            return None;
+        }
+        let n = next_in(self.set, self.from)?;
+        self.from = n + 1;
+        Some(n)
+    }
 }
 
 // The next number, or where the number's word has no bit the first of the next word that has one, or SET_SIZE where no word has.
@@ -97,31 +123,26 @@ fn after(set: &[u64], n: u64) -> u64
 fn zeros_end(set: &[u64], at: usize) -> usize
     ensures { Zeros set.now at result }
 {
-    let mut i = at;
-    while i < set.len() {
+    for i in at..set.len() {
         if set[i] != 0 {
             return i;
         }
-        i += 1;
     }
-    i
+    set.len()
 }
 
 // Whether the includes are all below NARROW.
 fn narrow_includes(tree: &[u64], at: usize, end: usize) -> bool
     ensures { NarrowIncludes tree.now at end result }
 {
-    let mut j = at;
-    while j < end {
-        let next = skip(tree, j, end);
-        let kind = field(tree, j, record::KIND);
+    for definition in (Subtrees { tree, at, end }) {
+        let kind = field(tree, definition.at, record::KIND);
         if kind == record::INCLUDE_DEFINITION {
-            let file = field(tree, j, record::VALUE);
+            let file = field(tree, definition.at, record::VALUE);
             if NARROW <= file {
                 return false;
             }
         }
-        j = next;
     }
     true
 }
@@ -130,74 +151,45 @@ fn narrow_includes(tree: &[u64], at: usize, end: usize) -> bool
 pub(crate) fn narrow(tree: &[u64], end: usize) -> bool
     ensures { Narrows tree.now 0 end result }
 {
-    let mut i: usize = 0;
-    while i < end {
-        let last = skip(tree, i, end);
-        let file = field(tree, i, record::VALUE);
+    for document in (Subtrees { tree, at: 0, end }) {
+        let file = field(tree, document.at, record::VALUE);
         if NARROW <= file {
             return false;
         }
-        if !narrow_includes(tree, i + 1, last) {
+        if !narrow_includes(tree, document.at + 1, document.end) {
             return false;
         }
-        i = last;
     }
     true
 }
 
-// Whether the file numbers of the books that stand, the first `count` words of area 12, are all below NARROW.
-pub(crate) fn narrow_books(books: &[u64], count: usize) -> bool
-    ensures { NarrowNumbers (take count books.now) result }
+// Whether the file numbers of the books that stand are all below NARROW.
+pub(crate) fn narrow_books(books: &[u64]) -> bool
+    ensures { result ≡ list_all (λ n. nat_lt n narrow_size) books.now }
 {
-    let mut i: usize = 0;
-    while i < count {
-        if books.len() <= i {
-            return true;
-        }
-        if NARROW <= books[i] {
-            return false;
-        }
-        i += 1;
-    }
-    true
+    books.iter().all(|book| *book < NARROW)
 }
 
 // The same numbers into a set.
-pub(crate) fn add_books(books: &[u64], count: usize, set: &mut [u64])
-    ensures { AddsNumbers (take count books.now) set.old set.new }
+pub(crate) fn add_books(books: &[u64], set: &mut [u64])
+    ensures { AddsNumbers books.now set.old set.new }
 {
-    let mut i: usize = 0;
-    while i < count {
-        if books.len() <= i {
-            return;
-        }
-        add(set, books[i]);
-        i += 1;
+    for book in books {
+        add(set, *book);
     }
 }
 
 // Row 5: the first document whose file number an earlier one has; `present` gets the file numbers.
-pub(crate) fn twice(tree: &[u64], end: usize, present: &mut [u64]) -> Found
+pub(crate) fn twice(tree: &[u64], end: usize, present: &mut [u64]) -> Option<u64>
     ensures { FindsTwice tree.now end present.old result present.new }
 {
-    let mut i: usize = 0;
-    while i < end {
-        let file = field(tree, i, record::VALUE);
+    for document in (Subtrees { tree, at: 0, end }) {
+        let file = field(tree, document.at, record::VALUE);
         if !add(present, file) {
-            return Found::At(i as u64);
+            return Some(document.at as u64);
         }
-        i = skip(tree, i, end);
     }
-    Found::Nothing
-}
-
-fn either(a: bool, b: bool) -> bool
-    ensures { result ≡ (if a then true else b) }
-{
-    if a {
-        return true;
-    }
-    b
+    None
 }
 
 // The includes, wherever they are written, into the set, but for those that stand. Whether there was a new one, or `any`.
@@ -212,16 +204,12 @@ fn add_includes(
     ensures { Includes tree.now at end standing.now any set.old set.new result }
 {
     let mut grew = any;
-    let mut j = at;
-    while j < end {
-        let next = skip(tree, j, end);
-        let kind = field(tree, j, record::KIND);
+    for definition in (Subtrees { tree, at, end }) {
+        let kind = field(tree, definition.at, record::KIND);
         if kind == record::INCLUDE_DEFINITION {
-            let file = field(tree, j, record::VALUE);
-            let fresh = add_absent(standing, set, file);
-            grew = either(grew, fresh);
+            let file = field(tree, definition.at, record::VALUE);
+            grew |= add_absent(standing, set, file);
         }
-        j = next;
     }
     grew
 }
@@ -229,10 +217,7 @@ fn add_includes(
 fn unread(read: &[u64], set: &[u64], file: u64) -> bool
     ensures { result ≡ (if bit_of read.now file then false else bit_of set.now file) }
 {
-    if has(read, file) {
-        return false;
-    }
-    has(set, file)
+    !has(read, file) && has(set, file)
 }
 
 // One reading of the documents: the includes of those in the set that were not read before, into the next. Whether there was a new one.
@@ -248,27 +233,13 @@ fn reach(
         next.new result }
 {
     let mut grew = false;
-    let mut i: usize = 0;
-    while i < end {
-        let last = skip(tree, i, end);
-        let file = field(tree, i, record::VALUE);
+    for document in (Subtrees { tree, at: 0, end }) {
+        let file = field(tree, document.at, record::VALUE);
         if unread(read, set, file) {
-            grew = add_includes(tree, i + 1, last, standing, grew, next);
+            grew = add_includes(tree, document.at + 1, document.end, standing, grew, next);
         }
-        i = last;
     }
     grew
-}
-
-fn copy(from: &[u64], to: &mut [u64])
-    requires { length from.now ≡ length to.old }
-    ensures { to.new ≡ from.now }
-{
-    let mut i: usize = 0;
-    while i < from.len() {
-        to[i] = from[i];
-        i += 1;
-    }
 }
 
 // The books needed, from three empty sets: as many rounds as there are documents, or until one finds nothing new. A document is read in one round, the next
@@ -287,33 +258,29 @@ pub(crate) fn needed(
     let root = field(tree, 0, record::VALUE);
     add_absent(standing, set, root);
     add_absent(standing, next, root);
-    let mut i: usize = 0;
-    while i < end {
+    for _document in (Subtrees { tree, at: 0, end }) {
         if !reach(tree, end, standing, read, set, next) {
             return;
         }
-        copy(set, read);
-        copy(next, set);
-        i = skip(tree, i, end);
+        read.copy_from_slice(set);
+        set.copy_from_slice(next);
     }
 }
 
 // Row 6: the smallest file number that is needed and absent.
-pub(crate) fn missing(needed: &[u64], present: &[u64]) -> Found
+pub(crate) fn missing(needed: &[u64], present: &[u64]) -> Option<u64>
     ensures { Misses needed.now present.now result }
 {
-    let mut from: u64 = 0;
-    while from < SET_SIZE {
-        let n = next_in(needed, from);
-        if SET_SIZE <= n {
-            return Found::Nothing;
+    let members = Members {
+        set: needed,
+        from: 0,
+    };
+    for file in members {
+        if !has(present, file) {
+            return Some(file);
         }
-        if !has(present, n) {
-            return Found::At(n);
-        }
-        from = n + 1;
     }
-    Found::Nothing
+    None
 }
 
 // Where a document was found: those ahead of it have no number from its own up to `above`, so the next one's search goes on from there.
@@ -355,17 +322,23 @@ fn find_document(tree: &[u64], end: usize, last: Place, file: u64) -> Place
     ensures { FindsNext tree.now end file last.at last.above result.at result.above }
 {
     let start = resumed(last, file);
-    let mut i = start.at;
     let mut above = start.above;
-    while i < end {
-        let there = field(tree, i, record::VALUE);
+    let documents = Subtrees {
+        tree,
+        at: start.at,
+        end,
+    };
+    for document in documents {
+        let there = field(tree, document.at, record::VALUE);
         if there == file {
-            return Place { at: i, above };
+            return Place {
+                at: document.at,
+                above,
+            };
         }
         above = lower(above, file, there);
-        i = skip(tree, i, end);
     }
-    Place { at: i, above }
+    Place { at: end, above }
 }
 
 // The books needed, ascending, each an entry of area 12, behind those of `stand` books that stand. Once the mark is set nothing more is taken, so nothing more
@@ -386,48 +359,44 @@ pub(crate) fn take_books(
         at: 0,
         above: SET_SIZE,
     };
-    let mut from: u64 = 0;
-    while from < SET_SIZE {
+    let members = Members {
+        set: needed,
+        from: 0,
+    };
+    for file in members {
         if t.full != 0 {
             return t;
         }
-        let n = next_in(needed, from);
-        if SET_SIZE <= n {
-            return t;
-        }
-        place = find_document(tree, end, place, n);
-        t = taking::take1(
+        place = find_document(tree, end, place, file);
+        taking::take(
             books,
             areas::BOOKS,
-            t.full,
-            t.count,
-            n * BOOK_UNIT + place.at as u64,
+            &mut t.full,
+            &mut t.count,
+            [file * BOOK_UNIT + place.at as u64],
         );
-        from = n + 1;
     }
     t
 }
 
-// The place of the first include from a place on whose book is not compiled, or the end.
-fn first_uncompiled(tree: &[u64], at: usize, end: usize, compiled: &[u64]) -> usize
-    ensures { FirstUncompiled tree.now at end compiled.now result }
+// The place of the first include from a place on whose book is not compiled, if there is one.
+fn first_uncompiled(tree: &[u64], at: usize, end: usize, compiled: &[u64]) -> Option<usize>
+    ensures finds { FirstUncompiled tree.now at end compiled.now (or_count (max at end) result) }
+    ensures inside { IfSome result (λ j. j < end) }
 {
-    let mut j = at;
-    while j < end {
-        let next = skip(tree, j, end);
-        let kind = field(tree, j, record::KIND);
+    for definition in (Subtrees { tree, at, end }) {
+        let kind = field(tree, definition.at, record::KIND);
         if kind == record::INCLUDE_DEFINITION {
-            let file = field(tree, j, record::VALUE);
+            let file = field(tree, definition.at, record::VALUE);
             if !has(compiled, file) {
-                return j;
+                return Some(definition.at);
             }
         }
-        j = next;
     }
-    j
+    None
 }
 
-// The first of the waiting books, from entry `done` on, whose includes are all compiled; the count where there is none. A book that is not ready is read up to
+// The first of the waiting books, from entry `done` on, whose includes are all compiled, if there is one. A book that is not ready is read up to
 // the include that it waits for, and from there on the next time: what is compiled stays so.
 pub(crate) fn next_ready(
     tree: &[u64],
@@ -436,36 +405,32 @@ pub(crate) fn next_ready(
     count: usize,
     compiled: &[u64],
     books: &mut [u64],
-) -> usize
-    ensures { FindsReady tree.now end done count compiled.now books.old result books.new }
+) -> Option<usize>
+    ensures finds { FindsReady tree.now end done count compiled.now books.old (or_count count result) books.new }
+    ensures inside { IfSome result (λ k. k < count) }
 {
-    let mut k = done;
-    while k < count {
+    for k in done..count {
         let entry = areas::entry_word(books, areas::BOOK_WORDS, k, 0);
         let at = (entry % PLACE_UNIT) as usize;
         let from = at + 1 + (entry / PLACE_UNIT % PLACE_UNIT) as usize;
         let last = skip(tree, at, end);
-        let stop = first_uncompiled(tree, from, last, compiled);
-        if last <= stop {
-            return k;
-        }
+        let Some(stop) = first_uncompiled(tree, from, last, compiled) else {
+            return Some(k);
+        };
         let read = (stop - at - 1) as u64 % PLACE_UNIT;
         let word = entry / BOOK_UNIT * BOOK_UNIT + read * PLACE_UNIT + entry % PLACE_UNIT;
         areas::write_word(books, areas::BOOK_WORDS, k, 0, word);
-        k += 1;
     }
-    k
+    None
 }
 
 // The file number of the book at entry k goes to the place of the first waiting one, those between one further.
 pub(crate) fn move_to_front(books: &mut [u64], done: usize, k: usize, file: u64)
     ensures { Brings books.old done k file books.new }
 {
-    let mut i = k;
-    while done < i {
-        let before = areas::entry_word(books, areas::BOOK_WORDS, i - 1, 0);
-        areas::write_word(books, areas::BOOK_WORDS, i, 0, before);
-        i -= 1;
+    for i in (done..k).rev() {
+        let before = areas::entry_word(books, areas::BOOK_WORDS, i, 0);
+        areas::write_word(books, areas::BOOK_WORDS, i + 1, 0, before);
     }
     areas::write_word(books, areas::BOOK_WORDS, done, 0, file);
 }

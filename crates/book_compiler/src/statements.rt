@@ -1,93 +1,88 @@
 // The compilers of statements. `start` and `count` are those of the book's context locals.
 ghost use Rattle.std.specs.Prelude.{◌≡◌};
 ghost use Rattle.definition.specs.Compiler.{compile_rescue};
-ghost use Rattle.compiler_laws.specs.Cells.{state_of};
 ghost use Rattle.compiler_laws.specs.ForStatements.{found_or_zero};
 ghost use Rattle.book_compiler.specs.Represents.{laid, Simulates};
-ghost use Rattle.book_compiler.specs.Members.{token, LoopStarts, LoopHead, LoopName, LoopEnd, CompilesStatement, CompilesBlock, CompilesForStatement};
+ghost use Rattle.book_compiler.specs.Members.{token, LoopStarts, LoopHead, LoopName, LoopEnd};
+ghost use Rattle.book_compiler.specs.Members.{CompilesStatement, CompilesStatements, CompilesVariables, CompilesBlock, CompilesForStatement};
 
 use crate::expressions::compile_expression;
-use crate::subtree::skip;
-use crate::{cells, expressions, function_state};
+use crate::subtree::{Subtrees, skip};
+use crate::{expressions, function_state};
 use building::function_state::FunctionState;
-use building::scopes::Found;
 use words::opcode::OpCode;
-use words::record::field;
-use words::{object, record, reply};
+use words::record::{RecordKind, field};
+use words::reply::CompileError;
+use words::{object, record};
 
 // A rescue part: only where a statement is not inside another.
 fn rescue(
     starts: &[usize; 15],
     memory: &mut [u64],
-    cells: &mut [u64; 15],
+    state: &mut FunctionState,
     position: u64,
     kind: u64,
     value: u64,
 )
-    ensures { Simulates (laid (state_of cells.old) starts.now memory.old)
-        (laid (state_of cells.new) starts.now memory.new)
+    ensures { Simulates (laid state.old starts.now memory.old)
+        (laid state.new starts.now memory.new)
         (compile_rescue (token position kind value)) }
 {
-    let full = cells::full(cells);
-    if full != 0 {
+    if state.full != 0 {
         return;
     }
-    let depth = cells::depth(cells);
-    if 1 < depth {
+    if 1 < state.depth {
         function_state::push_error(
             starts,
             memory,
-            cells,
-            reply::ERROR_RESCUE_IN_LAYER,
+            state,
+            CompileError::RescueInLayer,
             position,
             kind,
             value,
         );
         return;
     }
-    function_state::emit_return(starts, memory, cells, position);
-    cells::set_rescue(cells);
+    function_state::emit_return(starts, memory, state, position);
+    state.set_rescue();
 }
 
 // The locals of a loop's enumerable and iterator, its scope and its breaks.
-fn start_loop(cells: &mut [u64; 15])
-    ensures { LoopStarts (state_of cells.old) (state_of cells.new) }
+fn start_loop(state: &mut FunctionState)
+    ensures { LoopStarts state.old state.new }
 {
-    cells::define_anonymous_local(cells);
-    cells::define_anonymous_local(cells);
-    cells::enter_scope(cells);
-    cells::enter_break_scope(cells);
+    state.define_anonymous_local();
+    state.define_anonymous_local();
+    state.enter_scope();
+    state.enter_break_scope();
 }
 
 // The enumerable and the iterator into their locals.
 fn begin_loop(
     starts: &[usize; 15],
     memory: &mut [u64],
-    cells: &mut [u64; 15],
+    state: &mut FunctionState,
     position: u64,
     enumerable: u64,
 )
-    ensures { LoopHead enumerable position (laid (state_of cells.old) starts.now memory.old)
-        (laid (state_of cells.new) starts.now memory.new) }
+    ensures { LoopHead enumerable position (laid state.old starts.now memory.old)
+        (laid state.new starts.now memory.new) }
 {
     let set = OpCode::LocalSet.to_instruction(enumerable);
-    function_state::emit(starts, memory, cells, set, position);
-    function_state::emit_opcode_without_position(starts, memory, cells, OpCode::Pop);
-    expressions::constant(starts, memory, cells, object::INTEGER, 0, position);
+    function_state::emit(starts, memory, state, set, position);
+    function_state::emit_opcode_without_position(starts, memory, state, OpCode::Pop);
+    expressions::constant(starts, memory, state, object::INTEGER, 0, position);
     let iterator = std::num::wrapping_add_u64(enumerable, 1);
     let zero = OpCode::LocalSet.to_instruction(iterator);
-    function_state::emit(starts, memory, cells, zero, position);
-    function_state::emit_opcode_without_position(starts, memory, cells, OpCode::Pop);
+    function_state::emit(starts, memory, state, zero, position);
+    function_state::emit_opcode_without_position(starts, memory, state, OpCode::Pop);
 }
 
 // A local's number. The Rust unwraps: a loop's name is in a scope just entered, so it is found.
-fn found_or_zero(found: Found) -> u64
+fn found_or_zero(found: Option<u64>) -> u64
     ensures { result ≡ found_or_zero found }
 {
-    match found {
-        Found::At(i) => i,
-        Found::Nothing => 0,
-    }
+    found.unwrap_or(0)
 }
 
 // Where a loop starts, and where the jump out of it stands.
@@ -101,25 +96,25 @@ struct LoopEntry {
 fn name_loop(
     starts: &[usize; 15],
     memory: &mut [u64],
-    cells: &mut [u64; 15],
+    state: &mut FunctionState,
     position: u64,
     text: u64,
     text_position: u64,
     enumerable: u64,
 ) -> LoopEntry
-    ensures { LoopName position text text_position enumerable result (laid (state_of cells.old) starts.now memory.old)
-        (laid (state_of cells.new) starts.now memory.new) }
+    ensures { LoopName position text text_position enumerable result (laid state.old starts.now memory.old)
+        (laid state.new starts.now memory.new) }
 {
-    let found = function_state::define_local(starts, memory, cells, text);
+    let found = function_state::define_local(starts, memory, state, text);
     let index = found_or_zero(found);
-    let first = cells::get_next_instruction_index(cells);
+    let first = state.get_next_instruction_index();
     let next = OpCode::ForNext.to_instruction(enumerable);
-    function_state::emit(starts, memory, cells, next, position);
-    let exit = cells::get_next_instruction_index(cells);
-    function_state::emit_opcode_without_position(starts, memory, cells, OpCode::JumpIf);
+    function_state::emit(starts, memory, state, next, position);
+    let exit = state.get_next_instruction_index();
+    function_state::emit_opcode_without_position(starts, memory, state, OpCode::JumpIf);
     let set = OpCode::LocalSet.to_instruction(index);
-    function_state::emit(starts, memory, cells, set, text_position);
-    function_state::emit_opcode_without_position(starts, memory, cells, OpCode::Pop);
+    function_state::emit(starts, memory, state, set, text_position);
+    function_state::emit_opcode_without_position(starts, memory, state, OpCode::Pop);
     LoopEntry { first, exit }
 }
 
@@ -127,26 +122,26 @@ fn name_loop(
 fn end_loop(
     starts: &[usize; 15],
     memory: &mut [u64],
-    cells: &mut [u64; 15],
+    state: &mut FunctionState,
     around: FunctionState,
     first: usize,
     exit: usize,
 )
-    ensures { LoopEnd around first exit (laid (state_of cells.old) starts.now memory.old)
-        (laid (state_of cells.new) starts.now memory.new) }
+    ensures { LoopEnd around first exit (laid state.old starts.now memory.old)
+        (laid state.new starts.now memory.new) }
 {
-    let position = function_state::get_last_position(starts, memory, cells);
+    let position = function_state::get_last_position(starts, memory, state);
     let iterator = std::num::wrapping_add_u64(around.local_count, 1);
     let iterate = OpCode::Iterate.to_instruction(iterator);
-    function_state::emit(starts, memory, cells, iterate, position);
-    let last = function_state::get_last_position(starts, memory, cells);
+    function_state::emit(starts, memory, state, iterate, position);
+    let last = function_state::get_last_position(starts, memory, state);
     let again = OpCode::Jump.to_instruction(first as u64);
-    function_state::emit(starts, memory, cells, again, last);
-    let next = cells::get_next_instruction_index(cells);
+    function_state::emit(starts, memory, state, again, last);
+    let next = state.get_next_instruction_index();
     let out = OpCode::JumpIf.to_instruction(next as u64);
-    function_state::replace_instruction(starts, memory, cells, exit, out);
-    function_state::exit_break_scope(starts, memory, cells, around.break_base, around.in_loop);
-    function_state::exit_scope(starts, memory, cells, around.scope_base);
+    function_state::replace_instruction(starts, memory, state, exit, out);
+    function_state::exit_break_scope(starts, memory, state, around.break_base, around.in_loop);
+    function_state::exit_scope(starts, memory, state, around.scope_base);
 }
 
 // `compile_statement`: one deeper, and back.
@@ -157,91 +152,126 @@ pub(crate) fn compile_statement(
     end: usize,
     starts: &[usize; 15],
     memory: &mut [u64],
-    cells: &mut [u64; 15],
+    state: &mut FunctionState,
     start: usize,
     count: usize,
 )
-    ensures { CompilesStatement tree.now at end start count (laid (state_of cells.old) starts.now memory.old)
-        (laid (state_of cells.new) starts.now memory.new) }
+    ensures { CompilesStatement tree.now at end start count (laid state.old starts.now memory.old)
+        (laid state.new starts.now memory.new) }
 {
-    let full = cells::full(cells);
-    if full != 0 {
+    if state.full != 0 {
         return;
     }
-    if at < end {
-        let kind = field(tree, at, record::KIND);
-        let position = field(tree, at, record::POSITION);
-        let depth = cells::depth(cells);
-        cells::deeper(cells);
-        if kind == record::EXPRESSION_STATEMENT {
-            compile_expression(tree, at + 1, end, starts, memory, cells, start, count);
-            function_state::emit_opcode_without_position(starts, memory, cells, OpCode::Pop);
-            cells::with_depth(cells, depth);
-            return;
-        }
-        if kind == record::LOCAL_STATEMENT {
-            let mut i = at + 1;
-            while i < end {
-                let text = field(tree, i, record::VALUE);
-                let place = field(tree, i, record::POSITION);
-                let next = skip(tree, i + 1, end);
-                let found = function_state::define_local(starts, memory, cells, text);
-                if let Found::At(index) = found {
-                    let value_kind = field(tree, i + 1, record::KIND);
-                    if value_kind == record::ABSENT {
-                        i = next;
-                        continue;
-                    }
-                    compile_expression(tree, i + 1, next, starts, memory, cells, start, count);
-                    let instruction = OpCode::LocalInit.to_instruction(index);
-                    function_state::emit(starts, memory, cells, instruction, place);
-                    i = next;
-                    continue;
-                }
-                let name_kind = field(tree, i, record::KIND);
-                function_state::push_error(
-                    starts,
-                    memory,
-                    cells,
-                    reply::ERROR_VARIABLE_EXISTS,
-                    place,
-                    name_kind,
-                    text,
-                );
-                i = next;
-            }
-            cells::with_depth(cells, depth);
-            return;
-        }
-        if kind == record::FOR_STATEMENT {
-            compile_for_statement(
-                tree,
-                at + 1,
-                end,
-                starts,
-                memory,
-                cells,
-                start,
-                count,
-                position,
-            );
-            cells::with_depth(cells, depth);
-            return;
-        }
-        if kind == record::BREAK_STATEMENT {
-            function_state::emit_break(starts, memory, cells, position);
-            cells::with_depth(cells, depth);
-            return;
-        }
-        if kind == record::RESCUE_STATEMENT {
-            let value = field(tree, at, record::VALUE);
-            rescue(starts, memory, cells, position, kind, value);
-            cells::with_depth(cells, depth);
-            return;
-        }
-        function_state::emit_return(starts, memory, cells, position);
-        cells::with_depth(cells, depth);
+    if end <= at {
         return;
+    }
+    let number = field(tree, at, record::KIND);
+    let position = field(tree, at, record::POSITION);
+    let depth = state.depth;
+    state.deeper();
+    let kind = RecordKind::try_from(number).unwrap_or(RecordKind::ReturnStatement);
+    match kind {
+        RecordKind::ExpressionStatement => {
+            compile_expression(tree, at + 1, end, starts, memory, state, start, count);
+            function_state::emit_opcode_without_position(starts, memory, state, OpCode::Pop);
+        }
+        RecordKind::LocalStatement => {
+            compile_variables(tree, at + 1, end, starts, memory, state, start, count);
+        }
+        RecordKind::ForStatement => compile_for_statement(
+            tree,
+            at + 1,
+            end,
+            starts,
+            memory,
+            state,
+            start,
+            count,
+            position,
+        ),
+        RecordKind::BreakStatement => function_state::emit_break(starts, memory, state, position),
+        RecordKind::RescueStatement => {
+            let value = field(tree, at, record::VALUE);
+            rescue(starts, memory, state, position, number, value);
+        }
+        _ => function_state::emit_return(starts, memory, state, position),
+    }
+    state.set_depth(depth);
+}
+
+// The variables of a local statement from a place up to the end.
+#[cycle(statements_and_expressions)]
+fn compile_variables(
+    tree: &[u64],
+    at: usize,
+    end: usize,
+    starts: &[usize; 15],
+    memory: &mut [u64],
+    state: &mut FunctionState,
+    start: usize,
+    count: usize,
+)
+    ensures { CompilesVariables tree.now at end start count (laid state.old starts.now memory.old)
+        (laid state.new starts.now memory.new) }
+{
+    let mut i = at;
+    // No `Subtrees`: a step goes over two records, a name and the subtree of its value.
+    while i < end {
+        let text = field(tree, i, record::VALUE);
+        let place = field(tree, i, record::POSITION);
+        let next = skip(tree, i + 1, end);
+        if let Some(index) = function_state::define_local(starts, memory, state, text) {
+            let value_kind = field(tree, i + 1, record::KIND);
+            if value_kind == record::ABSENT {
+                i = next;
+                continue;
+            }
+            compile_expression(tree, i + 1, next, starts, memory, state, start, count);
+            let instruction = OpCode::LocalInit.to_instruction(index);
+            function_state::emit(starts, memory, state, instruction, place);
+            i = next;
+            continue;
+        }
+        let name_kind = field(tree, i, record::KIND);
+        function_state::push_error(
+            starts,
+            memory,
+            state,
+            CompileError::VariableExists,
+            place,
+            name_kind,
+            text,
+        );
+        i = next;
+    }
+}
+
+// The statements from a place up to the end.
+#[cycle(statements_and_expressions)]
+pub(crate) fn compile_statements(
+    tree: &[u64],
+    at: usize,
+    end: usize,
+    starts: &[usize; 15],
+    memory: &mut [u64],
+    state: &mut FunctionState,
+    start: usize,
+    count: usize,
+)
+    ensures { CompilesStatements tree.now at end start count (laid state.old starts.now memory.old)
+        (laid state.new starts.now memory.new) }
+{
+    for statement in (Subtrees { tree, at, end }) {
+        compile_statement(
+            tree,
+            statement.at,
+            statement.end,
+            starts,
+            memory,
+            state,
+            start,
+            count,
+        );
     }
 }
 
@@ -253,27 +283,22 @@ pub(crate) fn compile_block(
     end: usize,
     starts: &[usize; 15],
     memory: &mut [u64],
-    cells: &mut [u64; 15],
+    state: &mut FunctionState,
     start: usize,
     count: usize,
 )
-    ensures { CompilesBlock tree.now at end start count (laid (state_of cells.old) starts.now memory.old)
-        (laid (state_of cells.new) starts.now memory.new) }
+    ensures { CompilesBlock tree.now at end start count (laid state.old starts.now memory.old)
+        (laid state.new starts.now memory.new) }
 {
     if at < end {
-        let around = cells::scope_base(cells);
-        cells::enter_scope(cells);
-        let mut i = at + 1;
-        while i < end {
-            let next = skip(tree, i, end);
-            compile_statement(tree, i, next, starts, memory, cells, start, count);
-            i = next;
-        }
-        function_state::exit_scope(starts, memory, cells, around);
-        function_state::remove_pop_or_push_null(starts, memory, cells);
+        let around = state.scope_base;
+        state.enter_scope();
+        compile_statements(tree, at + 1, end, starts, memory, state, start, count);
+        function_state::exit_scope(starts, memory, state, around);
+        function_state::remove_pop_or_push_null(starts, memory, state);
         return;
     }
-    function_state::emit_null(starts, memory, cells);
+    function_state::emit_null(starts, memory, state);
 }
 
 // `compile_for_statement`: the name, the expression and the statements stand from `at` on; `position` is the for's.
@@ -284,40 +309,35 @@ fn compile_for_statement(
     end: usize,
     starts: &[usize; 15],
     memory: &mut [u64],
-    cells: &mut [u64; 15],
+    state: &mut FunctionState,
     start: usize,
     count: usize,
     position: u64,
 )
-    ensures { CompilesForStatement tree.now at end position start count (laid (state_of cells.old) starts.now memory.old)
-        (laid (state_of cells.new) starts.now memory.new) }
+    ensures { CompilesForStatement tree.now at end position start count (laid state.old starts.now memory.old)
+        (laid state.new starts.now memory.new) }
 {
-    if at < end {
-        let text = field(tree, at, record::VALUE);
-        let text_position = field(tree, at, record::POSITION);
-        let body = skip(tree, at + 1, end);
-        let around = cells::load(cells);
-        start_loop(cells);
-        compile_expression(tree, at + 1, body, starts, memory, cells, start, count);
-        begin_loop(starts, memory, cells, position, around.local_count);
-        let entry = name_loop(
-            starts,
-            memory,
-            cells,
-            position,
-            text,
-            text_position,
-            around.local_count,
-        );
-        let first = entry.first;
-        let exit = entry.exit;
-        let mut i = body;
-        while i < end {
-            let next = skip(tree, i, end);
-            compile_statement(tree, i, next, starts, memory, cells, start, count);
-            i = next;
-        }
-        end_loop(starts, memory, cells, around, first, exit);
+    if end <= at {
         return;
     }
+    let text = field(tree, at, record::VALUE);
+    let text_position = field(tree, at, record::POSITION);
+    let body = skip(tree, at + 1, end);
+    let around = *state;
+    start_loop(state);
+    compile_expression(tree, at + 1, body, starts, memory, state, start, count);
+    begin_loop(starts, memory, state, position, around.local_count);
+    let entry = name_loop(
+        starts,
+        memory,
+        state,
+        position,
+        text,
+        text_position,
+        around.local_count,
+    );
+    let first = entry.first;
+    let exit = entry.exit;
+    compile_statements(tree, body, end, starts, memory, state, start, count);
+    end_loop(starts, memory, state, around, first, exit);
 }

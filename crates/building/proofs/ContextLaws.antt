@@ -12,12 +12,11 @@ use Rattle.words.proofs.Entries.{field_in}
 use Rattle.definition.specs.FunctionState.{Entry, find_name}
 use Rattle.definition.specs.Compiler.{CompilerState, Work}
 use Rattle.definition.specs.Program.{Entries, code_entries, function_entry}
-use Rattle.building.specs.declared.scopes.Found.{Found}
-use Rattle.building.specs.declared.scopes.Found.TheVariants.{At, Nothing}
+use Rattle.std.specs.Prelude.{Some, None}
 use Rattle.building.specs.declared.function_state.FunctionState as struct
 use Rattle.building.specs.declared.taking.Taken.{Taken}
 use Rattle.building.specs.Taking.{Took, taken, has_room}
-use Rattle.building.specs.Found.{is_named, find_context_local_c}
+use Rattle.building.specs.Found.{Found, is_named, find_context_local_c}
 use Rattle.building.specs.Context.{Localing, localing, define_context_by, define_context_c, set_value_c, function_state_words}
 use Rattle.building.specs.RepresentsMachine.{Machine, Filled, Contents, LocalsHeld}
 use Rattle.building.proofs.Filling.{room_fits, set_entry_length, filled_more, filled_set, filled_field, code_length}
@@ -111,9 +110,9 @@ locals_more file name {start} {count} {l} {l'} {es} {s} f f' L = record {
 
 -- what `define_context_local` answers and leaves, where nothing was full: a name that is there keeps its local; a new one has the next
 pub data Defines (start count file name : ℕ) (l : List ℕ) (es : Entries) (s : CompilerState) : Found → Taken → List ℕ → Type 0 where
-  there : {i : ℕ} → find_name name s.locals ≡ some i → Defines start count file name l es s Nothing (taken 0 count) l
+  there : {i : ℕ} → find_name name s.locals ≡ some i → Defines start count file name l es s None (taken 0 count) l
   new : {t : Taken} {l' : List ℕ} → find_name name s.locals ≡ none → Grown context_locals_area count (file ∷ name ∷ 0 ∷ 0 ∷ []) l es t l'
-      → (t.full ≡ 0 → LocalsHeld start (count + 1) l' (with_local name count s)) → Defines start count file name l es s (At count) t l'
+      → (t.full ≡ 0 → LocalsHeld start (count + 1) l' (with_local name count s)) → Defines start count file name l es s (Some count) t l'
 
 grown_locals : (file name : ℕ) {start count : ℕ} {l l' : List ℕ} {es : Entries} {s : CompilerState} {t : Taken} → Filled 4 l es count
     → LocalsHeld start count l s → Grown context_locals_area count (file ∷ name ∷ 0 ∷ 0 ∷ []) l es t l' → t.full ≡ 0
@@ -141,7 +140,7 @@ define_context_law {start} {count} file name {full} {l} {es} {s} {g} {t} {l'} q 
 
 -- with the mark set nothing changes
 pub define_context_full : (start count file name : ℕ) {full : ℕ} {l : List ℕ} → (full ≡ 0 → ⊥)
-    → define_context_c full start count file name l ≡ localing Nothing (taken full count) l
+    → define_context_c full start count file name l ≡ localing None (taken full count) l
 unfolding define_context_c
 define_context_full start count file name {full} ne = rw (ne_eqb full 0 ne)
 

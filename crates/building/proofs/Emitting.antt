@@ -2,27 +2,15 @@
 -- callees ensure and the tests on the way. Assumes nothing.
 use Rattle.std.proofs.Common.{◌≡◌, ℕ, suc, ◌+◌, ◌-◌, ◌/◌, ◌^◌, ◌<◌, ◌≤◌, min, Bool, true, false, cond, eqb, ltb, List, [], ◌∷◌, sym, refl, ap, ◌∙◌, arith}
 use Rattle.std.proofs.Common.{ltb-true, le-ltb, lt-ltb, eq-eqb, ne_eqb}
-use Rattle.words.specs.Areas.{code_area, breaks_area, entry_field, write_word}
-use Rattle.words.specs.Opcode.{to_instruction, word, Pop, PushConstant, ReturnOp, Jump}
-use Rattle.words.specs.Object.{NULL}
+use Rattle.words.specs.Areas.{breaks_area, entry_field, write_word}
+use Rattle.words.specs.Opcode.{to_instruction, word, Pop, ReturnOp, Jump}
 use Rattle.building.specs.declared.taking.Taken.{Taken}
 use Rattle.building.specs.declared.function_state.FunctionState.{FunctionState}
-use Rattle.building.specs.State.{with_code, with_code_count, with_breaks, with_loop}
+use Rattle.building.specs.State.{with_code_count, with_breaks, with_loop}
 use Rattle.building.specs.Taking.{Took, given_up}
-use Rattle.building.specs.Emission.{Coded, coded, next_c, last_position_c, last_opcode_c, emit_c, emit_null_c, pop_c, remove_pop_c, emit_return_c, replace_c}
+use Rattle.building.specs.Emission.{Coded, coded, next_c, last_opcode_c, emit_c, emit_null_c, pop_c, remove_pop_c, replace_c}
 use Rattle.building.specs.Emission.{drop_c}
 use Rattle.building.specs.Emission.{breaking, mark_break_c, emit_break_c, patch_c, exit_break_c}
-
--- `emit`
-pub emit_meets : (w p : ℕ) (s : FunctionState) (c c' : List ℕ) (t : Taken) → Took code_area s.full s.code (w ∷ p ∷ []) c t c'
-    → coded (with_code t s) c' ≡ emit_c w p (coded s c)
-unfolding emit_c
-emit_meets w p s c c' t T = rw (T.reply, T.words)
-
--- `emit_null`
-pub null_meets : (m : Coded) {r : Coded} {x p : ℕ} → r ≡ emit_c x p m → x ≡ word (to_instruction PushConstant NULL) → p ≡ last_position_c m → r ≡ emit_null_c m
-null_meets m {r} {x} {p} e h q =
-    e ∙ ap (λ (y : ℕ). emit_c y p m) h ∙ ap (λ (y : ℕ). emit_c (word (to_instruction PushConstant NULL)) y m) q
 
 module _ (m : Coded) where
   -- where there is an opcode that is looked for, there is an instruction
@@ -55,16 +43,6 @@ module _ (m : Coded) where
       ∙ sym (ap (λ (t : Bool). cond t (cond (eqb (last_opcode_c m) Pop) (pop_c m) (cond (eqb (last_opcode_c m) ReturnOp) m (emit_null_c m))) m)
       (eq-eqb m.state.full 0 z))
 
-  -- `emit_return`
-  pub return_there : {g : Coded} (p : ℕ) → g ≡ remove_pop_c m → last_opcode_c g ≡ ReturnOp → g ≡ emit_return_c p m
-  unfolding emit_return_c
-  return_there {g} p e q = rw (← e, eq-eqb (last_opcode_c g) ReturnOp q)
-
-  pub return_more : {g r : Coded} (p : ℕ) → g ≡ remove_pop_c m → (last_opcode_c g ≡ ReturnOp → ⊥) → r ≡ emit_c (word (to_instruction ReturnOp 0)) p g
-      → r ≡ emit_return_c p m
-  unfolding emit_return_c
-  return_more {g} p e n q = rw (← e, ne_eqb (last_opcode_c g) ReturnOp n) q
-
 -- `replace_instruction`
 
 module _ (index w : ℕ) (s : FunctionState) (c : List ℕ) where
@@ -81,10 +59,6 @@ module _ (index w : ℕ) (s : FunctionState) (c : List ℕ) where
   replace_out z h = rw (eq-eqb s.full 0 z, le-ltb index (next_c s) h)
 
 -- `drop_function`
-pub drop_full : (s : FunctionState) (c : List ℕ) → (s.full ≡ 0 → ⊥) → coded s c ≡ drop_c (coded s c)
-unfolding drop_c
-drop_full s c h = rw (ne_eqb s.full 0 h)
-
 pub drop_more : (s : FunctionState) (c : List ℕ) {c' : List ℕ} → s.full ≡ 0 → c' ≡ given_up 2 s.base s.code c
     → coded (with_code_count s.base s) c' ≡ drop_c (coded s c)
 unfolding drop_c

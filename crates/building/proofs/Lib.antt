@@ -1,10 +1,8 @@
 pub mod Filling
 pub mod Room
 pub mod OldestFirst
-pub mod Passing
 pub mod PoolWays
 pub mod PoolLaws
-pub mod ContextWays
 pub mod ContextLaws
 pub mod Emitting
 pub mod EmissionLaws
@@ -12,7 +10,6 @@ pub mod StateLaws
 pub mod BreakLaws
 pub mod NewestFirst
 pub mod NarrowAgrees
-pub mod Naming
 pub mod ScopeNames
 pub mod ScopeLaws
 pub mod Notes

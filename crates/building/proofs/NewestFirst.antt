@@ -7,7 +7,7 @@ use Rattle.words.proofs.Entries.{field_in}
 use Rattle.building.specs.Found.{found_of, narrow_of, find_newest, find_narrow}
 use Rattle.building.specs.declared.scopes.Narrow.{Narrow}
 use Rattle.building.specs.declared.scopes.Narrow.TheVariants as narrow
-use Rattle.building.specs.declared.scopes.Found.TheVariants.{At, Nothing}
+use Rattle.std.specs.Prelude.{Some, None}
 
 -- `all` is what was asked, and the entries from `from` up to i are left to search
 module _ (all : Option ℕ) (from i name : ℕ) (w : List ℕ) (so_far : all ≡ find_newest (i - from) from name w) where
@@ -15,7 +15,7 @@ module _ (all : Option ℕ) (from i name : ℕ) (w : List ℕ) (so_far : all ≡
   unfolding find_newest
   ends h = let e : i - from ≡ 0 = omega arith in rw (so_far, e)
 
-  pub newest_none : i ≤ from → Nothing ≡ found_of all
+  pub newest_none : i ≤ from → None ≡ found_of all
   newest_none h = rw (ends h)
 
   pub narrow_none : i ≤ from → narrow.Nothing ≡ narrow_of all
@@ -32,7 +32,7 @@ module _ (all : Option ℕ) (from i name : ℕ) (w : List ℕ) (so_far : all ≡
   hits other local h o e l = rw (step h, eq-eqb (entry_field 2 (i - 1) 0 w) name (sym o ∙ e), l)
 
   pub newest_here : (other local : ℕ) → from < i → other ≡ entry_field 2 (i - 1) 0 w → other ≡ name → local ≡ entry_field 2 (i - 1) 1 w
-      → At local ≡ found_of all
+      → Some local ≡ found_of all
   newest_here other local h o e l = rw (hits other local h o e l)
 
   -- of 32 bits, and past them
@@ -46,6 +46,8 @@ module _ (all : Option ℕ) (from i name : ℕ) (w : List ℕ) (so_far : all ≡
 
   pub newest_next : (other : ℕ) → from < i → other ≡ entry_field 2 (i - 1) 0 w → (other ≡ name → ⊥) → all ≡ find_newest (i - 1 - from) from name w
   newest_next other h o e = step h ∙ rw (ne_eqb (entry_field 2 (i - 1) 0 w) name (λ q. e (o ∙ q)))
+
+pub ruleset newest_steps = (newest_none, newest_here, newest_next)
 
 -- the search of 32 bits: beyond the area it does not look
 

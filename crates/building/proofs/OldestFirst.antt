@@ -1,38 +1,10 @@
--- The searches that go from an entry on, the oldest first: what a turn of their loops makes of `first_from`, and what they find where entries are told
--- by a list. By induction over the entries. Assumes nothing.
-use Rattle.std.proofs.Common.{◌≡◌, ℕ, suc, ◌+◌, ◌-◌, ◌<◌, ◌≤◌, Bool, true, false, cond, eqb, List, [], ◌∷◌, length, get_or, sym, refl, ap, ◌∙◌, arith}
-use mathlib.Core.Option.{none, some}
+-- The searches that go from an entry on, the oldest first: what they find where entries are told by a list. By induction over the entries. Assumes nothing.
+use Rattle.std.proofs.Common.{◌≡◌, ℕ, suc, ◌+◌, ◌<◌, Bool, cond, eqb, List, [], ◌∷◌, length, get_or, refl, ap, arith}
+use mathlib.Core.Option.{some}
 use Rattle.words.specs.Object.{Constant, constant_of, same_constant}
 use Rattle.definition.specs.FunctionState.{Entry, find_name}
 use Rattle.definition.specs.Compiler.{find_constant}
-use Rattle.building.specs.declared.scopes.Found.TheVariants.{At, Nothing}
-use Rattle.building.specs.Found.{found_of, first_from}
-
-pub first_start : (test : ℕ → Bool) (n : ℕ) → first_from test (n - 0) 0 ≡ first_from test n 0
-first_start test n = let all : n - 0 ≡ n = omega arith in rw all
-
--- the loop at entry i of those before entry n, whose search began with k entries from entry s on
-module _ (test : ℕ → Bool) (n i k s : ℕ) where
-  pub first_here : i < n → test i ≡ true → first_from test (n - i) i ≡ first_from test k s → At i ≡ found_of (first_from test k s)
-  unfolding first_from
-  first_here h t e =
-      let more : n - i ≡ suc (n - suc i) = omega arith in
-      let here : first_from test (n - i) i ≡ some i = rw (more, t) in
-      ap found_of (sym here ∙ e)
-
-  pub first_next : i < n → test i ≡ false → first_from test (n - i) i ≡ first_from test k s → first_from test (n - (i + 1)) (i + 1) ≡ first_from test k s
-  unfolding first_from
-  first_next h t e =
-      let more : n - i ≡ suc (n - (i + 1)) = omega arith in
-      let past : first_from test (n - i) i ≡ first_from test (n - (i + 1)) (i + 1) = rw (more, t) in
-      sym past ∙ e
-
-  pub first_end : n ≤ i → first_from test (n - i) i ≡ first_from test k s → Nothing ≡ found_of (first_from test k s)
-  unfolding first_from
-  first_end h e =
-      let done : n - i ≡ 0 = omega arith in
-      let end : first_from test (n - i) i ≡ none = rw done in
-      ap found_of (sym end ∙ e)
+use Rattle.building.specs.Found.{first_from}
 
 -- a list's constants, from entry i on
 pub first_constant : (c : Constant) (test : ℕ → Bool) (ds : List Constant) (i : ℕ)

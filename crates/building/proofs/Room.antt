@@ -1,55 +1,12 @@
--- An entry more of an area at any width, by the way that the code goes; and entries given up, by the run of stores that the code makes: what is left to
--- clear from i is what was to clear at first. Assumes nothing.
+-- Entries given up: what the code clears. Assumes nothing.
 use Rattle.std.proofs.Common.{◌≡◌, ℕ, suc, ◌+◌, ◌-◌, ◌*◌, ◌<◌, ◌≤◌, min, Bool, true, false, cond, leb, List, [], ◌∷◌, ◌++◌, length, set, replicate, sym, refl}
-use Rattle.std.proofs.Common.{mul-zero, le-mul_of_pos_right, add-one, arith, le-ltb, lt-ltb, eq-eqb, ne_eqb, le-leb}
+use Rattle.std.proofs.Common.{◌∙◌, append_assoc, arith}
 use native.Mathlib.Decide.{dec_le}
 use lib.ListN.{length-replicate, replicate-append-replicate}
 use lib.Seq.{sets, length-sets, set_out}
-use borrow.Author.Tests.{lt-leb}
-use Rattle.words.specs.Areas.{entries_in, write_entry, entry_fits}
-use Rattle.building.specs.Taking.{taken, Took, start_of, zeroed, given_up}
-use Rattle.building.proofs.Filling.{room_fits}
-
-module _ (area full count : ℕ) (entry w : List ℕ) where
-  -- with the mark set
-  pub took_full : (full ≡ 0 → ⊥) → Took area full count entry w (taken full count) w
-  took_full h = record { reply = simp (ne_eqb full 0 h); words = simp (ne_eqb full 0 h) }
-
-  -- where there is room
-  pub took_more : (width : ℕ) {after : List ℕ} → length entry ≡ width → 0 < width → width ≤ 8 → full ≡ 0 → count < entries_in width (length w)
-      → after ≡ write_entry width count entry w → Took area full count entry w (taken full (count + 1)) after
-  took_more width e p q z h a =
-      let fits : entry_fits width count (length w) ≡ true =
-      simp (lt-ltb 0 width p, le-leb width 8 q, le-leb (count * width + width) (length w) (room_fits width count (length w) h)) in
-      record {
-        reply = rw (eq-eqb full 0 z, e, lt-ltb count (entries_in width (length w)) h);
-        words = rw (eq-eqb full 0 z, e, lt-ltb count (entries_in width (length w)) h) (rw fits at a);
-      }
-
-  -- where there is none
-  pub took_none : (width : ℕ) → length entry ≡ width → full ≡ 0 → entries_in width (length w) ≤ count → Took area full count entry w (taken area count) w
-  took_none width e z h = record {
-    reply = rw (eq-eqb full 0 z, e, le-ltb count (entries_in width (length w)) h);
-    words = rw (eq-eqb full 0 z, e, le-ltb count (entries_in width (length w)) h);
-  }
-
--- where an entry starts
-pub start_none : (width i n : ℕ) → width ≡ 0 → 0 ≡ start_of width i n
-start_none width i n e = rw (e, mul-zero i) (omega arith)
-
-pub start_wide : (width i n : ℕ) → 8 < width → 0 ≡ start_of width i n
-start_wide width i n h = simp (lt-leb width 8 h)
-
-pub start_in : (width i n : ℕ) → width ≤ 8 → i * width < n → i * width ≡ start_of width i n
-start_in width i n h l = rw (le-leb width 8 h) (omega arith)
-
-pub start_end : (width i n : ℕ) → width ≤ 8 → n ≤ i * width → n ≡ start_of width i n
-start_end width i n h l = rw (le-leb width 8 h) (omega arith)
-
-pub start_past : (width i n : ℕ) → (width ≡ 0 → ⊥) → width ≤ 8 → n ≤ i → n ≡ start_of width i n
-start_past width i n p h l =
-    let q : 0 < width = omega arith in
-    start_end width i n h (omega (arith, le-mul_of_pos_right i q))
+use Rattle.std.proofs.lemmas.List.Edits.{sets-eq}
+use Rattle.building.specs.Taking.{start_of, zeroed, given_up}
+use borrow.Rule.Slice.PartMut.{mid_of, put_mid, mid_len, Post-is}
 
 pub start_inside : (width i n : ℕ) → start_of width i n ≤ n
 start_inside width i n = go (leb width 8)
@@ -101,11 +58,15 @@ given_up_lem w width i count = go (leb width 8)
     go true = zeroed_end w (i * width) (count * width)
     go false = refl
 
--- a turn of the loop, and its end
-pub zero_turn : (w : List ℕ) (i end : ℕ) → i < end → zeroed i end w ≡ zeroed (i + 1) end (set w i 0)
-zero_turn w i end h =
-    let e : end - i ≡ suc (end - suc i) = omega arith in
-    rw (add-one, e)
+-- the part that the code fills, and where it fills none
+pub cleared : (w : List ℕ) (a e : ℕ) {part : List ℕ} → a < e → e ≤ length w → part ≡ replicate (length (mid_of a (e - a) w)) 0
+    → put_mid a (e - a) w part ≡ zeroed a e w
+cleared w a e h l p =
+    let n : length (replicate {A = ℕ} (e - a) 0) ≡ e - a = length-replicate {A = ℕ} (e - a) 0 in
+    let k : a + (e - a) ≡ e = omega arith in
+    let same : sets w a (replicate (e - a) 0) ≡ put_mid a (e - a) w (replicate (e - a) 0) =
+    sets-eq (replicate (e - a) 0) w a (omega (arith, n)) ∙ rw (n, k, Post-is a e w (omega arith), append_assoc) in
+    rw (p, mid_len a e w l) (sym same)
 
 pub zero_end : (w : List ℕ) (i end : ℕ) → end ≤ i → zeroed i end w ≡ w
 zero_end w i end h = let e : end - i ≡ 0 = omega arith in rw e

@@ -14,12 +14,12 @@ use Rattle.definition.specs.Uses.{Use, Limits, limit_of, total}
 use Rattle.definition.specs.Compiler.{Work, with_function, doing}
 use Rattle.definition.specs.Program.{Entries}
 use Rattle.definition.specs.Within.{nil}
-use Rattle.building.specs.declared.scopes.Defined.{Defined}
 use Rattle.building.specs.declared.function_state.FunctionState as struct
 use Rattle.building.specs.Found.{found_of, wrapped}
 use Rattle.building.specs.State.{with_scope, with_names, with_local_count}
 use Rattle.building.specs.Taking.{taken, given_up}
-use Rattle.building.specs.Scopes.{Naming, naming, find_local_c, find_in_scope_c, enter_scope_c, exit_scope_c, end_function_c, define_anonymous_c, counted_c}
+use Rattle.building.specs.Scopes.{Defined, Naming, naming, find_local_c, find_in_scope_c, enter_scope_c}
+use Rattle.building.specs.Scopes.{exit_scope_c, end_function_c, define_anonymous_c, counted_c}
 use Rattle.building.specs.Scopes.{insert_c, Definition, define_by, define_c, Defines}
 use Rattle.building.specs.RepresentsMachine.{machine, Filled, name_entries, oldest_first, is_open, Contents, RepresentsMachine}
 use Rattle.building.proofs.Filling.{filled_less, filled_more, names_length, capped, noted_within, set_entry_length, room_fits}

@@ -1,16 +1,18 @@
--- Searches: an answer of the code is `Found`, one of the definitions an option
+-- Searches: an answer of the code is an `Option` as Rust has it, one of the definitions an option of the proofs' library
 use Rattle.std.specs.Prelude.{◌≡◌, ℕ, zero, suc, ◌+◌, ◌-◌, ◌/◌, ◌%◌, ◌^◌, ◌<◌, ◌≤◌, Bool, cond, List, length, ◌==◌, ◌≢◌, nat_le}
 use Rattle.std.proofs.Math.Option.{Option, none, some}
-use Rattle.words.specs.Areas.{entry_word, entry_field}
+use Rattle.words.specs.Areas.{entry_field}
 use Rattle.words.specs.Object.{Constant, constant_of, same_constant}
-use Rattle.building.specs.declared.scopes.Found.{Found}
-use Rattle.building.specs.declared.scopes.Found.TheVariants.{At, Nothing}
+pub use Rattle.words.specs.Search.{found_of}
+unfoldable pub use Rattle.words.specs.Search.{first_from}
+use Rattle.std.specs.Prelude as code
+use Rattle.std.specs.Prelude.{Some, None}
 use Rattle.building.specs.declared.scopes.Narrow.{Narrow}
 use Rattle.building.specs.declared.scopes.Narrow.TheVariants as narrow
 
-abbrev pub found_of : Option ℕ → Found
-found_of none = Nothing
-found_of (some i) = At i
+-- what the code answers
+abbrev pub Found : Type 0
+Found = code.Option ℕ
 
 -- what a search among names and locals of 32 bits answers where the search of 64 bits answers an option (2026-03): a local that does not fit is said to be wide
 abbrev pub narrow_of : Option ℕ → Narrow
@@ -19,8 +21,8 @@ narrow_of (some i) = cond (nat_le i 4294967295) (narrow.At i) narrow.Wide
 
 -- what a caller makes of it: where the local is wide or an entry beyond the area, the search of 64 bits is asked
 abbrev pub widened : Narrow → Found → Found
-widened (narrow.At i) found = At i
-widened narrow.Nothing found = Nothing
+widened (narrow.At i) found = Some i
+widened narrow.Nothing found = None
 widened narrow.Wide found = found
 widened narrow.Beyond found = found
 
@@ -38,11 +40,6 @@ find_newest (suc k) i name w = cond (entry_field 2 (i + k) 0 w == name) (some (e
 abbrev pub find_narrow : ℕ → ℕ → ℕ → List ℕ → Narrow
 find_narrow from end name w = cond (nat_le end (length w / 2)) (narrow_of (find_newest (end - from) from name w)) narrow.Beyond
 
--- the first of k entries from entry i on that a test takes
-unfoldable pub first_from : (ℕ → Bool) → ℕ → ℕ → Option ℕ
-first_from test zero i = none
-first_from test (suc k) i = cond (test i) (some i) (first_from test k (i + 1))
-
 -- whether constant i of area 2 is the same as c
 abbrev pub is_constant : Constant → List ℕ → ℕ → Bool
 is_constant c w i = same_constant c (constant_of (entry_field 3 i 0 w) (entry_field 3 i 1 w))
@@ -58,14 +55,3 @@ is_named name w i = entry_field 4 i 1 w == name
 -- the first of a book's context locals, from entry `start` up to the count, with a name
 abbrev pub find_context_local_c : ℕ → ℕ → ℕ → List ℕ → Option ℕ
 find_context_local_c start count name w = first_from (is_named name w) (count - start) start
-
--- `pass`: an entry from a place up to the end, before which none from there on has a value in one of its words
-pub record Passes (w : List ℕ) (width word value from end r : ℕ) : Type 0 where
-  pub on : from ≤ r
-  pub last : r ≤ end
-  pub others : (i : ℕ) → from ≤ i → i < r → entry_word width i word w ≢ value
-
--- `find_word`: the first that has it, else the end
-pub record FindsWord (w : List ℕ) (width word value from end r : ℕ) : Type 0 where
-  pub passes : Passes w width word value from end r
-  pub here : r < end → entry_word width r word w ≡ value

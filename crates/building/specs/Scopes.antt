@@ -3,8 +3,7 @@ use Rattle.std.specs.Prelude.{◌≡◌, ℕ, ◌+◌, ◌-◌, ◌%◌, ◌^◌
 use Rattle.std.proofs.Math.Option.{Option, none, some}
 use Rattle.words.specs.Areas.{scope_names_area}
 use Rattle.building.specs.declared.function_state.FunctionState.{FunctionState}
-use Rattle.building.specs.declared.scopes.Defined.{Defined}
-use Rattle.building.specs.Found.{found_of, find_newest}
+use Rattle.building.specs.Found.{Found, found_of, find_newest}
 use Rattle.building.specs.State.{with_names, with_scope, with_local_count}
 use Rattle.building.specs.Taking.{taken_of, took_words, given_up}
 use Rattle.building.specs.Emission.{unless_full}
@@ -67,7 +66,15 @@ define_by none name m = record { found = some m.state.local_count; memory = inse
 unfoldable pub define_c : ℕ → Naming → Definition
 define_c name m = unless_full m.state (define_by (find_in_scope_c name m) name m) (record { found = none; memory = m })
 
--- what `define_local` answers, and the area that it leaves
+-- what `define_local` answers, and the state that it leaves
+pub record Defined : Type 0 where
+  pub found : Found
+  pub state : FunctionState
+
+abbrev pub defined : Found → FunctionState → Defined
+defined f s = record { found = f; state = s }
+
+-- and the area that it leaves
 pub record Defines (name : ℕ) (m : Naming) (r : Defined) (after : List ℕ) : Type 0 where
   pub found : r.found ≡ found_of (define_c name m).found
   pub memory : naming r.state after ≡ (define_c name m).memory

@@ -22,7 +22,7 @@ abbrev pub took_words : ℕ → ℕ → List ℕ → List ℕ → List ℕ
 took_words full count entry w =
     cond (full == 0) (cond (has_room (length entry) count (length w)) (set_entry (length entry) count entry w) w) w
 
--- `take1` to `take4` and `take8`: what they answer, and the area that they leave
+-- `take`: the mark, the count and the area that it leaves
 pub record Took (area full count : ℕ) (entry w : List ℕ) (r : Taken) (after : List ℕ) : Type 0 where
   pub reply : r ≡ taken_of area (length entry) full count (length w)
   pub words : after ≡ took_words full count entry w

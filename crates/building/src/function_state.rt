@@ -1,4 +1,4 @@
-// `backend/function_state.rs`: the state of the function under compilation, by value, and its emission into area 1.
+// `backend/function_state.rs`: the state of the function under compilation, and its emission into area 1.
 ghost use Rattle.std.specs.Prelude.{◌≡◌, ◌-◌, ◌<◌};
 ghost use Rattle.words.specs.Codes.{code_word};
 ghost use Rattle.building.specs.State.{begun};
@@ -13,17 +13,16 @@ use words::areas;
 use words::object::NULL_CONSTANT;
 use words::opcode::{Instruction, OPCODE_UNIT, OpCode};
 
-// The opcodes that emission looks for: `OpCode::Pop` and `OpCode::Return`.
-const POP: u64 = 1;
+// The numbers of the opcodes that emission looks for.
+const POP: u64 = OpCode::Pop as u64;
 
-const RETURN: u64 = 5;
-
-// A tree is not deeper than its area has words: 2^64 - 1.
-const MOST_DEPTH: usize = 18446744073709551615;
+const RETURN: u64 = OpCode::Return as u64;
 
 // The Rust's `FunctionState`. Scopes and break scopes are flat: `names` and `breaks` count the live entries of areas 9 and 10, of which those from
 // `scope_base` and `break_base` on are the innermost's. `code`, `constants` and `errors` count areas 1, 2 and 11; the function's own code starts at
 // entry `base`. `full` is the first area that a step needed an entry beyond, 0 for none. `local_count` wraps at 2^64, which no book reaches.
+// Counts beside lent areas, and no `Vec`: what a library crate works in is lent, and it takes no heap. `full` stays a number, and `break_base` a number beside
+// `in_loop`: the definitions of specs/ (`Took`, `begun`, `exit_break_c`) name each by itself, and row 11's mark is no area's number.
 #[derive(Clone, Copy)]
 pub struct FunctionState {
     pub full: u64,
@@ -43,309 +42,242 @@ pub struct FunctionState {
     pub local_count: u64,
 }
 
-// `FunctionState::new`, behind the code, the constants and the errors that stand.
-pub fn new(full: u64, code: usize, constants: usize, errors: usize) -> FunctionState
-    ensures { result ≡ begun full code constants errors }
-{
-    FunctionState {
-        full,
-        code,
-        constants,
-        names: 0,
-        breaks: 0,
-        errors,
-        base: code,
-        scope_base: 0,
-        break_base: 0,
-        in_loop: false,
-        depth: 0,
-        rescue_position: 0,
-        is_instance: false,
-        parameter_count: 0,
-        local_count: 0,
+impl FunctionState {
+    // Behind the code, the constants and the errors that stand.
+    pub fn new(full: u64, code: usize, constants: usize, errors: usize) -> FunctionState
+        ensures { result ≡ begun full code constants errors }
+    {
+        FunctionState {
+            full,
+            code,
+            constants,
+            names: 0,
+            breaks: 0,
+            errors,
+            base: code,
+            scope_base: 0,
+            break_base: 0,
+            in_loop: false,
+            depth: 0,
+            rescue_position: 0,
+            is_instance: false,
+            parameter_count: 0,
+            local_count: 0,
+        }
     }
-}
 
-// `get_last_position`: 0 where the function has no instruction yet.
-pub fn get_last_position(code: &[u64], state: FunctionState) -> u64
-    ensures { result ≡ last_position_c (coded state code.now) }
-{
-    let count = state.code;
-    if state.base < count {
-        return areas::entry_word(code, areas::CODE_WORDS, count - 1, 1);
+    // 0 where the function has no instruction yet.
+    pub fn get_last_position(&self, code: &[u64]) -> u64
+        ensures { result ≡ last_position_c (coded self.now code.now) }
+    {
+        if self.base < self.code {
+            return areas::entry_word(code, areas::CODE_WORDS, self.code - 1, 1);
+        }
+        0
     }
-    0
-}
 
-// The opcode's number of the function's last instruction; 0 where it has none.
-fn last_opcode(code: &[u64], state: FunctionState) -> u64
-    ensures { result ≡ last_opcode_c (coded state code.now) }
-{
-    let count = state.code;
-    if state.base < count {
-        let word = areas::entry_word(code, areas::CODE_WORDS, count - 1, 0);
-        return word / OPCODE_UNIT;
+    // The opcode's number of the function's last instruction; 0 where it has none.
+    fn last_opcode(&self, code: &[u64]) -> u64
+        ensures { result ≡ last_opcode_c (coded self.now code.now) }
+    {
+        if self.base < self.code {
+            let word = areas::entry_word(code, areas::CODE_WORDS, self.code - 1, 0);
+            return word / OPCODE_UNIT;
+        }
+        0
     }
-    0
-}
 
-// `get_next_instruction_index`
-pub fn get_next_instruction_index(state: FunctionState) -> usize
-    ensures { result ≡ next_c state }
-{
-    if state.base < state.code {
-        return state.code - state.base;
+    pub fn get_next_instruction_index(&self) -> usize
+        ensures { result ≡ next_c self.now }
+    {
+        self.code.saturating_sub(self.base)
     }
-    0
-}
 
-// `emit`
-pub fn emit(
-    code: &mut [u64],
-    state: FunctionState,
-    instruction: Instruction,
-    position: u64,
-) -> FunctionState
-    ensures { coded result code.new ≡ emit_c (code_word instruction) position (coded state code.old) }
-{
-    let word = instruction.word();
-    let t = taking::take2(code, areas::CODE, state.full, state.code, word, position);
-    let mut s = state;
-    s.full = t.full;
-    s.code = t.count;
-    s
-}
+    #[tactic(auto, unfolding(crate::specs::Emission::emit_c))]
+    pub fn emit(&mut self, code: &mut [u64], instruction: Instruction, position: u64)
+        ensures { coded self.new code.new ≡ emit_c (code_word instruction) position (coded self.old code.old) }
+    {
+        let words = [u64::from(instruction), position];
+        taking::take(code, areas::CODE, &mut self.full, &mut self.code, words);
+    }
 
-// `emit_opcode`
-pub fn emit_opcode(
-    code: &mut [u64],
-    state: FunctionState,
-    opcode: OpCode,
-    position: u64,
-) -> FunctionState
-    ensures { coded result code.new ≡ emit_c (word (to_instruction (number_of opcode) 0)) position (coded state code.old) }
-{
-    let instruction = opcode.to_instruction(0);
-    emit(code, state, instruction, position)
-}
+    pub fn emit_opcode(&mut self, code: &mut [u64], opcode: OpCode, position: u64)
+        ensures { coded self.new code.new ≡ emit_c (word (to_instruction (number_of opcode) 0)) position (coded self.old code.old) }
+    {
+        self.emit(code, opcode.to_instruction(0), position);
+    }
 
-// `emit_opcode_without_position`: at the last instruction's.
-pub fn emit_opcode_without_position(
-    code: &mut [u64],
-    state: FunctionState,
-    opcode: OpCode,
-) -> FunctionState
-    ensures { coded result code.new ≡ emit_last_c (word (to_instruction (number_of opcode) 0)) (coded state code.old) }
-{
-    let position = get_last_position(code, state);
-    emit_opcode(code, state, opcode, position)
-}
+    // At the last instruction's position.
+    pub fn emit_opcode_without_position(&mut self, code: &mut [u64], opcode: OpCode)
+        ensures { coded self.new code.new ≡ emit_last_c (word (to_instruction (number_of opcode) 0)) (coded self.old code.old) }
+    {
+        let position = self.get_last_position(code);
+        self.emit_opcode(code, opcode, position);
+    }
 
-// Null at the last position, as three places of the Rust emit it.
-pub fn emit_null(code: &mut [u64], state: FunctionState) -> FunctionState
-    ensures { coded result code.new ≡ emit_null_c (coded state code.old) }
-{
-    let last = get_last_position(code, state);
-    let instruction = OpCode::PushConstant.to_instruction(NULL_CONSTANT);
-    emit(code, state, instruction, last)
-}
+    // Null at the last position, as three places of the Rust emit it.
+    pub fn emit_null(&mut self, code: &mut [u64])
+        ensures { coded self.new code.new ≡ emit_null_c (coded self.old code.old) }
+    {
+        let last = self.get_last_position(code);
+        let instruction = OpCode::PushConstant.to_instruction(NULL_CONSTANT);
+        self.emit(code, instruction, last);
+    }
 
-// The last instruction given up.
-fn pop_last(code: &mut [u64], state: FunctionState) -> FunctionState
-    requires { 0 < state.code }
-    ensures { coded result code.new ≡ pop_c (coded state code.old) }
-{
-    let last = state.code - 1;
-    areas::write2(code, last, 0, 0);
-    let mut s = state;
-    s.code = last;
-    s
-}
+    // The last instruction given up.
+    fn pop_last(&mut self, code: &mut [u64])
+        requires { 0 < self.old.code }
+        ensures { coded self.new code.new ≡ pop_c (coded self.old code.old) }
+    {
+        let last = self.code - 1;
+        areas::write_entry(code, last, [0, 0]);
+        self.code = last;
+    }
 
-// `remove_pop_or_push_null`
-pub fn remove_pop_or_push_null(code: &mut [u64], state: FunctionState) -> FunctionState
-    ensures { coded result code.new ≡ remove_pop_c (coded state code.old) }
-{
-    if state.full != 0 {
-        return state;
+    #[tactic(auto, using(crate::proofs::Emitting::has_last), unfolding(crate::specs::Emission::remove_pop_c))]
+    pub fn remove_pop_or_push_null(&mut self, code: &mut [u64])
+        ensures { coded self.new code.new ≡ remove_pop_c (coded self.old code.old) }
+    {
+        if self.full != 0 {
+            return;
+        }
+        let last = self.last_opcode(code);
+        if last == POP {
+            self.pop_last(code);
+        } else if last != RETURN {
+            self.emit_null(code);
+        }
     }
-    let last = last_opcode(code, state);
-    if last == POP {
-        return pop_last(code, state);
-    }
-    if last == RETURN {
-        return state;
-    }
-    emit_null(code, state)
-}
 
-// `emit_return`
-pub fn emit_return(code: &mut [u64], state: FunctionState, position: u64) -> FunctionState
-    ensures { coded result code.new ≡ emit_return_c position (coded state code.old) }
-{
-    let s = remove_pop_or_push_null(code, state);
-    let end = last_opcode(code, s);
-    if end == RETURN {
-        return s;
+    #[tactic(auto, unfolding(crate::specs::Emission::emit_return_c))]
+    pub fn emit_return(&mut self, code: &mut [u64], position: u64)
+        ensures { coded self.new code.new ≡ emit_return_c position (coded self.old code.old) }
+    {
+        self.remove_pop_or_push_null(code);
+        if self.last_opcode(code) != RETURN {
+            self.emit_opcode(code, OpCode::Return, position);
+        }
     }
-    emit_opcode(code, s, OpCode::Return, position)
-}
 
-// `replace_instruction`, of the function's own code.
-pub fn replace_instruction(
-    code: &mut [u64],
-    state: FunctionState,
-    index: usize,
-    instruction: Instruction,
-)
-    ensures { coded state code.new ≡ replace_c index (code_word instruction) (coded state code.old) }
-{
-    if state.full != 0 {
-        return;
+    // An instruction of the function's own code.
+    #[tactic(auto, unfolding(crate::specs::Emission::replace_c))]
+    pub fn replace_instruction(&self, code: &mut [u64], index: usize, instruction: Instruction)
+        ensures { coded self.now code.new ≡ replace_c index (code_word instruction) (coded self.now code.old) }
+    {
+        if self.full == 0 && index < self.get_next_instruction_index() {
+            let word = u64::from(instruction);
+            areas::write_word(code, areas::CODE_WORDS, self.base + index, 0, word);
+        }
     }
-    let next = get_next_instruction_index(state);
-    if index < next {
-        let at = state.base + index;
-        let word = instruction.word();
-        areas::write_word(code, areas::CODE_WORDS, at, 0, word);
-    }
-}
 
-// A function that is dropped gives its code back (error 8).
-pub fn drop_function(code: &mut [u64], state: FunctionState) -> FunctionState
-    ensures { coded result code.new ≡ drop_c (coded state code.old) }
-{
-    if state.full != 0 {
-        return state;
+    // A function that is dropped gives its code back (error 8).
+    #[tactic(auto, unfolding(crate::specs::Emission::drop_c))]
+    pub fn drop_function(&mut self, code: &mut [u64])
+        ensures { coded self.new code.new ≡ drop_c (coded self.old code.old) }
+    {
+        if self.full == 0 {
+            taking::give_up(code, areas::CODE_WORDS, self.base, self.code);
+            self.code = self.base;
+        }
     }
-    taking::give_up(code, areas::CODE_WORDS, state.base, state.code);
-    let mut s = state;
-    s.code = state.base;
-    s
-}
 
-// `emit_break`: outside of a loop nothing.
-pub fn emit_break(
-    code: &mut [u64],
-    breaks: &mut [u64],
-    state: FunctionState,
-    position: u64,
-) -> FunctionState
-    ensures { breaking result code.new breaks.new
-        ≡ emit_break_c position (breaking state code.old breaks.old) }
-{
-    if state.in_loop {
-        let index = get_next_instruction_index(state);
-        let mut s = emit_opcode(code, state, OpCode::Jump, position);
-        let t = taking::take1(breaks, areas::BREAKS, s.full, s.breaks, index as u64);
-        s.full = t.full;
-        s.breaks = t.count;
-        return s;
+    // Outside of a loop nothing.
+    #[tactic(auto, unfolding(crate::specs::Emission::emit_break_c))]
+    pub fn emit_break(&mut self, code: &mut [u64], breaks: &mut [u64], position: u64)
+        ensures { breaking self.new code.new breaks.new
+            ≡ emit_break_c position (breaking self.old code.old breaks.old) }
+    {
+        if self.in_loop {
+            let index = self.get_next_instruction_index();
+            self.emit_opcode(code, OpCode::Jump, position);
+            let words = [index as u64];
+            taking::take(
+                breaks,
+                areas::BREAKS,
+                &mut self.full,
+                &mut self.breaks,
+                words,
+            );
+        }
     }
-    state
-}
 
-// `enter_break_scope`
-pub fn enter_break_scope(state: FunctionState) -> FunctionState
-    ensures { result ≡ enter_break_c state }
-{
-    if state.full != 0 {
-        return state;
+    pub fn enter_break_scope(&mut self)
+        ensures { self.new ≡ enter_break_c self.old }
+    {
+        if self.full == 0 {
+            self.break_base = self.breaks;
+            self.in_loop = true;
+        }
     }
-    let mut s = state;
-    s.break_base = state.breaks;
-    s.in_loop = true;
-    s
-}
 
-// The innermost loop's breaks jump to the next instruction.
-fn patch_breaks(code: &mut [u64], breaks: &[u64], state: FunctionState)
-    ensures { code.new
-        ≡ patch_c (state.breaks - state.break_base) state.break_base (word (to_instruction Jump (next_c state))) state
-        breaks.now code.old }
-{
-    let next = get_next_instruction_index(state);
-    let instruction = OpCode::Jump.to_instruction(next as u64);
-    let end = state.breaks;
-    let mut i = state.break_base;
-    while i < end {
-        let index = areas::entry_word(breaks, areas::BREAK_WORDS, i, 0);
-        replace_instruction(code, state, index as usize, instruction);
-        i += 1;
+    // The innermost loop's breaks jump to the next instruction.
+    fn patch_breaks(&self, code: &mut [u64], breaks: &[u64])
+        ensures { code.new
+            ≡ patch_c (self.now.breaks - self.now.break_base) self.now.break_base (word (to_instruction Jump (next_c self.now))) self.now
+            breaks.now code.old }
+    {
+        let next = self.get_next_instruction_index();
+        let instruction = OpCode::Jump.to_instruction(next as u64);
+        for i in self.break_base..self.breaks {
+            let index = areas::entry_word(breaks, areas::BREAK_WORDS, i, 0);
+            self.replace_instruction(code, index as usize, instruction);
+        }
     }
-}
 
-// `exit_break_scope`: `start` and `inside` are those of the loop around.
-pub fn exit_break_scope(
-    code: &mut [u64],
-    breaks: &mut [u64],
-    state: FunctionState,
-    start: usize,
-    inside: bool,
-) -> FunctionState
-    ensures { breaking result code.new breaks.new
-        ≡ exit_break_c start inside (breaking state code.old breaks.old) }
-{
-    if state.full != 0 {
-        return state;
+    // `start` and `inside` are those of the loop around.
+    #[tactic(auto, unfolding(crate::specs::Emission::exit_break_c))]
+    pub fn exit_break_scope(
+        &mut self,
+        code: &mut [u64],
+        breaks: &mut [u64],
+        start: usize,
+        inside: bool,
+    )
+        ensures { breaking self.new code.new breaks.new
+            ≡ exit_break_c start inside (breaking self.old code.old breaks.old) }
+    {
+        if self.full == 0 {
+            self.patch_breaks(code, breaks);
+            taking::give_up(breaks, areas::BREAK_WORDS, self.break_base, self.breaks);
+            self.breaks = self.breaks.min(self.break_base);
+            self.break_base = start;
+            self.in_loop = inside;
+        }
     }
-    patch_breaks(code, breaks, state);
-    taking::give_up(breaks, areas::BREAK_WORDS, state.break_base, state.breaks);
-    let mut s = state;
-    if state.break_base < state.breaks {
-        s.breaks = state.break_base;
-    }
-    s.break_base = start;
-    s.in_loop = inside;
-    s
-}
 
-// A statement deeper.
-pub fn deeper(state: FunctionState) -> FunctionState
-    ensures { result ≡ deeper_c state }
-{
-    if state.full != 0 {
-        return state;
+    // A statement deeper. A tree is not deeper than its area has words: 2^64 - 1.
+    pub fn deeper(&mut self)
+        ensures { self.new ≡ deeper_c self.old }
+    {
+        if self.full == 0 {
+            self.depth = self.depth.saturating_add(1);
+        }
     }
-    let mut s = state;
-    if state.depth < MOST_DEPTH {
-        s.depth = state.depth + 1;
-    }
-    s
-}
 
-// Back to a depth.
-pub fn with_depth(state: FunctionState, depth: usize) -> FunctionState
-    ensures { result ≡ depth_c depth state }
-{
-    if state.full != 0 {
-        return state;
+    // Back to a depth.
+    pub fn set_depth(&mut self, depth: usize)
+        ensures { self.new ≡ depth_c depth self.old }
+    {
+        if self.full == 0 {
+            self.depth = depth;
+        }
     }
-    let mut s = state;
-    s.depth = depth;
-    s
-}
 
-// The rescue part starts at the next instruction.
-pub fn set_rescue(state: FunctionState) -> FunctionState
-    ensures { result ≡ rescue_c state }
-{
-    if state.full != 0 {
-        return state;
+    // The rescue part starts at the next instruction.
+    pub fn set_rescue(&mut self)
+        ensures { self.new ≡ rescue_c self.old }
+    {
+        if self.full == 0 {
+            self.rescue_position = self.get_next_instruction_index();
+        }
     }
-    let mut s = state;
-    s.rescue_position = get_next_instruction_index(state);
-    s
-}
 
-pub fn with_parameters(state: FunctionState, is_instance: bool, count: usize) -> FunctionState
-    ensures { result ≡ parameters_c is_instance count state }
-{
-    if state.full != 0 {
-        return state;
+    pub fn set_parameters(&mut self, is_instance: bool, count: usize)
+        ensures { self.new ≡ parameters_c is_instance count self.old }
+    {
+        if self.full == 0 {
+            self.is_instance = is_instance;
+            self.parameter_count = count;
+        }
     }
-    let mut s = state;
-    s.is_instance = is_instance;
-    s.parameter_count = count;
-    s
 }

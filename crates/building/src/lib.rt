@@ -6,5 +6,4 @@ pub mod context;
 pub mod function_state;
 pub mod pool;
 pub mod scopes;
-mod search;
 pub mod taking;

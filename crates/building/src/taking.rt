@@ -1,146 +1,44 @@
-// An entry more of an area, at each width that areas have.
-ghost use Rattle.std.specs.Prelude.{◌≡◌, [], ◌∷◌, length};
-ghost use Rattle.building.specs.Taking.{Took, start_of, given_up};
+// An entry more of an area, and entries given up.
+ghost use Rattle.std.specs.Prelude.{◌≡◌, length};
+ghost use Rattle.building.specs.Taking.{Took, taken, start_of, given_up};
 
 use words::areas;
 
-// The first full area (0: none), and how many entries of this one are in use.
+// The first full area (0: none), and how many entries of one area are in use. `take` is lent the two by themselves: a state has one mark and several counts.
 #[derive(Clone, Copy)]
 pub struct Taken {
     pub full: u64,
     pub count: usize,
 }
 
-pub fn take1(area: &mut [u64], number: u64, full: u64, count: usize, a: u64) -> Taken
-    ensures { Took number full count (a ∷ []) area.old result area.new }
-{
-    if full != 0 {
-        return Taken { full, count };
-    }
-    if count < area.len() {
-        if count < areas::MOST_ENTRIES {
-            areas::write1(area, count, a);
-            return Taken {
-                full,
-                count: count + 1,
-            };
-        }
-    }
-    Taken {
-        full: number,
-        count,
-    }
-}
-
-pub fn take2(area: &mut [u64], number: u64, full: u64, count: usize, a: u64, b: u64) -> Taken
-    ensures { Took number full count (a ∷ b ∷ []) area.old result area.new }
-{
-    if full != 0 {
-        return Taken { full, count };
-    }
-    if count < area.len() / 2 {
-        if count < areas::MOST_ENTRIES {
-            areas::write2(area, count, a, b);
-            return Taken {
-                full,
-                count: count + 1,
-            };
-        }
-    }
-    Taken {
-        full: number,
-        count,
-    }
-}
-
-pub fn take3(
+// An entry of N words behind those in use, and `count` one more; where there is no room, or N is 0, `full` is the area's number. With `full` set, nothing.
+pub fn take<const N: usize>(
     area: &mut [u64],
     number: u64,
-    full: u64,
-    count: usize,
-    a: u64,
-    b: u64,
-    c: u64,
-) -> Taken
-    ensures { Took number full count (a ∷ b ∷ c ∷ []) area.old result area.new }
+    full: &mut u64,
+    count: &mut usize,
+    words: [u64; N],
+)
+    ensures { Took number full.old count.old words.entry area.old (taken full.new count.new) area.new }
 {
-    if full != 0 {
-        return Taken { full, count };
+    if *full != 0 {
+        return;
     }
-    if count < area.len() / 3 {
-        if count < areas::MOST_ENTRIES {
-            areas::write3(area, count, a, b, c);
-            return Taken {
-                full,
-                count: count + 1,
-            };
-        }
+    let i = *count;
+    if N == 0 || area.len() / N <= i || areas::MOST_ENTRIES <= i {
+        *full = number;
+        return;
     }
-    Taken {
-        full: number,
-        count,
-    }
-}
-
-pub fn take4(
-    area: &mut [u64],
-    number: u64,
-    full: u64,
-    count: usize,
-    a: u64,
-    b: u64,
-    c: u64,
-    d: u64,
-) -> Taken
-    ensures { Took number full count (a ∷ b ∷ c ∷ d ∷ []) area.old result area.new }
-{
-    if full != 0 {
-        return Taken { full, count };
-    }
-    if count < area.len() / 4 {
-        if count < areas::MOST_ENTRIES {
-            areas::write4(area, count, a, b, c, d);
-            return Taken {
-                full,
-                count: count + 1,
-            };
-        }
-    }
-    Taken {
-        full: number,
-        count,
-    }
-}
-
-pub fn take8(area: &mut [u64], number: u64, full: u64, count: usize, words: [u64; 8]) -> Taken
-    ensures { Took number full count words area.old result area.new }
-{
-    if full != 0 {
-        return Taken { full, count };
-    }
-    if count < area.len() / 8 {
-        if count < areas::MOST_ENTRIES {
-            areas::write_entry(area, 8, count, words);
-            return Taken {
-                full,
-                count: count + 1,
-            };
-        }
-    }
-    Taken {
-        full: number,
-        count,
-    }
+    let at = i * N;
+    area[at..at + N].copy_from_slice(&words);
+    *count = i + 1;
 }
 
 // Where entry i starts, or the area's end where it starts behind that; at a width that no area has, 0.
 fn start_of(area: &[u64], width: usize, i: usize) -> usize
     ensures { result ≡ start_of width i (length area.now) }
 {
-    if width == 0 {
-        return 0;
-    }
-    if areas::MOST_WIDTH < width {
+    if width == 0 || areas::MOST_WIDTH < width {
         return 0;
     }
     let end = area.len();
@@ -157,10 +55,9 @@ fn start_of(area: &[u64], width: usize, i: usize) -> usize
 pub fn give_up(area: &mut [u64], width: usize, from: usize, count: usize)
     ensures { area.new ≡ given_up width from count area.old }
 {
+    let start = start_of(area, width, from);
     let end = start_of(area, width, count);
-    let mut i = start_of(area, width, from);
-    while i < end {
-        area[i] = 0;
-        i += 1;
+    if start < end {
+        area[start..end].fill(0);
     }
 }

@@ -14,16 +14,16 @@ mod written_lines;
 use std::io;
 
 fn main(rt: HostRuntime) -> io::Result<()> {
-    lines::part(&rt, b"tables")?;
+    lines::part(&rt, "tables")?;
     tables::cases(&rt)?;
-    lines::part(&rt, b"names")?;
+    lines::part(&rt, "names")?;
     names::cases(&rt)?;
-    lines::part(&rt, b"taking")?;
+    lines::part(&rt, "taking")?;
     taking::cases(&rt)?;
-    lines::part(&rt, b"emission")?;
+    lines::part(&rt, "emission")?;
     emission::cases(&rt)?;
-    lines::part(&rt, b"lent state")?;
+    lines::part(&rt, "lent state")?;
     lent_state::cases(&rt)?;
-    lines::part(&rt, b"written lines")?;
+    lines::part(&rt, "written lines")?;
     written_lines::cases(&rt)
 }

@@ -1,6 +1,6 @@
 // Lines of the listing's form through the writer that carries its buffer and through the column writer on slice and offset, on the same cases.
 // Each case writes, once for each form, its name, the offset and whether all fits; then the buffer, which was all dots.
-ghost use Rattle.std.specs.Prelude.{◌≡◌};
+ghost use Rattle.std.specs.Prelude.{◌≡◌, ◌≤◌};
 ghost use Rattle.line_writer.specs.Placed.{placed};
 ghost use Rattle.line_writer.specs.Written.{start_at, line_at};
 
@@ -17,8 +17,7 @@ const DOT: u8 = b'.';
 fn write_line(buffer: &mut [u8], offset: usize, line: Fields) -> Place
     ensures { placed result buffer.new ≡ line_at line (start_at offset buffer.old) }
 {
-    let begun = Place { offset, fits: true };
-    let section = number_at(buffer, begun, SECTION_WIDTH, line.section, false);
+    let section = number_at(buffer, Ok(offset), SECTION_WIDTH, line.section, false);
     let first = number_at(buffer, section, FIELD_WIDTH, line.first, false);
     let second = number_at(buffer, first, FIELD_WIDTH, line.second, false);
     let third = number_at(buffer, second, FIELD_WIDTH, line.third, false);
@@ -29,68 +28,29 @@ fn write_line(buffer: &mut [u8], offset: usize, line: Fields) -> Place
     byte_at(buffer, last, NEWLINE)
 }
 
-fn show(rt: &impl Print, name: &[u8], form: &[u8], buffer: &[u8], place: Place) -> io::Result<()> {
-    lines::say(rt, name)?;
-    lines::say(rt, form)?;
-    lines::decimal(rt, place.offset as u64)?;
-    if place.fits {
-        lines::say(rt, b", fits\n")?;
-    } else {
-        lines::say(rt, b", refused\n")?;
+fn show(rt: &impl Print, name: &str, form: &str, buffer: &[u8], place: Place) -> io::Result<()> {
+    print!(rt; "{name}, {form}: offset ")?;
+    match place {
+        Ok(offset) => println!(rt; "{offset}, fits")?,
+        Err(refused) => println!(rt; "{}, refused", refused.offset)?,
     }
-    lines::say(rt, buffer)?;
-    lines::say(rt, b"\n")
+    rt.write_all(buffer)?;
+    println!(rt; "")
 }
 
-// Both forms over buffers of the same length.
-fn both(
-    rt: &impl Print,
-    name: &[u8],
-    buffer: &mut [u8],
-    buffer_too: &mut [u8],
-    offset: usize,
-    line: Fields,
-) -> io::Result<()> {
-    let place = writer::write_line(buffer, offset, line);
-    show(
-        rt,
-        name,
-        b", the writer with its buffer: offset ",
-        buffer,
-        place,
-    )?;
-    let place_too = write_line(buffer_too, offset, line);
-    show(
-        rt,
-        name,
-        b", on slice and offset: offset ",
-        buffer_too,
-        place_too,
-    )
+// Both forms over buffers of N bytes.
+fn both<const N: usize>(rt: &impl Print, name: &str, offset: usize, line: Fields) -> io::Result<()>
+    requires { N ≤ 80 }
+{
+    let mut buffer = [DOT; N];
+    let place = writer::write_line(&mut buffer, offset, line);
+    show(rt, name, "the writer with its buffer", &buffer, place)?;
+    let mut buffer = [DOT; N];
+    let place = write_line(&mut buffer, offset, line);
+    show(rt, name, "on slice and offset", &buffer, place)
 }
 
-// A line in a buffer of its own length.
-fn whole(rt: &impl Print, name: &[u8], line: Fields) -> io::Result<()> {
-    let mut buffer = [DOT; 74];
-    let mut buffer_too = [DOT; 74];
-    both(rt, name, &mut buffer, &mut buffer_too, 0, line)
-}
-
-// One byte short: the newline has no room.
-fn short(rt: &impl Print, name: &[u8], line: Fields) -> io::Result<()> {
-    let mut buffer = [DOT; 73];
-    let mut buffer_too = [DOT; 73];
-    both(rt, name, &mut buffer, &mut buffer_too, 0, line)
-}
-
-// In the midst of a longer buffer, and beyond its end.
-fn inside(rt: &impl Print, name: &[u8], offset: usize, line: Fields) -> io::Result<()> {
-    let mut buffer = [DOT; 80];
-    let mut buffer_too = [DOT; 80];
-    both(rt, name, &mut buffer, &mut buffer_too, offset, line)
-}
-
-// A line of a section with the same number in each of the six fields.
+// A line of a section with the same number in each of the six fields. They are written out: `Fields` names each, and a list to take apart is no plainer.
 fn line_of(section: u64, each: u64, last: u64, signed: bool) -> Fields {
     Fields {
         section,
@@ -106,9 +66,11 @@ fn line_of(section: u64, each: u64, last: u64, signed: bool) -> Fields {
 }
 
 pub(crate) fn cases(rt: &impl Print) -> io::Result<()> {
-    whole(
+    // In a buffer of the line's own length.
+    both::<74>(
         rt,
-        b"an instruction",
+        "an instruction",
+        0,
         Fields {
             section: 3,
             first: 1,
@@ -121,22 +83,31 @@ pub(crate) fn cases(rt: &impl Print) -> io::Result<()> {
             signed: false,
         },
     )?;
-    whole(
+    both::<74>(
         rt,
-        b"the smallest integer",
+        "the smallest integer",
+        0,
         line_of(4, 0, 9223372036854775808, true),
     )?;
-    whole(rt, b"minus one", line_of(4, 0, 18446744073709551615, true))?;
-    whole(
+    both::<74>(
         rt,
-        b"the widest numbers",
+        "minus one",
+        0,
+        line_of(4, 0, 18446744073709551615, true),
+    )?;
+    both::<74>(
+        rt,
+        "the widest numbers",
+        0,
         line_of(4, 99999999, 18446744073709551615, false),
     )?;
-    short(rt, b"a byte short", line_of(9999, 7, 7, true))?;
-    inside(rt, b"in the midst", 3, line_of(10, 7, 42, false))?;
-    inside(rt, b"up to the end", 6, line_of(11, 7, 42, false))?;
-    inside(rt, b"a byte past the end", 7, line_of(11, 7, 42, false))?;
-    inside(rt, b"from beyond the end", 81, line_of(11, 7, 42, false))?;
-    whole(rt, b"a section too wide", line_of(12345, 7, 42, false))?;
-    whole(rt, b"a field too wide", line_of(1, 100000000, 42, false))
+    // The newline has no room.
+    both::<73>(rt, "a byte short", 0, line_of(9999, 7, 7, true))?;
+    // In the midst of a longer buffer, and beyond its end.
+    both::<80>(rt, "in the midst", 3, line_of(10, 7, 42, false))?;
+    both::<80>(rt, "up to the end", 6, line_of(11, 7, 42, false))?;
+    both::<80>(rt, "a byte past the end", 7, line_of(11, 7, 42, false))?;
+    both::<80>(rt, "from beyond the end", 81, line_of(11, 7, 42, false))?;
+    both::<74>(rt, "a section too wide", 0, line_of(12345, 7, 42, false))?;
+    both::<74>(rt, "a field too wide", 0, line_of(1, 100000000, 42, false))
 }

@@ -5,12 +5,12 @@ use native.Mathlib.Nat.{not-suc-le-zero, le_of_suc-le-suc}
 use native.Mathlib.Numerals.{add-one}
 use native.Mathlib.Omega.{arith}
 use mathlib.Core.Path.{◌≡◌, refl, sym, ap, subst, ◌∙◌}
-use mathlib.Core.Bool.{Bool, true, false, cond, ◌&&◌, false≢true}
+use mathlib.Core.Bool.{Bool, true, false, cond, ◌&&◌}
 use mathlib.Core.List.{List, [], ◌∷◌}
 use lib.ListN.{length, drop, get_or, set, length-set, drop_of_length-le}
 use lib.Seq.{drop-cons}
-use lib.Dec.{leb, ltb}
-use borrow.Author.Tests.{ltb-true, ltb-false, leb-true, le-leb, lt-leb}
+use lib.Dec.{ltb}
+use borrow.Author.Tests.{ltb-true, ltb-false}
 use Rattle.case_numbers.specs.Numbers.{zero_digit, is_digit, longer_by, ended, numbers_at, numbers_from, numbers_in, overwritten, Parsed}
 
 -- numbers over words from a place on
@@ -115,31 +115,10 @@ module _ (text entry : List ℕ) where
         → ToCome text entry [] after read
     last_put after read e p = put_number_lem begun count n [] words after read p (at_end e)
 
-  -- before the first byte, and behind the last number
-  pub at_start : ToCome text entry (numbers_from false 0 (drop 0 text)) entry 0
-  at_start = record { room = refl; within = omega arith; answer = omega arith; filled = refl }
-
+  -- behind the last number
   pub at_last : (words : List ℕ) (r : ℕ) → ToCome text entry [] words r → Parsed text entry words r
   at_last words r h =
       record {
         words = sym (h.filled ∙ none_left r words);
         count = omega (arith, h.answer, h.within, (let z : length {A = ℕ} [] ≡ 0 = refl in z));
       }
-
--- a digit's value
-both : (s t : Bool) → (s && t) ≡ true → (s ≡ true) × (t ≡ true)
-both true t e = (refl, e)
-both false t e = absurd (false≢true e)
-
-pub digit_least : (b : ℕ) → is_digit b ≡ true → zero_digit ≤ b
-digit_least b e = leb-true zero_digit b (both (leb zero_digit b) (leb b 57) e).0
-
-pub digit_most : (b : ℕ) → is_digit b ≡ true → b ≤ 57
-digit_most b e = leb-true b 57 (both (leb zero_digit b) (leb b 57) e).1
-
--- `is_digit`
-pub digit_above : (b : ℕ) → zero_digit ≤ b → leb b 57 ≡ is_digit b
-digit_above b h = sym (ap (λ (t : Bool). t && leb b 57) (le-leb zero_digit b h))
-
-pub digit_below : (b : ℕ) → b < zero_digit → false ≡ is_digit b
-digit_below b h = sym (ap (λ (t : Bool). t && leb b 57) (lt-leb zero_digit b h))

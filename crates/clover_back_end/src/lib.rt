@@ -22,8 +22,9 @@ use column_files::{Converted, columns_to_records, records_to_columns};
 use constant_tables::{Tabled, records_to_table, table_to_records};
 use error_lines::errors_in_words;
 use program_check::check_program;
-use tree::{Shape, check};
+use tree::check;
 use words::reply::{Reply, Totals};
+use words::row::Refused;
 
 // Counts releases of the library: one more whenever an answer may be another than before.
 const VERSION: u64 = 6;
@@ -76,12 +77,15 @@ pub fn clover_version() -> Version
 }
 
 #[tactic(auto, unfolding(crate::specs::Refusals::refusal_of))]
-fn refusal_of(shape: Shape) -> Refusal
+fn refusal_of(shape: Result<(), Refused>) -> Refusal
     ensures { result ≡ refusal_of shape }
 {
     match shape {
-        Shape::Refused(number, place) => Refusal { number, place },
-        Shape::Fine => Refusal {
+        Err(refused) => Refusal {
+            number: refused.row.number(),
+            place: refused.place,
+        },
+        Ok(()) => Refusal {
             number: 0,
             place: 0,
         },

@@ -10,21 +10,20 @@ use lib.ListN.{length, take, drop, get_or, replicate, length-drop, take-append-d
 use lib.Seq.{take_at, drop_at, get_or-drop, drop-cons}
 use lib.Dec.{eqb, leb}
 use borrow.Author.Tests.{eq-eqb, eqb-true, le-leb, leb-true}
+use Rattle.std.specs.Prelude.{Ok}
 use Rattle.words.specs.Record.{field_of, kind_at, span_at, position_at, value_at, most_records, in_place}
 use Rattle.words.proofs.Positions.{in_place_lem}
 use Rattle.tree.specs.Rules.{Rule, rules, rule_of, unused, anything, may_be_at, may_stand, slot_after, first_slot, in_range}
 use Rattle.tree.specs.Check.{walk_of, head_at, shape_of, records_of}
-use Rattle.tree.specs.declared.Shape.TheVariants.{Fine}
-use Rattle.tree.specs.declared.Outcome.TheVariants.{Went}
 use Rattle.tree.proofs.Tables.{may_past}
 use Rattle.tree.proofs.Spans.{and_left, and_right, within_true}
 use Rattle.tree.proofs.Walks.{walk_on, head_went}
 use Rattle.tree.proofs.Children.{then_went, sound_parts}
 use Rattle.tree.proofs.Bundle.{fine_passed}
 use Rattle.column_lines.specs.Form.{line_length}
-use Rattle.column_lines.specs.Line.{read_line, record_line}
-use Rattle.column_lines.specs.declared.line.Line.{Line}
-use Rattle.column_lines.specs.declared.line.Line.TheVariants.{Record, Bad}
+use Rattle.column_lines.specs.Line.{read_line, record_of, record_line}
+use Rattle.words.specs.declared.node.Record.{Record}
+use Rattle.std.specs.Prelude.{Option, Some, None}
 use Rattle.column_lines.proofs.Lines.{line_size_lem}
 use Rattle.column_lines.proofs.Again.{line_again, line_read}
 use Rattle.column_files.specs.Files.{lines_in, words_by, words_of, good_then, bad_by, first_bad, lines_by, columns_of}
@@ -53,12 +52,12 @@ all_get f (r ∷ rs) d zero a e = first (f r) refl a
   where
     first : (t : Bool) → f r ≡ t → cond t (all f rs) false ≡ true → f r ≡ true
     first true y x = y
-    first false y x = absurd (let z : ◌≡◌ {A = ℕ} 0 1 = cc in omega arith)
+    first false y x = cc
 all_get f (r ∷ rs) d (suc k) a e = all_get f rs d k (rest (f r) a) e
   where
     rest : (t : Bool) {x : Bool} → cond t x false ≡ true → x ≡ true
     rest true y = y
-    rest false y = absurd (let z : ◌≡◌ {A = ℕ} 0 1 = cc in omega arith)
+    rest false y = cc
 
 limited : (k : ℕ) → limits (rule_of k) ≡ true
 unfolding limits all
@@ -81,10 +80,10 @@ good_kind s k e = go (dec_lt k 50)
   where
     go : Dec (k < 50) → k < 50
     go (yes h) = h
-    go (no h) = let f : false ≡ may_stand s k = may_past s k (omega arith) in absurd (let z : ◌≡◌ {A = ℕ} 0 1 = cc in omega arith)
+    go (no h) = let f : false ≡ may_stand s k = may_past s k (omega arith) in cc
 
 -- the walk goes over every record
-walk_good : (n : ℕ) (w : List ℕ) (s l t i e u : ℕ) → walk_of w s l t i e ≡ Went u → e ≤ most_records → e - i ≤ n → (j : ℕ) → i ≤ j → j < e → Good w j
+walk_good : (n : ℕ) (w : List ℕ) (s l t i e u : ℕ) → walk_of w s l t i e ≡ Ok u → e ≤ most_records → e - i ≤ n → (j : ℕ) → i ≤ j → j < e → Good w j
 walk_good zero w s l t i e u h m b j a x = absurd (omega arith)
 walk_good (suc n) w s l t i e u h m b j a x =
     let g : i < e = omega arith in
@@ -104,7 +103,7 @@ walk_good (suc n) w s l t i e u h m b j a x =
     by here y (no z) (yes d) inner rest = inner (omega arith) d
     by here y (no z) (no d) inner rest = rest (omega arith)
 
-fine_good : (w : List ℕ) → shape_of w ≡ Fine → (j : ℕ) → j < records_of w → Good w j
+fine_good : (w : List ℕ) → shape_of w ≡ Ok tt → (j : ℕ) → j < records_of w → Good w j
 fine_good w h j x =
     let p = fine_passed w h in
     walk_good (records_of w) w 1 1 0 0 (records_of w) p.went.0 p.went.1 p.limit (omega arith) j (omega arith) x
@@ -118,7 +117,7 @@ four w h =
     ∙ ap (λ (l : List ℕ). get_or w 1 0 ∷ l) (drop-cons w 2 0 (omega arith) ∙ ap (λ (l : List ℕ). get_or w 2 0 ∷ l) (drop-cons w 3 0 (omega arith))))
 
 good_first : (w : List ℕ) → Good w 0 → read_line (record_line (get_or w 0 0) (get_or w 1 0) (get_or w 2 0) (get_or w 3 0))
-    ≡ Record (get_or w 0 0) (get_or w 1 0) (get_or w 2 0) (get_or w 3 0)
+    ≡ Some (record_of (get_or w 0 0) (get_or w 1 0) (get_or w 2 0) (get_or w 3 0))
 unfolding field_of
 good_first w g =
     let k = g.kind in
@@ -170,7 +169,7 @@ pub record ComesBack (w : List ℕ) : Type 0 where
   pub good : first_bad (columns_of w) ≡ 0
 
 -- words that pass rows 2 to 4 come back from their column file as they were
-pub records_come_back : (w : List ℕ) → shape_of w ≡ Fine → ComesBack w
+pub records_come_back : (w : List ℕ) → shape_of w ≡ Ok tt → ComesBack w
 records_come_back w h =
     let p = (fine_passed w h).whole in
     let b = back (length w / 4) 1 w (omega arith) (fine_good w h) in
@@ -181,10 +180,10 @@ records_come_back w h =
 
 -- a file that passes row 1 comes back
 
-good_line : (l : Line) (line next : ℕ) → 0 < line → good_then l line next ≡ 0
-    → (k : ℕ) × (s : ℕ) × (p : ℕ) × (v : ℕ) × (l ≡ Record k s p v) × (next ≡ 0)
-good_line (Record k s p v) line next h e = (k, s, p, v, refl, e)
-good_line Bad line next h e = absurd (omega arith)
+good_line : (l : Option Record) (line next : ℕ) → 0 < line → good_then l line next ≡ 0
+    → (r : Record) × (l ≡ Some r) × (next ≡ 0)
+good_line (Some r) line next h e = (r, refl, e)
+good_line None line next h e = absurd (omega arith)
 
 file_back : (n line : ℕ) (file : List ℕ) → 0 < line → bad_by n line file ≡ 0 → lines_by n (words_by n file) ≡ file
 unfolding words_by lines_by bad_by
@@ -195,9 +194,9 @@ file_back zero line file h e = nothing_left file (go (eqb (length file) 0) refl 
     go false x y = absurd (omega arith)
 file_back (suc n) line file h e =
     let g = good_line (read_line (take line_length file)) line (bad_by n (line + 1) (drop line_length file)) h e in
-    let a = line_again (take line_length file) g.4 in
-    let r = file_back n (line + 1) (drop line_length file) (omega arith) g.5 in
-    rw g.4 (rw (a, r) (take-append-drop line_length file))
+    let a = line_again (take line_length file) g.1 in
+    let r = file_back n (line + 1) (drop line_length file) (omega arith) g.2 in
+    rw g.1 (rw (a, r) (take-append-drop line_length file))
 
 pub file_comes_back : (file : List ℕ) → first_bad file ≡ 0 → columns_of (words_of file) ≡ file
 file_comes_back file h =
@@ -207,7 +206,7 @@ file_comes_back file h =
 
 -- the same of the converters: what one writes, without the zeros after it, the other takes back
 
-pub records_round_trip : (w : List ℕ) (room : ℕ) → shape_of w ≡ Fine → length w ≤ room
+pub records_round_trip : (w : List ℕ) (room : ℕ) → shape_of w ≡ Ok tt → length w ≤ room
     → columns_to_records (columns_of w) room ≡ record { reply = success (records_of w); output = w ++ replicate (room - length w) 0 }
 unfolding columns_to_records answer_by
 records_round_trip w room h l =
@@ -215,7 +214,7 @@ records_round_trip w room h l =
     let g : eqb (first_bad (columns_of w)) 0 ≡ true = eq-eqb (first_bad (columns_of w)) 0 b.good in
     rw (g, b.words, lines_are w) (rw h (rw (le-leb (length w) room l)))
 
-pub file_round_trip : (file : List ℕ) (room : ℕ) → first_bad file ≡ 0 → shape_of (words_of file) ≡ Fine → length file ≤ room
+pub file_round_trip : (file : List ℕ) (room : ℕ) → first_bad file ≡ 0 → shape_of (words_of file) ≡ Ok tt → length file ≤ room
     → records_to_columns (words_of file) room ≡ record { reply = success (lines_in file); output = file ++ replicate (room - length file) 0 }
 unfolding records_to_columns answer_by
 file_round_trip file room b h l =

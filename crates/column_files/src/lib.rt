@@ -8,15 +8,16 @@ pub mod file;
 ghost use Rattle.std.specs.Prelude.{◌≡◌, ◌++◌, ◌+◌, ◌*◌, ◌≤◌, length, drop};
 ghost use Rattle.column_lines.specs.Form.{line_length};
 ghost use Rattle.column_files.specs.Files.{Lent, lines_in, lines_by, LinesRead};
-ghost use Rattle.column_files.specs.Convert.{columns_to_records, records_to_columns, refusal, short_reply, Converts};
+ghost use Rattle.column_files.specs.Convert.{columns_to_records, records_to_columns, reply_of, Stands, Converts};
 
 use crate::bytes::check_file;
-use crate::file::{clear_bytes, first_bad, line_at};
-use column_lines::line::{LINE_LENGTH, Line, write_line};
-use tree::{Shape, check};
-use words::areas::{clear_from, write4};
-use words::record::RECORD_WORDS;
-use words::reply::{AREA_FULL, BAD_LINE};
+use crate::file::{check_end, check_lines, clear_bytes, line_at};
+use column_lines::line::{LINE_LENGTH, write_line};
+use tree::check;
+use words::areas::{clear_from, write_entry};
+use words::node::Record;
+use words::record::{POSITION, RECORD_WORDS, SPAN, VALUE};
+use words::row::{Refused, Row};
 
 // What a converter answers: the number of a refusal's row and its place, or 0 and 0, and how many records it converted.
 #[repr(C)]
@@ -25,6 +26,25 @@ pub struct Converted {
     pub number: u64,
     pub place: usize,
     pub total: usize,
+}
+
+impl From<Result<usize, Refused>> for Converted {
+    ghost from_gives = { λ converted reply. reply ≡ reply_of converted };
+
+    fn from(converted: Result<usize, Refused>) -> Converted {
+        match converted {
+            Ok(total) => Converted {
+                number: 0,
+                place: 0,
+                total,
+            },
+            Err(refused) => Converted {
+                number: refused.row.number(),
+                place: refused.place,
+                total: 0,
+            },
+        }
+    }
 }
 
 // Writes a record's line at a place.
@@ -36,14 +56,13 @@ fn write_record(tree: &[u64], at: usize, out: &mut [u8])
 {
     let i = at * RECORD_WORDS;
     let from = at * LINE_LENGTH;
-    let end = from + LINE_LENGTH;
-    write_line(
-        &mut out[from..end],
-        tree[i],
-        tree[i + 1],
-        tree[i + 2],
-        tree[i + 3],
-    );
+    let fields = Record {
+        kind: tree[i],
+        span: tree[i + SPAN],
+        position: tree[i + POSITION],
+        value: tree[i + VALUE],
+    };
+    write_line(&mut out[from..from + LINE_LENGTH], fields);
 }
 
 // Writes the lines of a number of records.
@@ -52,134 +71,82 @@ fn write_records(tree: &[u64], records: usize, out: &mut [u8])
     requires line_length_in_bounds { records * line_length ≤ length out.old }
     ensures { out.new ≡ lines_by records tree.now ++ drop (records * line_length) out.old }
 {
-    let mut i: usize = 0;
-    while i < records {
+    for i in 0..records {
         write_record(tree, i, out);
-        i += 1;
     }
 }
 
-// Writes the words of a file's lines, up to a bad one, and answers row 1 as `first_bad` does.
-fn write_lines(file: &[u8], out: &mut [u64]) -> usize
+// Writes the words of a file's lines, up to a bad one, and answers row 1 as `check_lines` does, which is not called before, so that each line is read once.
+fn write_lines(file: &[u8], out: &mut [u64]) -> Result<(), Refused>
     requires { lines_in file.now * 4 ≤ length out.old }
     ensures { LinesRead file.now out.old out.new result }
 {
     let lines = file.len() / LINE_LENGTH;
-    let mut i: usize = 0;
-    while i < lines {
-        let line = line_at(file, i);
-        match line {
-            Line::Record(kind, span, position, value) => {
-                write4(out, i, kind, span, position, value);
-                i += 1;
-            }
-            Line::Bad => {
-                return i + 1;
-            }
-        }
+    for i in 0..lines {
+        let Some(record) = line_at(file, i) else {
+            return Err(Row::BadLine.at(i + 1));
+        };
+        let Record {
+            kind,
+            span,
+            position,
+            value,
+        } = record;
+        write_entry(out, i, [kind, span, position, value]);
     }
-    if file.len() % LINE_LENGTH == 0 {
-        return 0;
-    }
-    lines + 1
+    check_end(file)
 }
 
-fn bad_line(line: usize) -> Converted
-    ensures { result ≡ refusal 1 line }
+// Rows 2 to 4, then 9, and the lines of the records.
+fn write_columns(tree: &[u64], out: &mut [u8]) -> Result<usize, Refused>
+    ensures { Stands line_length (records_to_columns tree.now (length out.old)) out.new result }
 {
-    Converted {
-        number: BAD_LINE,
-        place: line,
-        total: 0,
+    check(tree)?;
+    let records = tree.len() / RECORD_WORDS;
+    if out.len() / LINE_LENGTH < records {
+        return Err(Row::AreaFull.at(0));
     }
+    write_records(tree, records, out);
+    Ok(records)
 }
 
-// The reply where the output is too short.
-fn short_reply(shape: Shape) -> Converted
-    ensures { result ≡ short_reply shape }
+// Rows 1 to 4, then 9, and the words of the lines.
+fn write_words(file: &[u8], out: &mut [u64]) -> Result<usize, Refused>
+    ensures { Stands 4 (columns_to_records file.now (length out.old)) out.new result }
 {
-    match shape {
-        Shape::Refused(row, place) => Converted {
-            number: row,
-            place,
-            total: 0,
-        },
-        Shape::Fine => Converted {
-            number: AREA_FULL,
-            place: 0,
-            total: 0,
-        },
+    let lines = file.len() / LINE_LENGTH;
+    if out.len() / RECORD_WORDS < lines {
+        check_lines(file)?;
+        check_file(file)?;
+        return Err(Row::AreaFull.at(0));
     }
+    write_lines(file, out)?;
+    check(&out[..lines * RECORD_WORDS])?;
+    Ok(lines)
 }
 
 // Records to a column file: its bytes, zeros after them, and how many records; a refusal leaves zeros.
 pub fn records_to_columns(tree: &[u64], out: &mut [u8]) -> Converted
     ensures { Converts (records_to_columns tree.now (length out.old)) out.new result }
 {
-    let shape = check(tree);
-    let records = tree.len() / RECORD_WORDS;
-    if out.len() / LINE_LENGTH < records {
-        clear_bytes(out, 0); // too short
-        return short_reply(shape);
-    }
-    match shape {
-        Shape::Refused(row, place) => {
-            clear_bytes(out, 0);
-            return Converted {
-                number: row,
-                place,
-                total: 0,
-            };
-        }
-        Shape::Fine => {
-            write_records(tree, records, out);
-            clear_bytes(out, records * LINE_LENGTH);
-            return Converted {
-                number: 0,
-                place: 0,
-                total: records,
-            };
-        }
-    }
+    let written = write_columns(tree, out);
+    let kept = match written {
+        Ok(records) => records * LINE_LENGTH,
+        Err(_) => 0, // no line stands
+    };
+    clear_bytes(out, kept);
+    Converted::from(written)
 }
 
 // A column file to records: their words, zeros after them, and how many records; a refusal leaves zeros.
 pub fn columns_to_records(file: &[u8], out: &mut [u64]) -> Converted
     ensures { Converts (columns_to_records file.now (length out.old)) out.new result }
 {
-    let lines = file.len() / LINE_LENGTH;
-    if out.len() / RECORD_WORDS < lines {
-        let bad = first_bad(file);
-        clear_from(out, 0); // too short
-        if bad != 0 {
-            return bad_line(bad);
-        }
-        let shape = check_file(file);
-        return short_reply(shape);
-    }
-    let bad = write_lines(file, out);
-    if bad != 0 {
-        clear_from(out, 0);
-        return bad_line(bad);
-    }
-    let words = lines * RECORD_WORDS;
-    let shape = check(&out[..words]);
-    match shape {
-        Shape::Refused(row, place) => {
-            clear_from(out, 0);
-            return Converted {
-                number: row,
-                place,
-                total: 0,
-            };
-        }
-        Shape::Fine => {
-            clear_from(out, words);
-            return Converted {
-                number: 0,
-                place: 0,
-                total: lines,
-            };
-        }
-    }
+    let written = write_words(file, out);
+    let kept = match written {
+        Ok(records) => records * RECORD_WORDS,
+        Err(_) => 0, // no word stands
+    };
+    clear_from(out, kept);
+    Converted::from(written)
 }

@@ -15,11 +15,10 @@ use Rattle.column_lines.specs.Form.{kind_width, span_width, line_width, column_w
 use Rattle.column_lines.specs.Form.{newline_place, line_length, newline, signed_kind}
 use Rattle.column_lines.specs.Numeral.{word_end, least_size, negative_of, numeral, numeral_fits, read_numeral}
 use Rattle.column_lines.specs.Spelling.{rest_fits, spell_fits}
-use Rattle.column_lines.specs.Line.{field_in, signed_is, position_in, record_in, kind_in, span_in, place_in, value_in, whole_line, read_line, record_line}
-use Rattle.column_lines.specs.declared.number.Number.{Number}
-use Rattle.column_lines.specs.declared.number.Number.TheVariants.{Word, Off}
-use Rattle.column_lines.specs.declared.line.Line.{Line}
-use Rattle.column_lines.specs.declared.line.Line.TheVariants.{Record, Bad}
+use Rattle.column_lines.specs.Line.{field_in, signed_is, position_in, record_of, record_in, kind_in, span_in, place_in, value_in, whole_line, read_line, record_line}
+use Rattle.std.specs.Prelude.{Option, Some, None}
+use Rattle.std.proofs.lemmas.Option.{same_Some}
+use Rattle.words.specs.declared.node.Record.{Record}
 use Rattle.column_lines.proofs.Digits.{fits_spelled}
 use Rattle.column_lines.proofs.Numerals.{read_written, written_read, read_below}
 use Rattle.column_lines.proofs.Lines.{numeral_length, position_yes, record_all, line_whole, line_size_lem}
@@ -56,7 +55,7 @@ value_fits s word h = fits_spelled s word value_width ∙ go (negative_of s word
   where
     minus : (s : Bool) → negative_of s word ≡ true → least_size ≤ word
     minus true e = leb-true least_size word e
-    minus false e = absurd (let z : ◌≡◌ {A = ℕ} 0 1 = cc in omega arith)
+    minus false e = cc
 
     go : (t : Bool) → negative_of s word ≡ t → rest_fits 20 (negative_of s word) (cond (negative_of s word) (word_end - word) word / 10) ≡ true
     go true e = rw e (rest_fits_signed 19 ((word_end - word) / 10) (let l = minus s e in omega arith))
@@ -64,48 +63,50 @@ value_fits s word h = fits_spelled s word value_width ∙ go (negative_of s word
 
 -- a line that was read
 
-record-parts : (a b c d : Number) {k s p v : ℕ} → record_in a b c d ≡ Record k s p v → (a ≡ Word k) × (b ≡ Word s) × (c ≡ Word p) × (d ≡ Word v)
+record-parts : (a b c d : Option ℕ) {k s p v : ℕ} → record_in a b c d ≡ Some (record_of k s p v) → (a ≡ Some k) × (b ≡ Some s) × (c ≡ Some p) × (d ≡ Some v)
 unfolding record_in
-record-parts (Word k) (Word s) (Word p) (Word v) e = (cc, cc, cc, cc)
-record-parts (Word k) (Word s) (Word p) Off e = absurd (let z : ◌≡◌ {A = ℕ} 0 1 = cc in omega arith)
-record-parts (Word k) (Word s) Off d e = absurd (let z : ◌≡◌ {A = ℕ} 0 1 = cc in omega arith)
-record-parts (Word k) Off c d e = absurd (let z : ◌≡◌ {A = ℕ} 0 1 = cc in omega arith)
-record-parts Off b c d e = absurd (let z : ◌≡◌ {A = ℕ} 0 1 = cc in omega arith)
+record-parts (Some k) (Some s) (Some p) (Some v) e =
+    let q = same_Some _ _ e in
+    (ap (λ (r : Record). Some r.kind) q, ap (λ (r : Record). Some r.span) q, ap (λ (r : Record). Some r.position) q, ap (λ (r : Record). Some r.value) q)
+record-parts (Some k) (Some s) (Some p) None e = cc
+record-parts (Some k) (Some s) None d e = cc
+record-parts (Some k) None c d e = cc
+record-parts None b c d e = cc
 
-position_parts : (a b : Number) {p : ℕ} → ((c : ℕ) → b ≡ Word c → c < position_base) → position_in a b ≡ Word p
-    → (a ≡ Word (line_of p)) × (b ≡ Word (column_of p))
+position_parts : (a b : Option ℕ) {p : ℕ} → ((c : ℕ) → b ≡ Some c → c < position_base) → position_in a b ≡ Some p
+    → (a ≡ Some (line_of p)) × (b ≡ Some (column_of p))
 unfolding position_in
-position_parts (Word l) (Word c) {p} below e =
+position_parts (Some l) (Some c) {p} below e =
     let q : pack_position l c ≡ p = cc e in
     let k : c < position_base = below c refl in
-    (ap Word (let z : l ≡ p / position_base = omega (arith, q, k) in z), ap Word (let z : c ≡ p % position_base = omega (arith, q, k) in z))
-position_parts (Word l) Off below e = absurd (let z : ◌≡◌ {A = ℕ} 0 1 = cc in omega arith)
-position_parts Off b below e = absurd (let z : ◌≡◌ {A = ℕ} 0 1 = cc in omega arith)
+    (ap Some (let z : l ≡ p / position_base = omega (arith, q, k) in z), ap Some (let z : c ≡ p % position_base = omega (arith, q, k) in z))
+position_parts (Some l) None below e = cc
+position_parts None b below e = cc
 
 -- a number in a field of a line is below the power of ten of the field's width
-pub field_below : (l : List ℕ) (at w : ℕ) {word : ℕ} → at + w ≤ length l → read_numeral false (field_in at w l) ≡ Word word → word < 10 ^ w
+pub field_below : (l : List ℕ) (at w : ℕ) {word : ℕ} → at + w ≤ length l → read_numeral false (field_in at w l) ≡ Some word → word < 10 ^ w
 field_below l at w {word} h e =
     let n : length (field_in at w l) ≡ w = length-take-le w (drop at l) (omega (arith, length-drop at l)) in
     subst (λ (k : ℕ). word < 10 ^ k) n (read_below (field_in at w l) word e)
 
-if_line : (t : Bool) {n : Line} {k s p v : ℕ} → cond t n Bad ≡ Record k s p v → (t ≡ true) × (n ≡ Record k s p v)
+if_line : (t : Bool) {n : Option Record} {k s p v : ℕ} → cond t n None ≡ Some (record_of k s p v) → (t ≡ true) × (n ≡ Some (record_of k s p v))
 if_line true e = (refl, e)
-if_line false e = absurd (let z : ◌≡◌ {A = ℕ} 0 1 = cc in omega arith)
+if_line false e = cc
 
 and_parts : (a b : Bool) → (a && b) ≡ true → (a ≡ true) × (b ≡ true)
 and_parts true b e = (refl, e)
-and_parts false b e = absurd (let z : ◌≡◌ {A = ℕ} 0 1 = cc in omega arith)
+and_parts false b e = cc
 
 pub record Spells (l : List ℕ) (k s p v : ℕ) : Type 0 where
   pub long : length l ≡ line_length
   pub ends : get_or l newline_place 0 ≡ newline
-  pub kind : kind_in l ≡ Word k
-  pub span : span_in l ≡ Word s
-  pub line : read_numeral false (field_in line_place line_width l) ≡ Word (line_of p)
-  pub column : read_numeral false (field_in column_place column_width l) ≡ Word (column_of p)
-  pub value : read_numeral (eqb k signed_kind) (field_in value_place value_width l) ≡ Word v
+  pub kind : kind_in l ≡ Some k
+  pub span : span_in l ≡ Some s
+  pub line : read_numeral false (field_in line_place line_width l) ≡ Some (line_of p)
+  pub column : read_numeral false (field_in column_place column_width l) ≡ Some (column_of p)
+  pub value : read_numeral (eqb k signed_kind) (field_in value_place value_width l) ≡ Some v
 
-pub spells : (l : List ℕ) {k s p v : ℕ} → read_line l ≡ Record k s p v → Spells l k s p v
+pub spells : (l : List ℕ) {k s p v : ℕ} → read_line l ≡ Some (record_of k s p v) → Spells l k s p v
 unfolding read_line
 spells l {k} {s} {p} {v} e =
     let x = if_line (whole_line l) e in
@@ -128,13 +129,13 @@ spells l {k} {s} {p} {v} e =
 field_off : (l : List ℕ) (at w : ℕ) → drop at l ≡ field_in at w l ++ drop (at + w) l
 field_off l at w = sym (take-append-drop w (drop at l)) ∙ ap (λ (r : List ℕ). field_in at w l ++ r) (drop-drop w at l)
 
-field_back : (l : List ℕ) (at w : ℕ) (s : Bool) (word : ℕ) → at + w ≤ length l → read_numeral s (field_in at w l) ≡ Word word
+field_back : (l : List ℕ) (at w : ℕ) (s : Bool) (word : ℕ) → at + w ≤ length l → read_numeral s (field_in at w l) ≡ Some word
     → numeral w s word ≡ field_in at w l
 field_back l at w s word h e =
     let n : length (field_in at w l) ≡ w = length-take-le w (drop at l) (omega (arith, length-drop at l)) in
     ap (λ (k : ℕ). numeral k s word) (sym n) ∙ written_read s (field_in at w l) word e
 
-pub line_again : (l : List ℕ) {k s p v : ℕ} → read_line l ≡ Record k s p v → record_line k s p v ≡ l
+pub line_again : (l : List ℕ) {k s p v : ℕ} → read_line l ≡ Some (record_of k s p v) → record_line k s p v ≡ l
 unfolding record_line
 line_again l {k} {s} {p} {v} e =
     let x = spells l e in
@@ -235,28 +236,28 @@ module _ (k s p v : ℕ) (hk : k < 10 ^ kind_width) (hs : s < 10 ^ span_width) (
   l4 : length n4 ≡ value_width
   l4 = numeral_length value_width (eqb k signed_kind) v
 
-  kind_read : kind_in (record_line k s p v) ≡ Word k
+  kind_read : kind_in (record_line k s p v) ≡ Some k
   unfolding record_line
   kind_read = ap (read_numeral false) (f0 n0 n1 n2 n3 n4 l0 l1 l2 l3 l4)
       ∙ read_written kind_width false k (omega arith) (natural_fits kind_width k (omega arith) hk)
 
-  span_read : span_in (record_line k s p v) ≡ Word s
+  span_read : span_in (record_line k s p v) ≡ Some s
   unfolding record_line
   span_read = ap (read_numeral false) (f1 n0 n1 n2 n3 n4 l0 l1 l2 l3 l4)
       ∙ read_written span_width false s (omega arith) (natural_fits span_width s (omega arith) hs)
 
-  place_read : place_in (record_line k s p v) ≡ Word p
+  place_read : place_in (record_line k s p v) ≡ Some p
   unfolding record_line
   place_read =
-      let x : read_numeral false (field_in line_place line_width (record_line k s p v)) ≡ Word (line_of p) =
+      let x : read_numeral false (field_in line_place line_width (record_line k s p v)) ≡ Some (line_of p) =
       ap (read_numeral false) (f2 n0 n1 n2 n3 n4 l0 l1 l2 l3 l4)
       ∙ read_written line_width false (line_of p) (omega arith) (natural_fits line_width (line_of p) (omega arith) hl) in
-      let y : read_numeral false (field_in column_place column_width (record_line k s p v)) ≡ Word (column_of p) =
+      let y : read_numeral false (field_in column_place column_width (record_line k s p v)) ≡ Some (column_of p) =
       ap (read_numeral false) (f3 n0 n1 n2 n3 n4 l0 l1 l2 l3 l4)
       ∙ read_written column_width false (column_of p) (omega arith) (natural_fits column_width (column_of p) (omega arith) hc) in
-      sym (position_yes _ _ x y) ∙ ap Word (let z : pack_position (line_of p) (column_of p) ≡ p = omega arith in z)
+      sym (position_yes _ _ x y) ∙ ap Some (let z : pack_position (line_of p) (column_of p) ≡ p = omega arith in z)
 
-  value_read : value_in (record_line k s p v) ≡ Word v
+  value_read : value_in (record_line k s p v) ≡ Some v
   unfolding record_line
   value_read =
       ap (λ (t : Bool). read_numeral t (field_in value_place value_width (record_line k s p v))) (ap signed_is kind_read)
@@ -267,6 +268,6 @@ module _ (k s p v : ℕ) (hk : k < 10 ^ kind_width) (hs : s < 10 ^ span_width) (
   unfolding record_line
   ends_read = f5 n0 n1 n2 n3 n4 l0 l1 l2 l3 l4
 
-  pub line_read : read_line (record_line k s p v) ≡ Record k s p v
+  pub line_read : read_line (record_line k s p v) ≡ Some (record_of k s p v)
   line_read =
       sym (record_all _ _ _ _ kind_read span_read place_read value_read ∙ line_whole (record_line k s p v) (line_size_lem k s p v) ends_read)

@@ -29,7 +29,7 @@ unfolding rest_fits lead_fits
 rest_lead_fits zero g m z = simp (eq-eqb m 0 z)
 rest_lead_fits (suc w) g m z = simp (eq-eqb m 0 z)
 
-spelled_rest_fits : (w : ℕ) (g : Bool) (m : ℕ) → (m ≡ 0 → ⊥) → spell_fits w g m ≡ rest_fits w g m
+pub spelled_rest_fits : (w : ℕ) (g : Bool) (m : ℕ) → (m ≡ 0 → ⊥) → spell_fits w g m ≡ rest_fits w g m
 unfolding spell_fits rest_fits
 spelled_rest_fits zero g m n = simp (ne_eqb m 0 n)
 spelled_rest_fits (suc w) g m n = simp (ne_eqb m 0 n)

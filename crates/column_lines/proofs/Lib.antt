@@ -3,7 +3,6 @@ pub mod Digits
 pub mod Integers
 pub mod Reading
 pub mod Writing
-pub mod Negated
 pub mod Numerals
 pub mod Lines
 pub mod Again

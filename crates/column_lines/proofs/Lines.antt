@@ -1,53 +1,40 @@
 -- A line of a column file: what reading it gives, one law for each way through the code, and what writing its fields one after the other leaves.
 -- Assumes nothing.
-use Prim.Native.Nat.{ℕ, suc, ◌+◌, ◌-◌, ◌≤◌, ◌<◌}
+use Prim.Native.Nat.{ℕ, suc, ◌+◌, ◌-◌, ◌≤◌}
 use native.Mathlib.Omega.{arith}
 use mathlib.Core.Path.{◌≡◌, refl, sym, ap, ◌∙◌}
 use mathlib.Core.Bool.{Bool, true, false}
 use mathlib.Core.List.{List, [], ◌∷◌, ◌++◌, append_assoc}
-use lib.ListN.{length, take, drop, get_or, set, replicate, length-append, length-replicate, length-drop, length-set, drop_of_length-le}
+use lib.ListN.{length, take, drop, get_or, set, replicate, length-append, length-replicate, length-drop, drop_of_length-le}
 use lib.Seq.{take_at, drop-drop, drop-append-add, set_at, drop-cons}
 use lib.Dec.{eqb}
 use borrow.Author.Tests.{eq-eqb, ne_eqb}
 use Rattle.words.specs.Record.{pack_position, line_of, column_of}
-use Rattle.column_lines.specs.Form.{kind_width, span_width, line_width, column_width, value_width, span_place, line_place, column_place, value_place}
+use Rattle.column_lines.specs.Form.{kind_width, span_width, line_width, column_width, value_width, line_place, column_place, value_place}
 use Rattle.column_lines.specs.Form.{newline_place, line_length, newline, signed_kind}
-use Rattle.column_lines.specs.Numeral.{blank, written, right_justified, numeral, Wrote}
-use Rattle.column_lines.specs.Line.{signed_is, position_in, record_in, kind_in, span_in, place_in, value_in, read_line, record_line, LineWrote}
+use Rattle.column_lines.specs.Numeral.{blank, written, right_justified, numeral, read_numeral, Wrote}
+use Rattle.column_lines.specs.Line.{field_in, position_in, record_of, record_in, kind_in, span_in, place_in, value_in, read_line, record_line, LineWrote}
 use borrow.Rule.Slice.PartMut.{mid_of, put_mid, Post-is, mid_len}
-use Rattle.column_lines.specs.declared.number.Number.{Number}
-use Rattle.column_lines.specs.declared.number.Number.TheVariants.{Word, Off}
-use Rattle.column_lines.specs.declared.line.Line.TheVariants.{Record, Bad}
+use Rattle.std.specs.Prelude.{Option, Some, None}
 
 -- positions
 
-module _ (a b : Number) {l c : ℕ} (A : a ≡ Word l) (B : b ≡ Word c) where
-  pub position_yes : Word (pack_position l c) ≡ position_in a b
+module _ (a b : Option ℕ) {l c : ℕ} (A : a ≡ Some l) (B : b ≡ Some c) where
+  pub position_yes : Some (pack_position l c) ≡ position_in a b
   unfolding position_in
   position_yes = rw (A, B)
 
-pub position_column : (a b : Number) {l : ℕ} → a ≡ Word l → b ≡ Off → Off ≡ position_in a b
-unfolding position_in
-position_column a b A B = rw (A, B)
-
-pub position_line : (a b : Number) → a ≡ Off → Off ≡ position_in a b
-unfolding position_in
-position_line a b A = rw A
-
-pub signed_word : (a : Number) {k : ℕ} → a ≡ Word k → eqb k signed_kind ≡ signed_is a
-signed_word a e = rw e
-
-pub record_all : (a b c d : Number) {k s p v : ℕ} → a ≡ Word k → b ≡ Word s → c ≡ Word p → d ≡ Word v → Record k s p v ≡ record_in a b c d
+pub record_all : (a b c d : Option ℕ) {k s p v : ℕ} → a ≡ Some k → b ≡ Some s → c ≡ Some p → d ≡ Some v → Some (record_of k s p v) ≡ record_in a b c d
 unfolding record_in
 record_all a b c d A B C D = rw (A, B, C, D)
 
 -- lines
 
-pub line_length_lem : (l : List ℕ) → (length l ≡ line_length → ⊥) → Bad ≡ read_line l
+pub line_length_lem : (l : List ℕ) → (length l ≡ line_length → ⊥) → None ≡ read_line l
 unfolding read_line
 line_length_lem l n = simp (ne_eqb (length l) line_length n)
 
-pub line_newline : (l : List ℕ) → length l ≡ line_length → (get_or l newline_place 0 ≡ newline → ⊥) → Bad ≡ read_line l
+pub line_newline : (l : List ℕ) → length l ≡ line_length → (get_or l newline_place 0 ≡ newline → ⊥) → None ≡ read_line l
 unfolding read_line
 line_newline l e n = simp (eq-eqb (length l) line_length e, ne_eqb (get_or l newline_place 0) newline n)
 
@@ -55,6 +42,38 @@ pub line_whole : (l : List ℕ) → length l ≡ line_length → get_or l newlin
     read_line l
 unfolding read_line
 line_whole l e n = simp (eq-eqb (length l) line_length e, eq-eqb (get_or l newline_place 0) newline n)
+
+-- a line of its form with its fields, up to one that is no number
+
+module _ (l : List ℕ) (long : length l ≡ line_length) (ends : get_or l newline_place 0 ≡ newline) where
+  pub kind_off : kind_in l ≡ None → None ≡ read_line l
+  unfolding record_in
+  kind_off K = let w = line_whole l long ends in rw (K, record_in) at w
+
+  module _ {k : ℕ} (K : kind_in l ≡ Some k) where
+    pub span_off : span_in l ≡ None → None ≡ read_line l
+    unfolding record_in
+    span_off S = let w = line_whole l long ends in rw (K, S, record_in) at w
+
+    module _ {s : ℕ} (S : span_in l ≡ Some s) where
+      pub row_off : read_numeral false (field_in line_place line_width l) ≡ None → None ≡ read_line l
+      unfolding record_in position_in
+      row_off R = let w = line_whole l long ends in rw (K, S, R, record_in, position_in) at w
+
+      module _ {r : ℕ} (R : read_numeral false (field_in line_place line_width l) ≡ Some r) where
+        pub column_off : read_numeral false (field_in column_place column_width l) ≡ None → None ≡ read_line l
+        unfolding record_in position_in
+        column_off C = let w = line_whole l long ends in rw (K, S, R, C, record_in, position_in) at w
+
+        module _ {c : ℕ} (C : read_numeral false (field_in column_place column_width l) ≡ Some c) where
+          pub value_off : read_numeral (eqb k signed_kind) (field_in value_place value_width l) ≡ None → None ≡ read_line l
+          unfolding record_in position_in
+          value_off V = let w = line_whole l long ends in rw (K, S, R, C, V, record_in, position_in) at w
+
+          pub line_spelled : {v : ℕ} → read_numeral (eqb k signed_kind) (field_in value_place value_width l) ≡ Some v
+              → Some (record_of k s (pack_position r c) v) ≡ read_line l
+          unfolding record_in position_in
+          line_spelled V = let w = line_whole l long ends in rw (K, S, R, C, V, record_in, position_in) at w
 
 -- a field is as long as its width
 
@@ -101,6 +120,13 @@ begun_length done before out k b l =
     let x : length out ≡ length done + length (drop k before) = ap length b.rest ∙ length-append done (drop k before) in
     omega (arith, x, length-drop k before, b.long)
 
+-- a number is put into the field after them
+pub begun_put : (done before out : List ℕ) (a e : ℕ) (s : Bool) (word : ℕ) {field : List ℕ} {r : Bool} → Begun done before out a → a ≤ e → e ≤ length before
+    → Wrote s word (mid_of a (e - a) out) field r → Begun (done ++ numeral (e - a) s word) before (put_mid a (e - a) out field) e
+begun_put done before out a e s word b l h w =
+    let n = begun_length done before out a b (omega arith) in
+    begun_more done before out (numeral (e - a) s word) _ a e b (numeral_length (e - a) s word) l (field_put a e word s out _ l (omega (arith, n)) w)
+
 -- the last byte of a line
 pub begun_last : (done before out : List ℕ) (k v : ℕ) → Begun done before out k → length before ≡ k + 1 → set out k v ≡ done ++ (v ∷ [])
 begun_last done before out k v b l =
@@ -108,51 +134,21 @@ begun_last done before out k v b l =
     let n : drop (suc k) before ≡ [] = drop_of_length-le before {i = suc k} (omega arith) in
     rw (b.rest, c, n) (set_at done (get_or before k 0) [] v k b.long)
 
-pub line_short : (kind span position value : ℕ) (before : List ℕ) → (length before ≡ line_length → ⊥) → LineWrote kind span position value before before false
-line_short kind span position value before n =
-    let t : eqb (length before) line_length ≡ false = ne_eqb (length before) line_length n in
-    record { bytes = rw t; done = sym t }
-
 pub line_done : (kind span position value : ℕ) (before after : List ℕ) → length before ≡ line_length → after ≡ record_line kind span position value
     → LineWrote kind span position value before after true
 line_done kind span position value before after l e =
     let t : eqb (length before) line_length ≡ true = eq-eqb (length before) line_length l in
     record { bytes = rw t e; done = sym t }
 
-module _ (kind span position value : ℕ) (b0 b1 b2 b3 b4 b5 : List ℕ) (long : length b0 ≡ line_length) {row column : ℕ} (Ro : row ≡ line_of position)
-    (Co : column ≡ column_of position)
-    (e1 : b1 ≡ take 0 b0 ++ (numeral kind_width false kind ++ drop span_place b0))
-    (e2 : b2 ≡ take span_place b1 ++ (numeral span_width false span ++ drop line_place b1))
-    (e3 : b3 ≡ take line_place b2 ++ (numeral line_width false row ++ drop column_place b2))
-    (e4 : b4 ≡ take column_place b3 ++ (numeral column_width false column ++ drop value_place b3))
-    (e5 : b5 ≡ take value_place b4 ++ (numeral value_width (eqb kind signed_kind) value ++ drop newline_place b4)) where
-  s1 : Begun ([] ++ numeral kind_width false kind) b0 b1 span_place
-  s1 = begun_more [] b0 b0 _ b1 0 span_place (begun b0) (numeral_length kind_width false kind) (omega arith) e1
-
-  s2 : Begun (([] ++ numeral kind_width false kind) ++ numeral span_width false span) b0 b2 line_place
-  s2 = begun_more _ b0 b1 _ b2 span_place line_place s1 (numeral_length span_width false span) (omega arith) e2
-
-  s3 : Begun ((([] ++ numeral kind_width false kind) ++ numeral span_width false span) ++ numeral line_width false row) b0 b3 column_place
-  s3 = begun_more _ b0 b2 _ b3 line_place column_place s2 (numeral_length line_width false row) (omega arith) e3
-
-  s4 : Begun (((([] ++ numeral kind_width false kind) ++ numeral span_width false span) ++ numeral line_width false row) ++ numeral column_width false column)
-      b0 b4 value_place
-  s4 = begun_more _ b0 b3 _ b4 column_place value_place s3 (numeral_length column_width false column) (omega arith) e4
-
-  s5 : Begun ((((([] ++ numeral kind_width false kind) ++ numeral span_width false span) ++ numeral line_width false row) ++ numeral column_width false column)
-      ++ numeral value_width (eqb kind signed_kind) value) b0 b5 newline_place
-  s5 = begun_more _ b0 b4 _ b5 value_place newline_place s4 (numeral_length value_width (eqb kind signed_kind) value) (omega arith) e5
-
-  pub line_written : LineWrote kind span position value b0 (set b5 newline_place newline) true
-  unfolding record_line
-  line_written = line_done kind span position value b0 (set b5 newline_place newline) long
-      (begun_last _ b0 b5 newline_place newline s5 long ∙ rw (Ro, Co) (simp append_assoc))
-
-  pub written_inside : newline_place < length b5
-  written_inside = let x = begun_length _ b0 b5 newline_place s5 (omega arith) in omega (arith, x, long)
-
-  pub written_length : length (set b5 newline_place newline) ≡ length b0
-  written_length = let x = begun_length _ b0 b5 newline_place s5 (omega arith) in length-set b5 newline_place newline ∙ x
+-- all its bytes but the last are
+pub line_written : (kind span position value : ℕ) (before out : List ℕ) {row column : ℕ} → length before ≡ line_length → row ≡ line_of position
+    → column ≡ column_of position
+    → Begun ((((([] ++ numeral kind_width false kind) ++ numeral span_width false span) ++ numeral line_width false row) ++ numeral column_width false column)
+    ++ numeral value_width (eqb kind signed_kind) value) before out newline_place
+    → LineWrote kind span position value before (set out newline_place newline) true
+unfolding record_line
+line_written kind span position value before out l R C b =
+    line_done kind span position value before _ l (begun_last _ before out newline_place newline b l ∙ rw (R, C) (simp append_assoc))
 
 -- a record's line is as long as every line
 pub line_size_lem : (kind span position value : ℕ) → length (record_line kind span position value) ≡ line_length

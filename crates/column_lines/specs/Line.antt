@@ -4,46 +4,48 @@ use Rattle.words.specs.Record.{pack_position, line_of, column_of}
 use Rattle.column_lines.specs.Form.{kind_width, span_width, line_width, column_width, value_width, span_place, line_place, column_place, value_place}
 use Rattle.column_lines.specs.Form.{newline_place, line_length, newline, signed_kind}
 use Rattle.column_lines.specs.Numeral.{numeral, read_numeral}
-use Rattle.column_lines.specs.declared.number.Number.{Number}
-use Rattle.column_lines.specs.declared.number.Number.TheVariants.{Word, Off}
-use Rattle.column_lines.specs.declared.line.Line.{Line}
-use Rattle.column_lines.specs.declared.line.Line.TheVariants.{Record, Bad}
+use Rattle.std.specs.Prelude.{Option, Some, None}
+use Rattle.words.specs.declared.node.Record.{Record}
 
 -- a field of a line
 abbrev pub field_in : ℕ → ℕ → List ℕ → List ℕ
 field_in place width l = take width (drop place l)
 
 -- whether the value of a kind is signed
-abbrev pub signed_is : Number → Bool
-signed_is (Word kind) = eqb kind signed_kind
-signed_is Off = false
+abbrev pub signed_is : Option ℕ → Bool
+signed_is (Some kind) = eqb kind signed_kind
+signed_is None = false
 
 -- a position, whatever its line and column are: one above the limit is row 3, not row 1 (2026-06: 'row 3 for a position above the new limit, in a column
 -- file too'). Nothing is lost, for a number of nine digits is below 2^32
-unfoldable pub position_in : Number → Number → Number
-position_in (Word line) (Word column) = Word (pack_position line column)
-position_in (Word line) Off = Off
-position_in Off column = Off
+unfoldable pub position_in : Option ℕ → Option ℕ → Option ℕ
+position_in (Some line) (Some column) = Some (pack_position line column)
+position_in (Some line) None = None
+position_in None column = None
+
+-- a record by its words
+abbrev pub record_of : ℕ → ℕ → ℕ → ℕ → Record
+record_of kind span position value = record { kind = kind; span = span; position = position; value = value }
 
 -- a record, where every field is a number
-unfoldable pub record_in : Number → Number → Number → Number → Line
-record_in (Word kind) (Word span) (Word position) (Word value) = Record kind span position value
-record_in (Word kind) (Word span) (Word position) Off = Bad
-record_in (Word kind) (Word span) Off value = Bad
-record_in (Word kind) Off position value = Bad
-record_in Off span position value = Bad
+unfoldable pub record_in : Option ℕ → Option ℕ → Option ℕ → Option ℕ → Option Record
+record_in (Some kind) (Some span) (Some position) (Some value) = Some (record_of kind span position value)
+record_in (Some kind) (Some span) (Some position) None = None
+record_in (Some kind) (Some span) None value = None
+record_in (Some kind) None position value = None
+record_in None span position value = None
 
 -- the fields of a line, read
-abbrev pub kind_in : List ℕ → Number
+abbrev pub kind_in : List ℕ → Option ℕ
 kind_in l = read_numeral false (field_in 0 kind_width l)
 
-abbrev pub span_in : List ℕ → Number
+abbrev pub span_in : List ℕ → Option ℕ
 span_in l = read_numeral false (field_in span_place span_width l)
 
-abbrev pub place_in : List ℕ → Number
+abbrev pub place_in : List ℕ → Option ℕ
 place_in l = position_in (read_numeral false (field_in line_place line_width l)) (read_numeral false (field_in column_place column_width l))
 
-abbrev pub value_in : List ℕ → Number
+abbrev pub value_in : List ℕ → Option ℕ
 value_in l = read_numeral (signed_is (kind_in l)) (field_in value_place value_width l)
 
 -- a line of its length, with its newline
@@ -51,8 +53,8 @@ abbrev pub whole_line : List ℕ → Bool
 whole_line l = eqb (length l) line_length && eqb (get_or l newline_place 0) newline
 
 -- `read_line`
-unfoldable pub read_line : List ℕ → Line
-read_line l = cond (whole_line l) (record_in (kind_in l) (span_in l) (place_in l) (value_in l)) Bad
+unfoldable pub read_line : List ℕ → Option Record
+read_line l = cond (whole_line l) (record_in (kind_in l) (span_in l) (place_in l) (value_in l)) None
 
 -- a record's line
 unfoldable pub record_line : ℕ → ℕ → ℕ → ℕ → List ℕ

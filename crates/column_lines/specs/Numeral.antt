@@ -2,8 +2,7 @@
 -- past its 64 bits and -0 are off the form; signed, from -9,223,372,036,854,775,808 upward). `numeral` writes a word, `read_numeral` reads a field
 use Rattle.std.specs.Prelude.{ℕ, zero, suc, ◌+◌, ◌-◌, ◌*◌, ◌/◌, ◌%◌, Bool, true, false, cond, ◌&&◌, List, [], ◌∷◌, ◌++◌, replicate, length, drop, eqb, leb, ltb}
 use Rattle.std.specs.Prelude.{◌≡◌}
-use Rattle.column_lines.specs.declared.number.Number.{Number}
-use Rattle.column_lines.specs.declared.number.Number.TheVariants.{Word, Off}
+use Rattle.std.specs.Prelude.{Option, Some, None}
 
 -- the bytes of a field
 abbrev pub blank : ℕ
@@ -57,23 +56,23 @@ abbrev pub numeral_fits : ℕ → Bool → ℕ → Bool
 numeral_fits width signed word = leb (length (written signed word)) width
 
 -- the word of a number, if it is one: past its 64 bits it is off the form
-unfoldable pub word_of : Bool → Bool → ℕ → Number
-word_of signed true m = cond (leb m least_size) (Word (word_end - m)) Off
-word_of signed false m = cond (leb m (most_of signed)) (Word m) Off
+unfoldable pub word_of : Bool → Bool → ℕ → Option ℕ
+word_of signed true m = cond (leb m least_size) (Some (word_end - m)) None
+word_of signed false m = cond (leb m (most_of signed)) (Some m) None
 
 -- the digits after those that make m
-unfoldable pub digits_from : Bool → Bool → ℕ → List ℕ → Number
+unfoldable pub digits_from : Bool → Bool → ℕ → List ℕ → Option ℕ
 digits_from signed negative m [] = word_of signed negative m
-digits_from signed negative m (b ∷ bs) = cond (is_digit b) (digits_from signed negative (m * 10 + (b - 48)) bs) Off
+digits_from signed negative m (b ∷ bs) = cond (is_digit b) (digits_from signed negative (m * 10 + (b - 48)) bs) None
 
 -- a first digit 0 is the whole number, and has no sign
-unfoldable pub zero_from : Bool → List ℕ → Number
-zero_from true bs = Off
-zero_from false [] = Word 0
-zero_from false (b ∷ bs) = Off
+unfoldable pub zero_from : Bool → List ℕ → Option ℕ
+zero_from true bs = None
+zero_from false [] = Some 0
+zero_from false (b ∷ bs) = None
 
-unfoldable pub number_from : Bool → Bool → List ℕ → Number
-number_from signed negative [] = Off
+unfoldable pub number_from : Bool → Bool → List ℕ → Option ℕ
+number_from signed negative [] = None
 number_from signed negative (b ∷ bs) = cond (eqb b 48) (zero_from negative bs) (digits_from signed negative 0 (b ∷ bs))
 
 -- after the blanks: a sign where one may be, then the digits
@@ -81,12 +80,12 @@ unfoldable pub sign_at : Bool → List ℕ → Bool
 sign_at signed [] = false
 sign_at signed (b ∷ bs) = signed && eqb b minus_sign
 
-unfoldable pub sign_from : Bool → List ℕ → Number
+unfoldable pub sign_from : Bool → List ℕ → Option ℕ
 sign_from signed bs = cond (sign_at signed bs) (number_from signed true (drop 1 bs)) (number_from signed false bs)
 
 -- a field
-unfoldable pub read_numeral : Bool → List ℕ → Number
-read_numeral signed [] = Off
+unfoldable pub read_numeral : Bool → List ℕ → Option ℕ
+read_numeral signed [] = None
 read_numeral signed (b ∷ bs) = cond (eqb b blank) (read_numeral signed bs) (sign_from signed (b ∷ bs))
 
 -- what a write of a word to a field leaves: the field's bytes, and whether the word fits in them

@@ -1,7 +1,11 @@
 -- Numbers in fields by sign and magnitude, from the last digit on, as the writers go. Only contracts of private functions cite these definitions, so that
 -- nobody has to believe them: `numeral_spelled` and `fits_spelled` of proofs/Digits.antt join them with `numeral` and `numeral_fits`
 use Rattle.std.specs.Prelude.{ℕ, zero, suc, ◌-◌, ◌/◌, Bool, true, false, cond, not, ◌&&◌, List, [], ◌∷◌, ◌++◌, replicate, length, drop, eqb, ◌≡◌}
-use Rattle.column_lines.specs.Numeral.{blank, minus_sign, digit_of, word_end, negative_of}
+use Rattle.column_lines.specs.Numeral.{blank, minus_sign, digit_of, least_size, most_of, word_end, negative_of}
+
+-- the largest number of a sign
+abbrev pub size_of : Bool → Bool → ℕ
+size_of signed negative = cond negative least_size (most_of signed)
 
 abbrev pub magnitude_of : Bool → ℕ → ℕ
 magnitude_of signed word = cond (negative_of signed word) (word_end - word) word

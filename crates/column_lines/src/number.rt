@@ -1,8 +1,9 @@
 // Right-justified numbers in fields of any width, signed or not: one pair, `read_number` and `write_number`. A signed number is an `i64`, read and
 // written negated, digit by digit, so that the smallest is exact (01, 'Forms by place in the code').
-ghost use Rattle.std.specs.Prelude.{◌≡◌, true, false, ◌+◌, ◌*◌, ◌/◌, ◌%◌, ◌≤◌, ◌<◌, drop, length, replicate, ◌++◌, nat_abs, neg_ℤ, pos, leb};
-ghost use Rattle.column_lines.specs.Numeral.{most_of, least_size, negative_of, number_from, sign_at, sign_from, read_numeral, Wrote};
-ghost use Rattle.column_lines.specs.Spelling.{Spelt, Led};
+ghost use Rattle.std.specs.Prelude.{◌≡◌, ℕ, Bool, Some, None, true, false, ◌+◌, ◌*◌, ◌/◌, ◌%◌, ◌≤◌, ◌<◌, length, nat_abs, neg_ℤ, pos, eqb, not, MatchOption};
+ghost use Rattle.std.specs.List.{position};
+ghost use Rattle.column_lines.specs.Numeral.{least_size, negative_of, digits_from, word_of, number_from, read_numeral, Wrote};
+ghost use Rattle.column_lines.specs.Spelling.{size_of, Spelt, Led};
 
 use words::object::{integer_of_word, word_of_integer};
 
@@ -12,303 +13,196 @@ pub const MINUS: u8 = b'-';
 
 const ZERO: u8 = b'0';
 
-const NINE: u8 = b'9';
-
 // A negative number does not begin with it: -0 is off the form.
 const NO_FIRST_DIGIT: u8 = b'0';
-
-const MOST_WORD: u64 = 18446744073709551615;
-
-const MOST_INTEGER: u64 = 9223372036854775807;
 
 // A signed word from here on is negative: 2^63.
 const NEGATIVE_WORDS: u64 = 9223372036854775808;
 
-// The smallest integer without its last digit, and that digit.
-const LEAST_TENTH: i64 = -922337203685477580;
+// How a number is held while it is read or written digit by digit: a word as it is, and a negative integer as it is, so that the smallest is exact.
+trait Digits: Copy {
+    // The number without its sign, and that it is held so.
+    ghost size: { Self → ℕ };
 
-const LEAST_DIGIT: u64 = 8;
+    ghost IsHeld: { Self → Type 0 };
 
-// What a field spells.
-#[derive(Clone, Copy)]
-pub enum Number {
-    Word(u64),
-    Off,
+    ghost most: { ℕ };
+
+    fn zero() -> Self
+        ensures held { IsHeld result }
+        ensures size { size result ≡ 0 };
+
+    // One digit more; none past the largest.
+    fn with_digit(self, digit: u8) -> Option<Self>
+        requires held { IsHeld self }
+        requires digit { digit ≤ 9 }
+        ensures { MatchOption result (most < size self * 10 + digit) (λ n. IsHeld n × (size n ≡ size self * 10 + digit)) };
+
+    fn last_digit(self) -> u8
+        requires { IsHeld self }
+        ensures { result ≡ size self % 10 };
+
+    // What is left without the last digit; none where that was the only one.
+    fn without_last(self) -> Option<Self>
+        requires { IsHeld self }
+        ensures { MatchOption result (size self / 10 ≡ 0) (λ n. IsHeld n × (size n ≡ size self / 10) × (0 < size n)) };
 }
 
-// The last digit of a negated number.
-fn last_digit(n: i64) -> u64
-    requires { n ≡ neg_ℤ (pos (nat_abs n)) }
-    ensures { result ≡ nat_abs n % 10 }
-{
-    (0 - n % 10) as u64
-}
+impl Digits for u64 {
+    ghost size = { λ n. n };
 
-// A negated number without its last digit.
-fn rest_of(n: i64) -> i64
-    requires { n ≡ neg_ℤ (pos (nat_abs n)) }
-    ensures { result ≡ neg_ℤ (pos (nat_abs n / 10)) }
-{
-    n / 10
-}
+    ghost IsHeld = { λ n. Unit {0} };
 
-// A negated number has room for one digit more.
-fn has_room(n: i64, digit: u64) -> bool
-    requires n_value { n ≡ neg_ℤ (pos (nat_abs n)) }
-    requires digit_bound { digit ≤ 9 }
-    ensures { result ≡ leb (nat_abs n * 10 + digit) least_size }
-{
-    if n > LEAST_TENTH {
-        return true;
+    ghost most = { 18446744073709551615 };
+
+    fn zero() -> u64 {
+        0
     }
-    if n == LEAST_TENTH {
-        return digit <= LEAST_DIGIT;
+
+    fn with_digit(self, digit: u8) -> Option<u64> {
+        self.checked_mul(10)?.checked_add(u64::from(digit))
     }
-    false
-}
 
-// A negated number with one digit more.
-fn with_digit(n: i64, digit: u64) -> i64
-    requires n_value { n ≡ neg_ℤ (pos (nat_abs n)) }
-    requires digit_bound { digit ≤ 9 }
-    requires digit_bound_2 { nat_abs n * 10 + digit ≤ least_size }
-    ensures { result ≡ neg_ℤ (pos (nat_abs n * 10 + digit)) }
-{
-    n * 10 - digit as i64
-}
+    fn last_digit(self) -> u8 {
+        (self % 10) as u8
+    }
 
-// The largest number without a sign, without its last digit.
-fn most_tenth(signed: bool) -> u64
-    ensures { result ≡ most_of signed / 10 }
-{
-    if signed {
-        MOST_INTEGER / 10
-    } else {
-        MOST_WORD / 10
+    fn without_last(self) -> Option<u64> {
+        let rest = self / 10;
+        if rest == 0 { None } else { Some(rest) }
     }
 }
 
-// That digit.
-fn most_digit(signed: bool) -> u64
-    ensures { result ≡ most_of signed % 10 }
-{
-    if signed {
-        MOST_INTEGER % 10
-    } else {
-        MOST_WORD % 10
+impl Digits for i64 {
+    ghost size = { λ n. nat_abs n };
+
+    ghost IsHeld = { λ n. (n ≡ neg_ℤ (pos (nat_abs n))) × (nat_abs n ≤ least_size) };
+
+    ghost most = { least_size };
+
+    fn zero() -> i64 {
+        0
+    }
+
+    fn with_digit(self, digit: u8) -> Option<i64> {
+        self.checked_mul(10)?.checked_sub(i64::from(digit))
+    }
+
+    fn last_digit(self) -> u8 {
+        (0 - self % 10) as u8
+    }
+
+    fn without_last(self) -> Option<i64> {
+        let rest = self / 10;
+        if rest == 0 { None } else { Some(rest) }
     }
 }
 
-// A number without a sign has room for one digit more up to a limit, which is given without its last digit and by that digit. Nothing is divided, since
-// this is asked at each digit.
-fn has_room_to(m: u64, digit: u64, tenth: u64, last: u64) -> bool
-    requires digit_bound { digit ≤ 9 }
-    requires last_bound { last ≤ 9 }
-    ensures { result ≡ leb (m * 10 + digit) (tenth * 10 + last) }
+// The digits of a number, none where one is no digit or the number is too large.
+fn read_digits<N: Digits>(digits: &[u8]) -> Option<N>
+    ensures { MatchOption result ((s g : Bool) → size_of s g ≤ N.most → digits_from s g 0 digits.now ≡ None)
+        (λ n. N.IsHeld n × ((s g : Bool) → digits_from s g 0 digits.now ≡ word_of s g (N.size n))) }
 {
-    if m < tenth {
-        return true;
-    }
-    if m == tenth {
-        return digit <= last;
-    }
-    false
-}
-
-// The digits from a place to the end, as a number without a sign.
-fn read_natural(bytes: &[u8], at: usize, signed: bool) -> Number
-    ensures { result ≡ number_from signed false (drop at bytes.now) }
-{
-    if at >= bytes.len() {
-        return Number::Off;
-    }
-    if bytes[at] == ZERO {
-        if at + 1 == bytes.len() {
-            return Number::Word(0);
+    let mut number = N::zero();
+    for b in digits {
+        if !b.is_ascii_digit() {
+            return None;
         }
-        return Number::Off;
+        number = number.with_digit(*b - ZERO)?;
     }
-    let tenth = most_tenth(signed);
-    let last = most_digit(signed);
-    let mut m: u64 = 0;
-    let mut i = at;
-    while i < bytes.len() {
-        let b = bytes[i];
-        if b < ZERO {
-            return Number::Off;
-        }
-        if b > NINE {
-            return Number::Off;
-        }
-        let digit = (b - ZERO) as u64;
-        if !has_room_to(m, digit, tenth, last) {
-            return Number::Off;
-        }
-        m = m * 10 + digit;
-        i += 1;
-    }
-    Number::Word(m)
+    Some(number)
 }
 
-// The digits after a sign, from a place to the end, as a negative integer.
-fn read_negative(bytes: &[u8], at: usize) -> Number
-    ensures { result ≡ number_from true true (drop at bytes.now) }
+// A number without a sign. Of those that begin with 0 there is 0 alone.
+fn read_natural(bytes: &[u8], signed: bool) -> Option<u64>
+    ensures { result ≡ number_from signed false bytes.now }
 {
-    if at >= bytes.len() {
-        return Number::Off;
+    if bytes.is_empty() {
+        return None;
     }
-    if bytes[at] == NO_FIRST_DIGIT {
-        return Number::Off;
+    if bytes[0] == ZERO {
+        return if bytes.len() == 1 { Some(0) } else { None };
     }
-    let mut n: i64 = 0;
-    let mut i = at;
-    while i < bytes.len() {
-        let b = bytes[i];
-        if b < ZERO {
-            return Number::Off;
-        }
-        if b > NINE {
-            return Number::Off;
-        }
-        let digit = (b - ZERO) as u64;
-        if !has_room(n, digit) {
-            return Number::Off;
-        }
-        n = with_digit(n, digit);
-        i += 1;
-    }
-    let word = word_of_integer(n);
-    Number::Word(word)
+    let word = read_digits(bytes)?;
+    let most = if signed { i64::MAX as u64 } else { u64::MAX };
+    (word <= most).then_some(word)
 }
 
-// A sign stands at a place, where one may be.
-fn has_sign(bytes: &[u8], at: usize, signed: bool) -> bool
-    ensures { result ≡ sign_at signed (drop at bytes.now) }
+// The digits after a sign.
+fn read_negative(bytes: &[u8]) -> Option<u64>
+    ensures { result ≡ number_from true true bytes.now }
 {
-    if at < bytes.len() {
-        if signed {
-            return bytes[at] == MINUS;
-        }
+    if bytes.is_empty() || bytes[0] == NO_FIRST_DIGIT {
+        return None;
     }
-    false
+    let integer = read_digits(bytes)?;
+    Some(word_of_integer(integer))
 }
 
-// What stands after the blanks: a sign where one may be, then the digits.
-fn read_sign(bytes: &[u8], at: usize, signed: bool) -> Number
-    ensures { result ≡ sign_from signed (drop at bytes.now) }
+// The place of the first byte that is no blank.
+fn after_blanks(bytes: &[u8]) -> Option<usize>
+    ensures { result ≡ position (λ b. not (eqb b 32)) bytes.now }
 {
-    if has_sign(bytes, at, signed) {
-        return read_negative(bytes, at + 1);
-    }
-    read_natural(bytes, at, signed)
+    bytes.iter().position(|b| *b != BLANK)
 }
 
 // Reads a field.
-pub fn read_number(bytes: &[u8], signed: bool) -> Number
+pub fn read_number(bytes: &[u8], signed: bool) -> Option<u64>
     ensures { result ≡ read_numeral signed bytes.now }
 {
-    let mut i: usize = 0;
-    while i < bytes.len() {
-        if bytes[i] != BLANK {
-            return read_sign(bytes, i, signed);
-        }
-        i += 1;
+    let first = after_blanks(bytes)?;
+    if signed && bytes[first] == MINUS {
+        return read_negative(&bytes[first + 1..]);
     }
-    Number::Off
+    read_natural(&bytes[first..], signed)
 }
 
-// Blanks up to a place.
-fn fill_blanks(out: &mut [u8], end: usize)
-    requires { end ≤ length out.old }
-    ensures { out.new ≡ replicate end 32 ++ drop end out.old }
+// Writes what stands before the digits: blanks, the last of them a sign where the number is negative. False where the sign has no place.
+fn write_lead(out: &mut [u8], negative: bool) -> bool
+    ensures { Led negative (length out.old) out.old out.new result }
 {
-    let mut i: usize = 0;
-    while i < end {
-        out[i] = BLANK;
-        i += 1;
-    }
-}
-
-// Writes what stands before a place: blanks, the last of them a sign where the number is negative. False where the sign has no place.
-fn write_lead(out: &mut [u8], at: usize, negative: bool) -> bool
-    requires { at ≤ length out.old }
-    ensures { Led negative at out.old out.new result }
-{
+    out.fill(BLANK);
     if !negative {
-        fill_blanks(out, at);
         return true;
     }
-    if at == 0 {
+    let Some(last) = out.last_mut() else {
         return false;
-    }
-    let sign = at - 1;
-    out[sign] = MINUS;
-    fill_blanks(out, sign);
+    };
+    *last = MINUS;
     true
 }
 
-// Writes a number without a sign.
-fn write_natural(out: &mut [u8], number: u64) -> bool
-    ensures { Spelt false number out.old out.new result }
+// Writes a number's digits, from the last on, and what stands before them; false where they have no place, and the last of them are written.
+fn write_digits<N: Digits>(out: &mut [u8], number: N, negative: bool) -> bool
+    requires { N.IsHeld number }
+    ensures { Spelt negative (N.size number) out.old out.new result }
 {
-    if out.len() == 0 {
-        return false;
+    let mut rest = number;
+    for k in (0..out.len()).rev() {
+        out[k] = ZERO + rest.last_digit();
+        let Some(more) = rest.without_last() else {
+            return write_lead(&mut out[..k], negative);
+        };
+        rest = more;
     }
-    let mut k = out.len() - 1;
-    let mut m = number;
-    out[k] = ZERO + (m % 10) as u8;
-    m = m / 10;
-    while m != 0 {
-        if k == 0 {
-            return false;
-        }
-        k -= 1;
-        out[k] = ZERO + (m % 10) as u8;
-        m = m / 10;
-    }
-    write_lead(out, k, false)
-}
-
-// Writes a negative integer, digit by digit negated.
-fn write_negative(out: &mut [u8], number: i64) -> bool
-    requires { number ≡ neg_ℤ (pos (nat_abs number)) }
-    ensures { Spelt true (nat_abs number) out.old out.new result }
-{
-    if out.len() == 0 {
-        return false;
-    }
-    let mut k = out.len() - 1;
-    let mut n = number;
-    out[k] = ZERO + last_digit(n) as u8;
-    n = rest_of(n);
-    while n != 0 {
-        if k == 0 {
-            return false;
-        }
-        k -= 1;
-        out[k] = ZERO + last_digit(n) as u8;
-        n = rest_of(n);
-    }
-    write_lead(out, k, true)
+    false
 }
 
 // The word stands for a negative integer.
 fn is_negative(word: u64, signed: bool) -> bool
     ensures { result ≡ negative_of signed word }
 {
-    if !signed {
-        return false;
-    }
-    word >= NEGATIVE_WORDS
+    signed && word >= NEGATIVE_WORDS
 }
 
-// Writes a word to a field, right-justified; false where it is wider, and the field then has its last bytes.
+// Writes a word to a field, right-justified; false where it is wider, and the field then has its last bytes. The answer stays a `bool`:
+// the clause of `write_number` speaks of it as one, and there is nothing that an error could say beside it.
 pub fn write_number(out: &mut [u8], word: u64, signed: bool) -> bool
     ensures { Wrote signed word out.old out.new result }
 {
     if is_negative(word, signed) {
-        let number = integer_of_word(word);
-        return write_negative(out, number);
+        write_digits(out, integer_of_word(word), true)
+    } else {
+        write_digits(out, word, false)
     }
-    write_natural(out, word)
 }

@@ -14,10 +14,9 @@ use Rattle.definition.specs.Uses.{Limits}
 use Rattle.definition.specs.Book.{Book, Context, noted, has_text, model_count, property_count, push_book_error}
 use Rattle.definition.specs.Program.{Entries, entries_from, property_entries, model_properties, property_table}
 use Rattle.definition_laws.proofs.Cells.{all_any, entries_length, single_length}
-use Rattle.building.specs.declared.scopes.Found.{Found}
-use Rattle.building.specs.declared.scopes.Found.TheVariants.{At, Nothing}
+use Rattle.std.specs.Prelude.{Some, None}
 use Rattle.building.specs.declared.taking.Taken.{Taken}
-use Rattle.building.specs.Found.{found_of, first_from}
+use Rattle.building.specs.Found.{Found, found_of, first_from}
 use Rattle.building.specs.Taking.{Took}
 use Rattle.building.specs.RepresentsMachine.{Filled}
 use Rattle.building.proofs.ContextLaws.{took_law}
@@ -115,7 +114,7 @@ module _ {tree : List ℕ} {at first : ℕ} {s : struct.Book} {p e : List ℕ} w
   property_full ne = record { meets = λ c k f m t l u n b κ ps w start H. keeping_longer (unchanged_property (token_at tree at) ps w).uses ne H }
 
   pub property_there : s.full ≡ 0 → {g : Found} {i name : ℕ} → name ≡ value_at tree at
-      → g ≡ found_of (find_pair_c 2 first s.properties s.models name p) → g ≡ At i → {s' : struct.Book} {e' : List ℕ}
+      → g ≡ found_of (find_pair_c 2 first s.properties s.models name p) → g ≡ Some i → {s' : struct.Book} {e' : List ℕ}
       → ErrorsDo s e s' e' (push_book_error 6 (token_at tree at)) → AddsProperty tree at first s p e s' p e'
   unfolding is_there
   property_there z {g} {i} {name} value searched at_i {s'} {e'} E = record {
@@ -127,7 +126,7 @@ module _ {tree : List ℕ} {at first : ℕ} {s : struct.Book} {p e : List ℕ} w
   }
 
   pub property_new : s.full ≡ 0 → {g : Found} {name : ℕ} → name ≡ value_at tree at
-      → g ≡ found_of (find_pair_c 2 first s.properties s.models name p) → g ≡ Nothing → {r : Taken} {p' : List ℕ}
+      → g ≡ found_of (find_pair_c 2 first s.properties s.models name p) → g ≡ None → {r : Taken} {p' : List ℕ}
       → Took properties_area s.full s.properties (s.models ∷ name ∷ []) p r p' → AddsProperty tree at first s p e (with_property_count r s) p' e
   unfolding is_there
   property_new z {g} {name} value searched lost {r} {p'} T = record {

@@ -21,12 +21,11 @@ use Rattle.definition_laws.proofs.Cells.{single_length}
 use Rattle.definition_laws.proofs.Program.{added_case}
 use Rattle.definition_laws.proofs.StepPreserves.{same, more, preserves_constant}
 use Rattle.building.specs.declared.function_state.FunctionState.{FunctionState}
-use Rattle.building.specs.declared.scopes.Found.{Found}
-use Rattle.building.specs.declared.scopes.Found.TheVariants.{At, Nothing}
+use Rattle.std.specs.Prelude.{Some, None}
 use Rattle.building.specs.declared.taking.Taken.{Taken}
 use Rattle.building.specs.State.{begun}
 use Rattle.building.specs.Taking.{taken}
-use Rattle.building.specs.Found.{found_of}
+use Rattle.building.specs.Found.{Found, found_of}
 use Rattle.building.specs.Pool.{pooling, add_constant_c}
 use Rattle.building.specs.Context.{localing, define_context_c, set_value_c}
 use Rattle.building.specs.RepresentsMachine.{Filled, LocalsHeld, machine, RepresentsMachine}
@@ -181,7 +180,7 @@ module _ {κ : Limits} {ps : List ℕ} {s : struct.Book} {c k f m p t l u n b e 
       → Defines s.first_local s.locals s.file name l local_entries x.compiler g T l' → g ≡ found_of (define_context_local name x).place
   unfolding define_context_local
   define_found name (there e₁) = rw e₁ refl
-  define_found name (new e₁ G held) = rw e₁ (ap At locals_many)
+  define_found name (new e₁ G held) = rw e₁ (ap Some locals_many)
 
 module _ {s : struct.Book} {l : List ℕ} (name : ℕ) where
   pub define_full : (s.full ≡ 0 → ⊥) → {g : Found} → LocalsSeek s l s l g (define_context_local name)
@@ -275,18 +274,18 @@ module _ {s : struct.Book} {l : List ℕ} {found : Found} {constant : ℕ} where
   pub value_full : (s.full ≡ 0 → ⊥) → LocalsValue s l l found constant
   value_full ne = record { values = λ c k f m p t u n b e κ ps x o v A H. keeping_longer (unchanged_value o v x).uses ne H }
 
-  pub value_nothing : s.full ≡ 0 → found ≡ Nothing → LocalsValue s l l found constant
+  pub value_nothing : s.full ≡ 0 → found ≡ None → LocalsValue s l l found constant
   value_nothing z lost = record {
     values = λ c k f m p t u n b e κ ps x o v A H. go c k f m p t u n b e κ ps x o v H (sym lost ∙ (A.agrees z).0);
   }
     where
       go : (c k f m p t u n b e : List ℕ) (κ : Limits) (ps : List ℕ) (x : Book) (o : Option ℕ) (v : ℕ)
           → RepresentsAreas κ ps (book_areas s c k f m p t l u n b e) x
-          → Nothing ≡ found_of o → RepresentsAreas κ ps (book_areas s c k f m p t l u n b e) (set_local_value o v x)
+          → None ≡ found_of o → RepresentsAreas κ ps (book_areas s c k f m p t l u n b e) (set_local_value o v x)
       go c k f m p t u n b e κ ps x none v H q = H
       go c k f m p t u n b e κ ps x (some i) v H q = absurd (let y : ◌≡◌ {A = ℕ} 0 1 = cc in omega arith)
 
-  pub value_at_lem : s.full ≡ 0 → (i : ℕ) → found ≡ At i → {l' : List ℕ} → l' ≡ set_value_c s.full s.locals i constant l → LocalsValue s l l' found constant
+  pub value_at_lem : s.full ≡ 0 → (i : ℕ) → found ≡ Some i → {l' : List ℕ} → l' ≡ set_value_c s.full s.locals i constant l → LocalsValue s l l' found constant
   value_at_lem z i at {l'} d = record {
     values = λ c k f m p t u n b e κ ps x o v A H.
         let (q, r, h) = A.agrees z in
@@ -294,7 +293,7 @@ module _ {s : struct.Book} {l : List ℕ} {found : Found} {constant : ℕ} where
   }
     where
       go : (c k f m p t u n b e : List ℕ) (κ : Limits) (ps : List ℕ) (x : Book) (o : Option ℕ) → RepresentsAreas κ ps (book_areas s c k f m p t l u n b e) x
-          → At i ≡ found_of o → AddedLocal o x.context → RepresentsAreas κ ps (book_areas s c k f m p t l' u n b e) (set_local_value o constant x)
+          → Some i ≡ found_of o → AddedLocal o x.context → RepresentsAreas κ ps (book_areas s c k f m p t l' u n b e) (set_local_value o constant x)
       go c k f m p t u n b e κ ps x none H q h = absurd (let y : ◌≡◌ {A = ℕ} 0 1 = cc in omega arith)
       go c k f m p t u n b e κ ps x (some j) H q h =
           let is : i ≡ j = cc in

@@ -8,12 +8,13 @@ use mathlib.Core.List.{List, [], ◌∷◌}
 use lib.ListN.{length}
 use lib.Dec.{leb}
 use borrow.Author.Tests.{leb-true, eq-eqb, le-ltb}
+use Rattle.std.specs.Prelude.{Ok}
+use Rattle.words.specs.declared.row.Row.TheVariants.{BadShape}
 use Rattle.words.specs.Ast.{Token, Document, Definition, LocalDefinition, IncludeDefinition, ModelDefinition, PublicModelDefinition, PlainFunction}
 use Rattle.words.specs.Ast.{PublicFunction, ImplementDefinition, ApplyDefinition}
 use Rattle.words.specs.Record.{kind_at, position_at, value_at, most_records, most_text}
 use Rattle.tree.specs.Rules.{may_be_at, in_range, rule_of}
-use Rattle.tree.specs.Check.{shape_of, records_of}
-use Rattle.tree.specs.declared.Shape.TheVariants.{Fine, Refused}
+use Rattle.tree.specs.Check.{shape_of, records_of, refused}
 use Rattle.tree.specs.At.{RunAt, run_size, DefinitionAt, size_d, DocumentsAt, size_doc}
 use Rattle.tree.specs.Reading.{documents_of}
 use Rattle.tree.proofs.Bundle.{fine_spells, fine_passed}
@@ -65,26 +66,26 @@ module _ (w : List ℕ) (end : ℕ) (ranges : (j : ℕ) → j < end → in_range
   )
 
 -- the law
-pub fine_bundle : (w : List ℕ) → shape_of w ≡ Fine → Bundle (documents_of w) w 0 (records_of w)
+pub fine_bundle : (w : List ℕ) → shape_of w ≡ Ok tt → Bundle (documents_of w) w 0 (records_of w)
 fine_bundle w h =
     let s = fine_spells w h in
     let f : 0 + run_size size_doc (documents_of w) ≡ records_of w = omega (arith, s.fills) in
     record { documents = s.documents; fills = f; numbers = in-sets w (records_of w) s.ranges (documents_of w) 0 s.documents f }
 
-pub fine_limit : (w : List ℕ) → shape_of w ≡ Fine → records_of w ≤ most_records
+pub fine_limit : (w : List ℕ) → shape_of w ≡ Ok tt → records_of w ≤ most_records
 fine_limit w h = (fine_spells w h).limit
 
-some_records : (w : List ℕ) → shape_of w ≡ Fine → records_of w ≡ 0 → ⊥
+some_records : (w : List ℕ) → shape_of w ≡ Ok tt → records_of w ≡ 0 → ⊥
 unfolding shape_of
 some_records w h z =
     let p = fine_passed w h in
-    let r : Refused 3 0 ≡ Fine
+    let r : refused BadShape 0 ≡ Ok tt
     = simp (eq-eqb (length w % 4) 0 p.whole, le-ltb most_records (records_of w) p.limit, eq-eqb (records_of w) 0 z) at h in
     let zz : ◌≡◌ {A = ℕ} 0 1 = cc in
     omega arith
 
 -- there is a root
-pub fine_root : (w : List ℕ) → shape_of w ≡ Fine → (root : Document) × (others : List Document) × (documents_of w ≡ root ∷ others)
+pub fine_root : (w : List ℕ) → shape_of w ≡ Ok tt → (root : Document) × (others : List Document) × (documents_of w ≡ root ∷ others)
 unfolding run_size
 fine_root w h = go (documents_of w) refl
   where

@@ -20,8 +20,7 @@ use Rattle.definition.specs.Book.{find_model_in, find_model_index_by_local_name,
 use Rattle.definition.specs.Program.{entries_from, method_entry}
 use Rattle.definition_laws.proofs.StepPreserves.{same, more}
 use Rattle.tree.specs.At.{DefinitionAt}
-use Rattle.building.specs.declared.scopes.Found.{Found}
-use Rattle.building.specs.Found.{found_of}
+use Rattle.building.specs.Found.{Found, found_of}
 use Rattle.building.specs.RepresentsMachine.{Filled}
 use Rattle.compiler_laws.specs.declared.book.Book as struct
 use Rattle.compiler_laws.specs.BookAreas.{book_areas, RepresentsAreas}

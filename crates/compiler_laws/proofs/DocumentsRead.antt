@@ -20,9 +20,8 @@ use Rattle.tree.proofs.View.ViewD.{v_Include_definition}
 use Rattle.definition.specs.Book.{has_text}
 use Rattle.definition.specs.DependencySolver.{dependencies, find_document, insert_numbers, reached_from, needed_in, missing}
 use Rattle.definition.specs.Answer.{twice}
-use Rattle.building.specs.declared.scopes.Found.{Found}
-use Rattle.building.specs.declared.scopes.Found.TheVariants.{At, Nothing}
-use Rattle.building.specs.Found.{found_of}
+use Rattle.std.specs.Prelude.{Some, None}
+use Rattle.building.specs.Found.{Found, found_of}
 use Rattle.compiler_laws.specs.InsideFunction.{skip_c}
 use Rattle.compiler_laws.specs.FileSets.{set_size, narrow_size, bit_of, add_bit, add_bits, all_known, Added, AddedAbsent, SetIs, NextIn, Below, Ascends}
 use Rattle.compiler_laws.specs.SolverSteps.{Bundle, Room, Distinct, files, FindsTwice, Includes, Reaches, reach_bits, Needs, Misses}
@@ -80,24 +79,24 @@ places (suc n) (d ∷ ds) w i e a f h =
 -- `twice`
 pub record TwiceOf (tree : List ℕ) (i : ℕ) (seen : List ℕ) (ds : List Document) (r : Found) (after : List ℕ) : Type 0 where
   pub answer : r ≡ found_of (twice seen tree (places_from i ds))
-  pub distinct : r ≡ Nothing → Distinct ds
-  pub apart : r ≡ Nothing → (n : ℕ) → has_text n seen ≡ true → find_document n ds ≡ none
-  pub present : r ≡ Nothing → (l : List ℕ) → ((m : ℕ) → m < set_size → has_text m l ≡ cond (has_text m seen) true (has_text m (files ds))) → SetIs after l
+  pub distinct : r ≡ None → Distinct ds
+  pub apart : r ≡ None → (n : ℕ) → has_text n seen ≡ true → find_document n ds ≡ none
+  pub present : r ≡ None → (l : List ℕ) → ((m : ℕ) → m < set_size → has_text m l ≡ cond (has_text m seen) true (has_text m (files ds))) → SetIs after l
 
 pub record TwiceFrom (tree : List ℕ) (i end : ℕ) (before : List ℕ) (r : Found) (after : List ℕ) : Type 0 where
   pub finds : (ds : List Document) (seen : List ℕ) → Bundle ds tree i end → Room before ds → SetIs before seen → TwiceOf tree i seen ds r after
 
-is_there_lem : {A : Type 0} {i : ℕ} → At i ≡ Nothing → A
+is_there_lem : {A : Type 0} {i : ℕ} → Some i ≡ None → A
 is_there_lem h = let z : ◌≡◌ {A = ℕ} 0 1 = cc in absurd (omega arith)
 
-pub twice_end : (tree : List ℕ) (i end : ℕ) (before : List ℕ) → end ≤ i → TwiceFrom tree i end before Nothing before
+pub twice_end : (tree : List ℕ) (i end : ℕ) (before : List ℕ) → end ≤ i → TwiceFrom tree i end before None before
 twice_end tree i end before past = record { finds = go }
   where
     or_false : (t : Bool) → cond t true false ≡ t
     or_false true = refl
     or_false false = refl
 
-    go : (ds : List Document) (seen : List ℕ) → Bundle ds tree i end → Room before ds → SetIs before seen → TwiceOf tree i seen ds Nothing before
+    go : (ds : List Document) (seen : List ℕ) → Bundle ds tree i end → Room before ds → SetIs before seen → TwiceOf tree i seen ds None before
     go [] seen b w s = record {
       answer = refl;
       distinct = λ h. tt;
@@ -107,10 +106,10 @@ twice_end tree i end before past = record { finds = go }
     go (d ∷ ds) seen b w s = absurd (omega (arith, bundle_past b))
 
 pub twice_here : (tree : List ℕ) (i end : ℕ) (before : List ℕ) {file : ℕ} {after : List ℕ} {fresh : Bool} → i < end → file ≡ value_at tree i
-    → Added before file after fresh → not fresh ≡ true → TwiceFrom tree i end before (At i) after
+    → Added before file after fresh → not fresh ≡ true → TwiceFrom tree i end before (Some i) after
 twice_here tree i end before {file} {after} {fresh} inside f a known = record { finds = go }
   where
-    go : (ds : List Document) (seen : List ℕ) → Bundle ds tree i end → Room before ds → SetIs before seen → TwiceOf tree i seen ds (At i) after
+    go : (ds : List Document) (seen : List ℕ) → Bundle ds tree i end → Room before ds → SetIs before seen → TwiceOf tree i seen ds (Some i) after
     go [] seen b w s = absurd (omega (arith, bundle_none b))
     go (d ∷ ds) seen b w s =
         let e : d.filename ≡ value_at tree i = (bundle_first b).file in
@@ -147,7 +146,7 @@ twice_more tree i end before {file} {next} {mid} {after} {fresh} {r} inside f a 
           present = λ h l p. t.present h l (λ m g. p m g ∙ rw e (join (eqb file m) (has_text m seen) (has_text m (files ds))));
         }
       where
-        find : has_text file seen ≡ false → TwiceOf tree next (file ∷ seen) ds r after → r ≡ Nothing → (n : ℕ) → has_text n seen ≡ true
+        find : has_text file seen ≡ false → TwiceOf tree next (file ∷ seen) ds r after → r ≡ None → (n : ℕ) → has_text n seen ≡ true
             → Dec (d.filename ≡ n) → find_document n (d ∷ ds) ≡ none
         find has t h n m (yes k) = never (sym m ∙ ap (λ (x : ℕ). has_text x seen) (sym k ∙ (bundle_first b).file ∙ sym f) ∙ has)
         find has t h n m (no k) =
@@ -425,10 +424,10 @@ needed_start tree end standing read set next {root} {set'} {next'} {after} v q a
 pub record MissesFrom (set present : List ℕ) (k : ℕ) (r : Found) : Type 0 where
   pub misses : (ds : List Document) (l : List ℕ) → SetFrom set k l → SetIs present (files ds) → r ≡ found_of (missing ds l)
 
-pub misses_end : (set present : List ℕ) (k : ℕ) → set_size ≤ k → MissesFrom set present k Nothing
+pub misses_end : (set present : List ℕ) (k : ℕ) → set_size ≤ k → MissesFrom set present k None
 misses_end set present k past = record { misses = go }
   where
-    go : (ds : List Document) (l : List ℕ) → SetFrom set k l → SetIs present (files ds) → Nothing ≡ found_of (missing ds l)
+    go : (ds : List Document) (l : List ℕ) → SetFrom set k l → SetIs present (files ds) → None ≡ found_of (missing ds l)
     go ds [] s p = refl
     go ds (x ∷ xs) s p = absurd (omega (arith, s.below.0, s.ascends.0))
 
@@ -437,7 +436,7 @@ module _ (set present : List ℕ) (k : ℕ) {n : ℕ} (next : NextIn set k n) wh
       → missing ds l ≡ cond (bit_of present n) (missing ds s.rest) (some n)
   here ds l s small p = rw (s.is, p.has n small) (missing_by_lem n ds (missing ds s.rest))
 
-  pub misses_here : n < set_size → false ≡ bit_of present n → MissesFrom set present k (At n)
+  pub misses_here : n < set_size → false ≡ bit_of present n → MissesFrom set present k (Some n)
   misses_here small out = record {
     misses = λ ds l s p.
         let t = next_some l s next small in
@@ -453,7 +452,7 @@ module _ (set present : List ℕ) (k : ℕ) {n : ℕ} (next : NextIn set k n) wh
         M.misses ds t.rest t.after p ∙ sym (ap found_of e);
   }
 
-  pub misses_none : set_size ≤ n → MissesFrom set present k Nothing
+  pub misses_none : set_size ≤ n → MissesFrom set present k None
   misses_none big = record { misses = λ ds l s p. ap (λ (x : List ℕ). found_of (missing ds x)) (sym (next_none l s next big)) }
 
 pub misses_whole : (set present : List ℕ) {r : Found} → MissesFrom set present 0 r → Misses set present r

@@ -12,58 +12,57 @@ use Rattle.words.specs.Areas.{entry_field}
 use Rattle.words.specs.Record.{value_at}
 use Rattle.tree.specs.At.{AliasAt, RunAt, run_size, double}
 use Rattle.definition.specs.Book.{public_names}
-use Rattle.building.specs.declared.scopes.Found.{Found}
-use Rattle.building.specs.declared.scopes.Found.TheVariants.{At, Nothing}
-use Rattle.building.specs.Found.{found_of}
+use Rattle.std.specs.Prelude.{Some, None}
+use Rattle.building.specs.Found.{Found, found_of}
 use Rattle.compiler_laws.specs.declared.book.Book as struct
 use Rattle.compiler_laws.specs.IncludeSteps.{find_book_c, find_pair_c, public_constant, included_by, included_c}
 use Rattle.compiler_laws.specs.IncludeSteps.{is_some, all_names_c, AsksNames, AsksMode}
 
 -- `included_name`
 module _ (many count file name : ℕ) (books w : List ℕ) {there : Found} (searched : there ≡ found_of (find_book_c many file books)) where
-  pub included_unknown : there ≡ Nothing → Nothing ≡ found_of (included_c many count file name books w)
+  pub included_unknown : there ≡ None → None ≡ found_of (included_c many count file name books w)
   included_unknown lost = go (find_book_c many file books) (sym searched ∙ lost)
     where
-      go : (o : Option ℕ) → found_of o ≡ Nothing → Nothing ≡ found_of (included_by o count name w)
+      go : (o : Option ℕ) → found_of o ≡ None → None ≡ found_of (included_by o count name w)
       go none q = refl
       go (some j) q = absurd (let y : ◌≡◌ {A = ℕ} 0 1 = cc in omega arith)
 
-  included_known : {j : ℕ} → there ≡ At j → included_c many count file name books w ≡ public_constant (find_pair_c 3 0 count j name w) w
+  included_known : {j : ℕ} → there ≡ Some j → included_c many count file name books w ≡ public_constant (find_pair_c 3 0 count j name w) w
   included_known {j} is = go (find_book_c many file books) (sym searched ∙ is)
     where
-      go : (o : Option ℕ) → found_of o ≡ At j → included_by o count name w ≡ public_constant (find_pair_c 3 0 count j name w) w
+      go : (o : Option ℕ) → found_of o ≡ Some j → included_by o count name w ≡ public_constant (find_pair_c 3 0 count j name w) w
       go none q = absurd (let y : ◌≡◌ {A = ℕ} 0 1 = cc in omega arith)
       go (some i) q = let same : i ≡ j = cc in rw same
 
-  pub included_none : {j : ℕ} → there ≡ At j → {found : Found} → found ≡ found_of (find_pair_c 3 0 count j name w) → found ≡ Nothing
-      → Nothing ≡ found_of (included_c many count file name books w)
+  pub included_none : {j : ℕ} → there ≡ Some j → {found : Found} → found ≡ found_of (find_pair_c 3 0 count j name w) → found ≡ None
+      → None ≡ found_of (included_c many count file name books w)
   included_none {j} is hf lost = rw (included_known is) (go (find_pair_c 3 0 count j name w) (sym hf ∙ lost))
     where
-      go : (o : Option ℕ) → found_of o ≡ Nothing → Nothing ≡ found_of (public_constant o w)
+      go : (o : Option ℕ) → found_of o ≡ None → None ≡ found_of (public_constant o w)
       go none q = refl
       go (some j) q = absurd (let y : ◌≡◌ {A = ℕ} 0 1 = cc in omega arith)
 
-  pub included_some : {j : ℕ} → there ≡ At j → {found : Found} → found ≡ found_of (find_pair_c 3 0 count j name w) → {i : ℕ} → found ≡ At i
-      → {constant : ℕ} → constant ≡ entry_field 3 i 2 w → At constant ≡ found_of (included_c many count file name books w)
+  pub included_some : {j : ℕ} → there ≡ Some j → {found : Found} → found ≡ found_of (find_pair_c 3 0 count j name w) → {i : ℕ} → found ≡ Some i
+      → {constant : ℕ} → constant ≡ entry_field 3 i 2 w → Some constant ≡ found_of (included_c many count file name books w)
   included_some {j} is hf {i} at {constant} hc = rw (included_known is) (go (find_pair_c 3 0 count j name w) (sym hf ∙ at))
     where
-      go : (o : Option ℕ) → found_of o ≡ At i → At constant ≡ found_of (public_constant o w)
+      go : (o : Option ℕ) → found_of o ≡ Some i → Some constant ≡ found_of (public_constant o w)
       go none q = absurd (let y : ◌≡◌ {A = ℕ} 0 1 = cc in omega arith)
       go (some n) q = let same : n ≡ i = cc in rw (same, hc)
 
 -- `is_public`
 module _ (count book name : ℕ) (w : List ℕ) {found : Found} (searched : found ≡ found_of (find_pair_c 3 0 count book name w)) where
-  pub public_there : {i : ℕ} → found ≡ At i → true ≡ is_some (included_by (some book) count name w)
+  pub public_there : {i : ℕ} → found ≡ Some i → true ≡ is_some (included_by (some book) count name w)
   public_there {i} is = go (find_pair_c 3 0 count book name w) (sym searched ∙ is)
     where
-      go : (o : Option ℕ) → found_of o ≡ At i → true ≡ is_some (public_constant o w)
+      go : (o : Option ℕ) → found_of o ≡ Some i → true ≡ is_some (public_constant o w)
       go none q = absurd (let y : ◌≡◌ {A = ℕ} 0 1 = cc in omega arith)
       go (some j) q = refl
 
-  pub public_lost : found ≡ Nothing → false ≡ is_some (included_by (some book) count name w)
+  pub public_lost : found ≡ None → false ≡ is_some (included_by (some book) count name w)
   public_lost lost = go (find_pair_c 3 0 count book name w) (sym searched ∙ lost)
     where
-      go : (o : Option ℕ) → found_of o ≡ Nothing → false ≡ is_some (public_constant o w)
+      go : (o : Option ℕ) → found_of o ≡ None → false ≡ is_some (public_constant o w)
       go none q = refl
       go (some j) q = absurd (let y : ◌≡◌ {A = ℕ} 0 1 = cc in omega arith)
 
@@ -123,22 +122,22 @@ module _ (tree : List ℕ) (at end : ℕ) (books u : List ℕ) (s : struct.Book)
           ∙ sym (ap (λ (b : Bool). cond b (all_names_c (find_book_c s.file (value_at tree at) books) s.publics (public_names as') u) true) strict);
     }
 
-    pub gives_known : {j : ℕ} {r : Bool} → there ≡ At j → AsksNames tree (at + 1) end (some j) s.publics u r → AsksMode tree at end books u s r
+    pub gives_known : {j : ℕ} {r : Bool} → there ≡ Some j → AsksNames tree (at + 1) end (some j) s.publics u r → AsksMode tree at end books u s r
     gives_known {j} {r} is A = by_names (λ as' h same. A.asks as' h same ∙ ap (λ (o : Option ℕ). all_names_c o s.publics (public_names as') u) (sym book))
       where
-        go : (o : Option ℕ) → found_of o ≡ At j → o ≡ some j
+        go : (o : Option ℕ) → found_of o ≡ Some j → o ≡ some j
         go none q = absurd (let y : ◌≡◌ {A = ℕ} 0 1 = cc in omega arith)
         go (some i) q = cc
 
         book : find_book_c s.file file books ≡ some j
         book = go (find_book_c s.file file books) (sym searched ∙ is)
 
-    pub gives_unknown : {r : Bool} → there ≡ Nothing → r ≡ leb (end - at) 2 → AsksMode tree at end books u s r
+    pub gives_unknown : {r : Bool} → there ≡ None → r ≡ leb (end - at) 2 → AsksMode tree at end books u s r
     unfolding run_size
     gives_unknown {r} lost few =
         by_names (λ as' h same. few ∙ by as' same ∙ ap (λ (o : Option ℕ). all_names_c o s.publics (public_names as') u) (sym book))
       where
-        go : (o : Option ℕ) → found_of o ≡ Nothing → o ≡ none
+        go : (o : Option ℕ) → found_of o ≡ None → o ≡ none
         go none q = refl
         go (some i) q = absurd (let y : ◌≡◌ {A = ℕ} 0 1 = cc in omega arith)
 

@@ -13,10 +13,9 @@ use Rattle.definition.specs.Uses.{Limits}
 use Rattle.definition.specs.Book.{Method, Book, same_method, insert_method, add_methods}
 use Rattle.definition.specs.Program.{entries_from, method_entry}
 use Rattle.definition_laws.proofs.Cells.{single_length}
-use Rattle.building.specs.declared.scopes.Found.{Found}
-use Rattle.building.specs.declared.scopes.Found.TheVariants.{At, Nothing}
+use Rattle.std.specs.Prelude.{Some, None}
 use Rattle.building.specs.declared.taking.Taken.{Taken}
-use Rattle.building.specs.Found.{found_of}
+use Rattle.building.specs.Found.{Found, found_of}
 use Rattle.building.specs.Taking.{Took}
 use Rattle.building.specs.RepresentsMachine.{Filled}
 use Rattle.building.proofs.ContextLaws.{took_law}
@@ -69,7 +68,7 @@ module _ (model name function : ℕ) where
           ne;
     }
 
-    pub insert_there : s.full ≡ 0 → {g : Found} {i : ℕ} → g ≡ found_of (find_pair_c 3 0 s.methods model name t) → g ≡ At i → {t' : List ℕ} {a : Bool}
+    pub insert_there : s.full ≡ 0 → {g : Found} {i : ℕ} → g ≡ found_of (find_pair_c 3 0 s.methods model name t) → g ≡ Some i → {t' : List ℕ} {a : Bool}
         → Patched 3 i 2 function t t' a → InsertsMethod model name function s t s t'
     insert_there z {g} {i} searched at {t'} P = record {
       simulates = λ c k f m p l u n b e. record {
@@ -104,7 +103,7 @@ module _ (model name function : ℕ) where
               single_length (λ _ x. method_words x) 0 (insert_method (method_of model name function) xs),
             )) (contents_methods S filled)
 
-    pub insert_new : s.full ≡ 0 → {g : Found} → g ≡ found_of (find_pair_c 3 0 s.methods model name t) → g ≡ Nothing → {r : Taken} {t' : List ℕ}
+    pub insert_new : s.full ≡ 0 → {g : Found} → g ≡ found_of (find_pair_c 3 0 s.methods model name t) → g ≡ None → {r : Taken} {t' : List ℕ}
         → Took methods_area s.full s.methods (model ∷ name ∷ function ∷ []) t r t' → InsertsMethod model name function s t (with_method_count r s) t'
     insert_new z {g} searched lost {r} {t'} T = record {
       simulates = λ c k f m p l u n b e. record {

@@ -40,7 +40,6 @@ pub mod ScopesBalanced
 pub mod SetBits
 pub mod StandingNumbers
 pub mod StandingProgram
-pub mod StateWords
 pub mod StepsInOrder
 pub mod Tokens
 pub mod UnchangedByBooks

@@ -15,19 +15,18 @@ use Rattle.words.specs.Areas.{entry_field, Patched}
 use Rattle.definition.specs.Program.{Entries, flat, entries_from}
 use Rattle.words.proofs.Entries.{field_in}
 use Rattle.definition_laws.proofs.Cells.{single_length, single_at}
-use Rattle.building.specs.declared.scopes.Found.{Found}
-use Rattle.building.specs.declared.scopes.Found.TheVariants.{At, Nothing}
-use Rattle.building.specs.Found.{found_of, first_from}
+use Rattle.std.specs.Prelude.{Some, None}
+use Rattle.building.specs.Found.{Found, found_of, first_from}
 use Rattle.building.specs.RepresentsMachine.{Filled}
 use Rattle.compiler_laws.specs.IncludeSteps.{is_pair}
 use Rattle.building.proofs.Filling.{room_fits, filled_at, set_append_add, filled_set, filled_field}
 
 -- an answer of the code, and the definition's
-pub found_at : (o : Option ℕ) {f : Found} {i : ℕ} → f ≡ found_of o → f ≡ At i → o ≡ some i
+pub found_at : (o : Option ℕ) {f : Found} {i : ℕ} → f ≡ found_of o → f ≡ Some i → o ≡ some i
 found_at none p q = absurd (let z : ◌≡◌ {A = ℕ} 0 1 = cc in omega arith)
 found_at (some j) p q = cc
 
-pub found_none : (o : Option ℕ) {f : Found} → f ≡ found_of o → f ≡ Nothing → o ≡ none
+pub found_none : (o : Option ℕ) {f : Found} → f ≡ found_of o → f ≡ None → o ≡ none
 found_none none p q = refl
 found_none (some j) p q = absurd (let z : ◌≡◌ {A = ℕ} 0 1 = cc in omega arith)
 

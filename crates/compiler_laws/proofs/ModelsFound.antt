@@ -19,9 +19,8 @@ use Rattle.definition.specs.Book.{Book, model_of, constant_at, get_local_value, 
 use Rattle.definition.specs.Program.{Entries, entries_from, local_words, local_entry, constant_entry, bit}
 use Rattle.definition.specs.Within.{All, nil, ◌&◌}
 use Rattle.definition_laws.proofs.Cells.{single_length, single_at}
-use Rattle.building.specs.declared.scopes.Found.{Found}
-use Rattle.building.specs.declared.scopes.Found.TheVariants.{At, Nothing}
-use Rattle.building.specs.Found.{found_of, first_from, find_context_local_c}
+use Rattle.std.specs.Prelude.{Some, None}
+use Rattle.building.specs.Found.{Found, found_of, first_from, find_context_local_c}
 use Rattle.building.specs.RepresentsMachine.{Filled}
 use Rattle.building.proofs.Filling.{filled_field}
 use Rattle.building.proofs.ContextLaws.{find_context_law}
@@ -33,14 +32,14 @@ use Rattle.compiler_laws.proofs.MapEntries.{found_at, found_none, filled_past}
 
 -- `model_of`
 module _ (i : ℕ) (l k : List ℕ) {mark : ℕ} (first : mark ≡ entry_field 4 i 2 l) where
-  pub model_none : (mark ≡ 1 → ⊥) → Nothing ≡ found_of (model_at_c i l k)
+  pub model_none : (mark ≡ 1 → ⊥) → None ≡ found_of (model_at_c i l k)
   model_none ne = rw (← first, ne_eqb mark 1 ne)
 
   module _ (one : mark ≡ 1) {c kind : ℕ} (second : c ≡ entry_field 4 i 3 l) (third : kind ≡ entry_field 3 c 0 k) where
-    pub model_other : (kind ≡ 5 → ⊥) → Nothing ≡ found_of (model_at_c i l k)
+    pub model_other : (kind ≡ 5 → ⊥) → None ≡ found_of (model_at_c i l k)
     model_other ne = rw (← first, eq-eqb mark 1 one, ← second, ← third, ne_eqb kind 5 ne)
 
-    pub model_here : kind ≡ 5 → {value : ℕ} → value ≡ entry_field 3 c 1 k → At value ≡ found_of (model_at_c i l k)
+    pub model_here : kind ≡ 5 → {value : ℕ} → value ≡ entry_field 3 c 1 k → Some value ≡ found_of (model_at_c i l k)
     model_here q fourth = rw (← first, eq-eqb mark 1 one, ← second, ← third, eq-eqb kind 5 q, ← fourth)
 
 -- a context local's mark and value
@@ -153,8 +152,8 @@ local_is {name = name} value S q = rw (← value) (sym (find_context_law name S.
 module _ {tree : List ℕ} {at : ℕ} {s : struct.Book} {l k e : List ℕ} where
   module _ (z : s.full ≡ 0) {name : ℕ} (value : name ≡ value_at tree at) {g : Found}
       (searched : g ≡ found_of (find_context_local_c s.first_local s.locals name l)) where
-    pub find_lost : g ≡ Nothing → {s' : struct.Book} {e' : List ℕ} → ErrorsDo s e s' e' (push_book_error 10 (token_at tree at))
-        → FindsModel tree at s l k e Nothing s' e'
+    pub find_lost : g ≡ None → {s' : struct.Book} {e' : List ℕ} → ErrorsDo s e s' e' (push_book_error 10 (token_at tree at))
+        → FindsModel tree at s l k e None s' e'
     unfolding find_model_index_by_local_name
     find_lost lost E = record {
       seeks = λ c f m p t u n b. record {
@@ -164,9 +163,9 @@ module _ {tree : List ℕ} {at : ℕ} {s : struct.Book} {l k e : List ℕ} where
       };
     }
 
-    module _ {i : ℕ} (at_i : g ≡ At i) {r : Found} (model : r ≡ found_of (model_at_c i l k)) where
-      pub find_other : r ≡ Nothing → {s' : struct.Book} {e' : List ℕ} → ErrorsDo s e s' e' (push_book_error 9 (token_at tree at))
-          → FindsModel tree at s l k e Nothing s' e'
+    module _ {i : ℕ} (at_i : g ≡ Some i) {r : Found} (model : r ≡ found_of (model_at_c i l k)) where
+      pub find_other : r ≡ None → {s' : struct.Book} {e' : List ℕ} → ErrorsDo s e s' e' (push_book_error 9 (token_at tree at))
+          → FindsModel tree at s l k e None s' e'
       unfolding find_model_index_by_local_name
       find_other lost E = record {
         seeks = λ c f m p t u n b. record {
@@ -183,7 +182,7 @@ module _ {tree : List ℕ} {at : ℕ} {s : struct.Book} {l k e : List ℕ} where
         };
       }
 
-      pub find_there : {j : ℕ} → r ≡ At j → FindsModel tree at s l k e r s e
+      pub find_there : {j : ℕ} → r ≡ Some j → FindsModel tree at s l k e r s e
       unfolding find_model_index_by_local_name
       find_there {j} at_j = record {
         seeks = λ c f m p t u n b. record {

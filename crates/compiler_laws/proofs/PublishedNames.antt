@@ -14,10 +14,9 @@ use Rattle.definition.specs.Uses.{Limits}
 use Rattle.definition.specs.Book.{Context, Placed, insert_entry, public_count, publish}
 use Rattle.definition.specs.Program.{Entries, entries_from, public_entries, assembly_publics, public_table}
 use Rattle.definition_laws.proofs.Cells.{all_any, entries_length}
-use Rattle.building.specs.declared.scopes.Found.{Found}
-use Rattle.building.specs.declared.scopes.Found.TheVariants.{At, Nothing}
+use Rattle.std.specs.Prelude.{Some, None}
 use Rattle.building.specs.declared.taking.Taken.{Taken}
-use Rattle.building.specs.Found.{found_of}
+use Rattle.building.specs.Found.{Found, found_of}
 use Rattle.building.specs.Taking.{Took}
 use Rattle.building.specs.RepresentsMachine.{Filled}
 use Rattle.building.proofs.ContextLaws.{took_law}
@@ -101,7 +100,7 @@ module _ {place name : ℕ} {s : struct.Book} {u : List ℕ} where
   pub publish_full : (s.full ≡ 0 → ⊥) → Publishes place name s u s u
   publish_full ne = record { meets = λ c k f m p t l n b e κ ps q H same. keeping_longer (unchanged_publish name q).uses ne H }
 
-  pub publish_there : s.full ≡ 0 → {g : Found} {i : ℕ} → g ≡ found_of (find_pair_c 3 s.first_public s.publics s.file name u) → g ≡ At i
+  pub publish_there : s.full ≡ 0 → {g : Found} {i : ℕ} → g ≡ found_of (find_pair_c 3 s.first_public s.publics s.file name u) → g ≡ Some i
       → {u' : List ℕ} {a : Bool} → Patched 3 i 2 place u u' a → Publishes place name s u s u'
   publish_there z {g} {i} searched at {u'} P = record {
     meets = λ c k f m p t l n b e κ ps q H same.
@@ -141,7 +140,7 @@ module _ {place name : ℕ} {s : struct.Book} {u : List ℕ} where
             public_count_lem file name q.place front (insert_entry (entry_of name q.place) xs) filled,
           )) (contents_publics S filled)
 
-  pub publish_new : s.full ≡ 0 → {g : Found} → g ≡ found_of (find_pair_c 3 s.first_public s.publics s.file name u) → g ≡ Nothing
+  pub publish_new : s.full ≡ 0 → {g : Found} → g ≡ found_of (find_pair_c 3 s.first_public s.publics s.file name u) → g ≡ None
       → {r : Taken} {u' : List ℕ} → Took public_names_area s.full s.publics (s.file ∷ name ∷ place ∷ []) u r u'
       → Publishes place name s u (with_public_count r s) u'
   publish_new z {g} searched lost {r} {u'} T = record {

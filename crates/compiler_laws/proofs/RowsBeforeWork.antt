@@ -6,19 +6,19 @@ use mathlib.Core.Path.{◌≡◌, refl, sym, ap, subst, ◌∙◌}
 use mathlib.Core.Option.{Option, none, some}
 use mathlib.Core.List.{List, [], ◌∷◌}
 use lib.ListN.{length, replicate, length-replicate}
+use Rattle.std.specs.Prelude.{Result, Ok, Err}
+use Rattle.words.specs.Row.{row_number}
+use Rattle.words.specs.declared.row.Refused.{Refused}
 use Rattle.words.specs.Ast.{Document}
 use Rattle.words.specs.Areas.{cleared_from}
 use Rattle.tree.specs.Check.{shape_of}
 use Rattle.tree.specs.Reading.{documents_of}
-use Rattle.tree.specs.declared.Shape.{Shape}
-use Rattle.tree.specs.declared.Shape.TheVariants.{Fine, Refused}
 use Rattle.definition.specs.Book.{Context, new_context}
 use Rattle.definition.specs.DependencySolver.{loaded_of, needed, missing, compile_needed}
 use Rattle.definition.specs.Answer.{Refusal, answer_needed, answer_bundle, answer_worked, answer_from, answer}
 use Rattle.definition.specs.Answer.{twice, document_places, limits_of}
-use Rattle.building.specs.declared.scopes.Found.{Found}
-use Rattle.building.specs.declared.scopes.Found.TheVariants.{At, Nothing}
-use Rattle.building.specs.Found.{found_of}
+use Rattle.std.specs.Prelude.{Some, None}
+use Rattle.building.specs.Found.{Found, found_of}
 use Rattle.compiler_laws.specs.FileSets.{SetIs}
 use Rattle.compiler_laws.specs.SolverSteps.{InSets, Bundle, Room, Distinct, Twice, FindsTwice, Needs, Misses}
 use Rattle.compiler_laws.specs.BooksInOrder.{Fresh, Accepted, FrontRows, ChecksRows}
@@ -27,25 +27,26 @@ use Rattle.compiler_laws.proofs.BundleRange.{fine_bundle, fine_root}
 use Rattle.compiler_laws.proofs.BooksNeeded.{set_empty, needed_ascends, needed_below}
 use Rattle.definition_laws.proofs.Promise.{no_row}
 
-found_none : (o : Option ℕ) → Nothing ≡ found_of o → o ≡ none
+found_none : (o : Option ℕ) → None ≡ found_of o → o ≡ none
 found_none none h = refl
 found_none (some i) h = absurd (let z : ◌≡◌ {A = ℕ} 0 1 = cc in omega arith)
 
-found_some : (o : Option ℕ) (i : ℕ) → At i ≡ found_of o → o ≡ some i
+found_some : (o : Option ℕ) (i : ℕ) → Some i ≡ found_of o → o ≡ some i
 found_some none i h = absurd (let z : ◌≡◌ {A = ℕ} 0 1 = cc in omega arith)
 found_some (some j) i h = let same : i ≡ j = cc in ap some (sym same)
 
 -- rows 2 to 4
-shape_number : {x : Shape} → ShapeRow x → (row place : ℕ) → x ≡ Refused row place → row ≡ 0 → ⊥
-shape_number fine row place h z = absurd (let y : ◌≡◌ {A = ℕ} 0 1 = cc in omega arith)
-shape_number (refused {r = r} p x) row place h z = let same : row ≡ r = cc in no_row x (sym same ∙ z)
+shape_number : {x : Result (Unit {0}) Refused} → ShapeRow x → (found : Refused) → x ≡ Err found → row_number found.row ≡ 0 → ⊥
+shape_number fine found h z = absurd (let y : ◌≡◌ {A = ℕ} 0 1 = cc in omega arith)
+shape_number (refused other x) found h z = let same : other ≡ found = cc in no_row x (ap (λ (f : Refused). row_number f.row) same ∙ z)
 
-pub front_shape : (tree standing set : List ℕ) {row place : ℕ} {x : Shape} → x ≡ shape_of tree → x ≡ Refused row place → ChecksRows tree standing row place set
+pub front_shape : (tree standing set : List ℕ) {number : ℕ} {found : Refused} {x : Result (Unit {0}) Refused} → x ≡ shape_of tree → x ≡ Err found
+    → number ≡ row_number found.row → ChecksRows tree standing number found.place set
 unfolding answer_from
-front_shape tree standing set {row} {place} q h = record {
+front_shape tree standing set {found = found} q h n = record {
   rows = λ files s. record {
-    refused = λ ne c l lengths. rw (sym q ∙ h);
-    accepted = λ z. absurd (shape_number (shape_row tree) row place (sym q ∙ h) z);
+    refused = λ ne c l lengths. rw (sym q ∙ h, n);
+    accepted = λ z. absurd (shape_number (shape_row tree) found (sym q ∙ h) (sym n ∙ z));
   };
 }
 
@@ -67,9 +68,9 @@ fresh_zeros tree k h =
     record { empty = ap (λ (n : ℕ). replicate n 0) (sym long); room = λ ds b. rw long (h ds b) }
 
 -- fine words
-module _ (tree : List ℕ) {x : Shape} (Shape-is : x ≡ shape_of tree) (fine_is : x ≡ Fine) {end : ℕ} (end_is : end ≡ length tree / 4)
+module _ (tree : List ℕ) {x : Result (Unit {0}) Refused} (Shape-is : x ≡ shape_of tree) (fine_is : x ≡ Ok tt) {end : ℕ} (end_is : end ≡ length tree / 4)
     {chosen₀ present present' : List ℕ} {r : Found} (fresh : Fresh tree chosen₀) (same : present ≡ chosen₀) (F : FindsTwice tree end present r present') where
-  is_fine : shape_of tree ≡ Fine
+  is_fine : shape_of tree ≡ Ok tt
   is_fine = sym Shape-is ∙ fine_is
 
   bundle : Bundle (documents_of tree) tree 0 end
@@ -84,7 +85,7 @@ module _ (tree : List ℕ) {x : Shape} (Shape-is : x ≡ shape_of tree) (fine_is
   finds : (ds : List Document) → Bundle ds tree 0 end → Twice tree end ds r present'
   finds ds b = F.finds ds b (rw same (room ds b)) (rw same empty)
 
-  pub front_twice : (standing set : List ℕ) {i : ℕ} → r ≡ At i → ChecksRows tree standing 5 i set
+  pub front_twice : (standing set : List ℕ) {i : ℕ} → r ≡ Some i → ChecksRows tree standing 5 i set
   unfolding answer_from
   front_twice standing set {i} at = record {
     rows = λ files s. record {
@@ -97,7 +98,7 @@ module _ (tree : List ℕ) {x : Shape} (Shape-is : x ≡ shape_of tree) (fine_is
   }
 
   -- the set of the file numbers is lent to `needed`, and made again after it
-  module _ (none-twice : r ≡ Nothing) {standing read again files' set : List ℕ} {r' m : Found} (read_is : read ≡ cleared_from 0 present')
+  module _ (none-twice : r ≡ None) {standing read again files' set : List ℕ} {r' m : Found} (read_is : read ≡ cleared_from 0 present')
       (N : Needs tree end standing read chosen₀ set) (kept : length set ≡ length chosen₀)
       (again-is : again ≡ replicate (length chosen₀) 0) (F' : FindsTwice tree end again r' files') (M : Misses set files' m) where
     again_long : length again ≡ length chosen₀
@@ -106,7 +107,7 @@ module _ (tree : List ℕ) {x : Shape} (Shape-is : x ≡ shape_of tree) (fine_is
     finds_again : (ds : List Document) → Bundle ds tree 0 end → Twice tree end ds r' files'
     finds_again ds b = F'.finds ds b (rw again_long (room ds b)) (rw again-is (set_empty (length chosen₀)))
 
-    none_again : r' ≡ Nothing
+    none_again : r' ≡ None
     none_again = (finds_again (documents_of tree) bundle).answer end_is ∙ sym ((finds (documents_of tree) bundle).answer end_is) ∙ none-twice
 
     once : twice [] tree (document_places tree) ≡ none
@@ -135,13 +136,13 @@ module _ (tree : List ℕ) {x : Shape} (Shape-is : x ≡ shape_of tree) (fine_is
       unfolding answer_from answer_bundle
       so_far c loaded lengths = rw (is_fine, once, documents, loaded)
 
-      no_root : {y : ℕ} → m ≡ At y → FrontRows tree 6 y set files
+      no_root : {y : ℕ} → m ≡ Some y → FrontRows tree 6 y set files
       no_root {y} at = record {
         refused = λ ne c loaded lengths. so_far c loaded lengths ∙ rw (found_some (missing (root ∷ others) numbers) y (sym at ∙ absent));
         accepted = λ z. absurd (omega arith);
       }
 
-      all_there : m ≡ Nothing → FrontRows tree 0 0 set files
+      all_there : m ≡ None → FrontRows tree 0 0 set files
       all_there nothing =
           let there : missing (root ∷ others) numbers ≡ none = found_none (missing (root ∷ others) numbers) (sym nothing ∙ absent) in
           record {
@@ -164,8 +165,8 @@ module _ (tree : List ℕ) {x : Shape} (Shape-is : x ≡ shape_of tree) (fine_is
             );
           }
 
-    pub front_missing : {y : ℕ} → m ≡ At y → ChecksRows tree standing 6 y set
+    pub front_missing : {y : ℕ} → m ≡ Some y → ChecksRows tree standing 6 y set
     front_missing at = let d = fine_root tree is_fine in record { rows = λ files s. no_root files s d.0 d.1 d.2 at }
 
-    pub front_ready : m ≡ Nothing → ChecksRows tree standing 0 0 set
+    pub front_ready : m ≡ None → ChecksRows tree standing 0 0 set
     front_ready nothing = let d = fine_root tree is_fine in record { rows = λ files s. all_there files s d.0 d.1 d.2 nothing }

@@ -10,8 +10,7 @@ use Rattle.definition.specs.Book.{Function, Context, Book, BookStep, Placed, May
 use Rattle.definition.specs.Program.{entries_from, property_entries, public_entries, error_entry, code_table, constant_table, function_table, model_table}
 use Rattle.definition.specs.Program.{property_table, method_table, local_table, public_table}
 use Rattle.definition.specs.Within.{All}
-use Rattle.building.specs.declared.scopes.Found.{Found}
-use Rattle.building.specs.Found.{found_of}
+use Rattle.building.specs.Found.{Found, found_of}
 use Rattle.building.specs.RepresentsMachine.{Filled, LocalsHeld, Marks, Sized}
 use Rattle.compiler_laws.specs.declared.book.Book as struct
 

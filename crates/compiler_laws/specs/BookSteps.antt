@@ -6,8 +6,7 @@ use Rattle.std.proofs.Math.Option.{Option, none, some}
 use Rattle.definition.specs.Uses.{Limits}
 use Rattle.definition.specs.Book.{Context, Book, BookStep, Placed, MaybePlaced, set_local_value}
 use Rattle.building.specs.declared.function_state.FunctionState.{FunctionState}
-use Rattle.building.specs.declared.scopes.Found.{Found}
-use Rattle.building.specs.Found.{found_of}
+use Rattle.building.specs.Found.{Found, found_of}
 use Rattle.compiler_laws.specs.declared.book.Book as struct
 use Rattle.compiler_laws.specs.BookAreas.{book_areas, RepresentsAreas, SimulatesAreas, Places, Seeks}
 

@@ -13,7 +13,7 @@ use Rattle.definition.specs.DependencySolver.{needed, missing, compile_needed, l
 use Rattle.definition.specs.Answer.{Refusal, ring_errors, answer_worked, limits_of, answer_from}
 use Rattle.tree.specs.Check.{shape_of}
 use Rattle.tree.specs.Reading.{documents_of}
-use Rattle.tree.specs.declared.Shape.TheVariants.{Fine}
+use Rattle.std.specs.Prelude.{Ok}
 use Rattle.definition.specs.Book.{has_text, new_context, Context, book_count}
 use Rattle.building.specs.declared.taking.Taken.{Taken}
 use Rattle.building.specs.RepresentsMachine.{Filled, Marks, Sized}
@@ -53,7 +53,7 @@ pub record Fresh (tree set : List ℕ) : Type 0 where
 -- the work that is left after rows 2 to 6: the documents, their order's numbers, and the answer by them from each context in which the books of these files
 -- stand
 pub record Accepted (tree set files : List ℕ) (root : Document) (others : List Document) : Type 0 where
-  pub fine : shape_of tree ≡ Fine
+  pub fine : shape_of tree ≡ Ok tt
   pub documents : documents_of tree ≡ root ∷ others
   pub bundle : Bundle (root ∷ others) tree 0 (length tree / 4)
   pub distinct : Distinct (root ∷ others)

@@ -10,8 +10,8 @@ use Rattle.definition.specs.FunctionState.{get_last_position, define_local, tail
 use Rattle.definition.specs.Uses.{total}
 use Rattle.definition.specs.Compiler.{Work, Step, with_function, doing, emit, emit_opcode_without_position, replace_instruction, next, emit_constant, found_or}
 use Rattle.building.specs.declared.function_state.FunctionState.{FunctionState}
-use Rattle.building.specs.declared.scopes.Found.{Found}
-use Rattle.building.specs.declared.scopes.Found.TheVariants.{At, Nothing}
+use Rattle.building.specs.Found.{Found}
+use Rattle.std.specs.Prelude.{Some, None}
 use Rattle.building.specs.RepresentsMachine.{is_open}
 
 -- two anonymous locals, a scope and a break scope
@@ -41,8 +41,8 @@ loop_name x t n w =
 
 -- `found_or_zero`: a local's number, or 0
 abbrev pub found_or_zero : Found → ℕ
-found_or_zero (At i) = i
-found_or_zero Nothing = 0
+found_or_zero (Some i) = i
+found_or_zero None = 0
 
 -- the next element, back to the first instruction, out of the loop
 abbrev pub loop_end : ℕ → ℕ → ℕ → Step

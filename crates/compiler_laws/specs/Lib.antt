@@ -3,7 +3,6 @@ pub mod BookAreas
 pub mod BookSteps
 pub mod BooksInOrder
 pub mod CallEnd
-pub mod Cells
 pub mod FileSets
 pub mod ForStatements
 pub mod ImplementSteps

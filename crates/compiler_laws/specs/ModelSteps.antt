@@ -14,7 +14,7 @@ use Rattle.definition.specs.FunctionState.{Entry}
 use Rattle.definition.specs.Book.{Method, find_model_index_by_local_name, methods_in, compile_apply_definition}
 use Rattle.definition.specs.Book.{add_book_constant, add_model, define_context_local, set_local_value}
 use Rattle.tree.specs.At.{DefinitionAt}
-use Rattle.building.specs.declared.scopes.Found.{Found}
+use Rattle.building.specs.Found.{Found}
 use Rattle.compiler_laws.specs.declared.book.Book.{Book}
 use Rattle.compiler_laws.specs.BookAreas.{book_areas, RepresentsAreas, SimulatesAreas, Seeks}
 

@@ -9,11 +9,10 @@ use Rattle.words.specs.Record.{most_records}
 use Rattle.tree.specs.At.{RunAt, DefinitionAt, size_d, DocumentAt, DocumentsAt, size_doc, run_size}
 use Rattle.definition.specs.DependencySolver.{dependencies, find_document, needed, missing, ready}
 use Rattle.definition.specs.Answer.{twice, document_places}
-use Rattle.building.specs.declared.scopes.Found.{Found}
-use Rattle.building.specs.declared.scopes.Found.TheVariants.{Nothing}
+use Rattle.std.specs.Prelude.{None}
 use Rattle.building.specs.declared.taking.Taken.{Taken}
 use Rattle.building.specs.Taking.{taken}
-use Rattle.building.specs.Found.{found_of}
+use Rattle.building.specs.Found.{Found, found_of}
 use Rattle.compiler_laws.specs.InsideFunction.{skip_c}
 use Rattle.compiler_laws.specs.FileSets.{set_size, narrow_size, bit_of, add_bits, all_bits, all_known, SetIs, Below, Ascends}
 
@@ -44,8 +43,8 @@ files (d ∷ ds) = d.filename ∷ files ds
 -- `twice`: row 5; where it finds none, `present` is the set of all file numbers
 pub record Twice (tree : List ℕ) (end : ℕ) (ds : List Document) (r : Found) (after : List ℕ) : Type 0 where
   pub answer : end ≡ length tree / 4 → r ≡ found_of (twice [] tree (document_places tree))
-  pub distinct : r ≡ Nothing → Distinct ds
-  pub present : r ≡ Nothing → SetIs after (files ds)
+  pub distinct : r ≡ None → Distinct ds
+  pub present : r ≡ None → SetIs after (files ds)
 
 -- with an empty set to begin with that has room
 pub record FindsTwice (tree : List ℕ) (end : ℕ) (before : List ℕ) (r : Found) (after : List ℕ) : Type 0 where

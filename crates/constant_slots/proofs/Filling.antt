@@ -1,6 +1,6 @@
 -- A table that is filled anew: constant i stands some slots from its home on and the slots before it hold earlier ones; as many slots are empty as there are
 -- more than constants; one more constant in the pool is one more put; and a full table takes nothing. By induction over the constants. Assumes nothing.
-use Prim.Native.Nat.{ℕ, zero, suc, ◌+◌, ◌-◌, ◌≤◌, ◌<◌}
+use Prim.Native.Nat.{ℕ, zero, suc, ◌+◌, ◌-◌, ◌≤◌, ◌<◌, min}
 use native.Mathlib.Nat.{zero-add}
 use native.Mathlib.Omega.{arith}
 use native.Mathlib.Decide.{dec_lt, ℕ_discrete}
@@ -209,11 +209,17 @@ filled_again n k w slots {after} {kind} {value} e h a b p =
     let put : put_number slots k (constant_of kind value) ≡ put_slot slots k (constant_at w k) = rw (lt-ltb k 18446744073709551615 h, a, b) refl in
     p ∙ put ∙ ap (λ s. put_slot s k (constant_at w k)) e ∙ filled_next n k w
 
-pub filled_last : (n m k count : ℕ) (w : List ℕ) {slots : List ℕ} → slots ≡ slots_of n (pool_of k w) → n ≡ m → k ≡ count → slots ≡ slots_of m (pool_of count w)
-filled_last n m k count w e a b = e ∙ ap (λ i. slots_of i (pool_of k w)) a ∙ ap (λ i. slots_of m (pool_of i w)) b
-
 pub filled_early : (n m k count : ℕ) (w : List ℕ) {slots : List ℕ} → slots ≡ slots_of n (pool_of k w) → n ≡ m → k ≡ n → k ≤ count
     → slots ≡ slots_of m (pool_of count w)
 filled_early n m k count w e a b h =
     let all : n + (count - n) ≡ count = omega arith in
     e ∙ ap (λ i. slots_of n (pool_of i w)) b ∙ filled_full n (count - n) w ∙ ap (λ i. slots_of n (pool_of i w)) all ∙ ap (λ i. slots_of i (pool_of count w)) a
+
+-- all the constants, or as many as there are slots
+pub filled_last : (n m k count : ℕ) (w : List ℕ) {slots : List ℕ} → slots ≡ slots_of n (pool_of k w) → n ≡ m → k ≡ min count n
+    → slots ≡ slots_of m (pool_of count w)
+filled_last n m k count w {slots} e a b = go (dec_lt n count)
+  where
+    go : Dec (n < count) → slots ≡ slots_of m (pool_of count w)
+    go (yes h) = filled_early n m k count w e a (omega arith) (omega arith)
+    go (no h) = let all : k ≡ count = omega arith in e ∙ ap (λ i. slots_of n (pool_of i w)) all ∙ ap (λ i. slots_of i (pool_of count w)) a

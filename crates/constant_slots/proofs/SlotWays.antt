@@ -9,11 +9,12 @@ use mathlib.Core.Option.{none, some}
 use mathlib.Core.List.{List}
 use lib.ListN.{length, get_or, set}
 use lib.Dec.{eqb, ltb}
-use borrow.Author.Tests.{eq-eqb, ne_eqb, lt-ltb, le-ltb}
+use borrow.Author.Tests.{eq-eqb, ne_eqb, lt-ltb}
 use Rattle.words.specs.Object.{Constant, constant_of, float_kind}
-use Rattle.constant_slots.specs.declared.plain.Found.TheVariants.{At, Nothing}
+use Rattle.std.specs.Prelude.{Some, None}
 use Rattle.constant_slots.specs.Home.{folded, round_zeros, grain, float_value, float_slots, spread_value, stride, home}
 use Rattle.constant_slots.proofs.Filling.{set_past}
+use Rattle.constant_slots.proofs.Rounds.{after_below}
 use Rattle.constant_slots.specs.Slots.{after, first_empty, put_slot, put_number, Search, searched, look, looked_of}
 
 -- the arithmetic of a home
@@ -70,14 +71,14 @@ module _ (is : ℕ → Bool) (n : ℕ) (slots : List ℕ) (p m : ℕ) {start : S
   look_more : m < n → n - m ≡ suc (n - (m + 1))
   look_more h = omega arith
 
-  pub look_empty : m < n → get_or slots p 0 ≡ 0 → record { found = Nothing; looked = m + 1 } ≡ looked_of start
+  pub look_empty : m < n → get_or slots p 0 ≡ 0 → record { found = None; looked = m + 1 } ≡ looked_of start
   unfolding look
   look_empty h z =
       let here : look is (n - m) n slots p m ≡ searched none (m + 1) = rw (look_more h, z) in
       ap looked_of (sym here ∙ e)
 
   pub look_here : m < n → get_or slots p 0 ≢ 0 → is (get_or slots p 0 - 1) ≡ true
-      → record { found = At (get_or slots p 0 - 1); looked = m + 1 } ≡ looked_of start
+      → record { found = Some (get_or slots p 0 - 1); looked = m + 1 } ≡ looked_of start
   unfolding look
   look_here h z t =
       let here : look is (n - m) n slots p m ≡ searched (some (get_or slots p 0 - 1)) (m + 1) = rw (look_more h, ne_eqb (get_or slots p 0) 0 z, t) in
@@ -89,15 +90,12 @@ module _ (is : ℕ → Bool) (n : ℕ) (slots : List ℕ) (p m : ℕ) {start : S
       let past : look is (n - m) n slots p m ≡ look is (n - (m + 1)) n slots (after n p) (m + 1) = rw (look_more h, ne_eqb (get_or slots p 0) 0 z, t) in
       sym past ∙ e
 
-  pub look_end : n ≤ m → record { found = Nothing; looked = m } ≡ looked_of start
+  pub look_end : n ≤ m → record { found = None; looked = m } ≡ looked_of start
   unfolding look
   look_end h =
       let done : n - m ≡ 0 = omega arith in
       let end : look is (n - m) n slots p m ≡ searched none m = rw done in
       ap looked_of (sym end ∙ e)
-
-pub look_start : (is : ℕ → Bool) (n : ℕ) (slots : List ℕ) (p : ℕ) → look is (n - 0) n slots p 0 ≡ look is n n slots p 0
-look_start is n slots p = let all : n - 0 ≡ n = omega arith in rw all
 
 -- `first_empty`, in the same way
 module _ (n : ℕ) (slots : List ℕ) (p m : ℕ) {start : ℕ} (e : first_empty (n - m) n slots p ≡ start) where
@@ -123,14 +121,15 @@ module _ (n : ℕ) (slots : List ℕ) (p m : ℕ) {start : ℕ} (e : first_empty
       let end : first_empty (n - m) n slots p ≡ n = rw done in
       sym end ∙ e
 
-pub empty_start : (n : ℕ) (slots : List ℕ) (p : ℕ) → first_empty (n - 0) n slots p ≡ first_empty n n slots p
-empty_start n slots p = let all : n - 0 ≡ n = omega arith in rw all
+-- what the proofs of `home`, `look` and `first_empty` go by
+pub ruleset home_steps = (spread_below, stride_small, spread_fits, kind_fits)
+
+pub ruleset look_steps = (after_below, look_empty, look_here, look_next, look_end)
+
+pub ruleset empty_steps = (after_below, empty_here, empty_next, empty_end)
 
 -- `put`
 module _ (slots : List ℕ) (number kind value : ℕ) where
-  pub put_most : number ≡ 18446744073709551615 → slots ≡ put_number slots number (constant_of kind value)
-  put_most e = rw (le-ltb number 18446744073709551615 (omega arith)) refl
-
   pub put_nowhere : length slots ≡ 0 → slots ≡ put_number slots number (constant_of kind value)
   unfolding put_slot
   put_nowhere e = go (ltb number 18446744073709551615)

@@ -1,13 +1,12 @@
 // A lent table of slots over the pool. A slot holds 0, or a constant's number and one; a constant is looked for from its home slot on, round the end.
-ghost use Rattle.std.specs.Prelude.{◌≡◌, ◌≤◌, ◌<◌, length, replicate};
+ghost use Rattle.std.specs.Prelude.{◌≡◌, ◌≤◌, ◌<◌, length, replicate, unwrap_or, IfSome};
 ghost use Rattle.words.specs.Object.{constant_of};
 ghost use Rattle.constant_slots.specs.Home as homes;
 ghost use Rattle.constant_slots.specs.Plain.{pool_of};
 ghost use Rattle.constant_slots.specs.Slots as table;
 
-use crate::plain;
-use crate::plain::Found;
-use words::{areas, object};
+use crate::plain::{self, ConstantWords};
+use words::object;
 
 // The primes of a float's home.
 const FIRST_PRIME: u64 = 3162277669;
@@ -16,13 +15,10 @@ const SECOND_PRIME: u64 = 2718281831;
 
 const LAST_PRIME: u64 = 4294967291;
 
-// The greatest word: no slot holds it and one.
-const MOST_WORD: u64 = 18446744073709551615;
-
 // What a search answers: the constant's number, and how many slots were looked at; 0 where the plain search answered.
 #[derive(Clone, Copy)]
 pub struct Looked {
-    pub found: Found,
+    pub found: Option<u64>,
     pub looked: usize,
 }
 
@@ -46,17 +42,17 @@ fn float_value(n: usize, bits: u64) -> u64
 }
 
 // What of a constant is spread over n slots.
-fn spread_value(n: usize, kind: u64, value: u64) -> usize
+fn spread_value(n: usize, constant: ConstantWords) -> usize
     requires { 0 < n }
-    ensures { result ≡ homes.spread_value n (constant_of kind value) }
+    ensures { result ≡ homes.spread_value n (constant_of constant.kind constant.value) }
 {
-    if kind == object::FLOAT {
-        return float_value(n, value) as usize % ((n - 1) / 2 * 2 + 1);
+    if constant.kind == object::FLOAT {
+        return float_value(n, constant.value) as usize % ((n - 1) / 2 * 2 + 1);
     }
-    value as usize % n
+    constant.value as usize % n
 }
 
-// How far apart the homes of neighbours are.
+// How far apart the homes of neighbours are. A loop over the five primes is no plainer: it needs an invariant.
 fn stride(n: usize) -> usize
     ensures { result ≡ homes.stride n }
 {
@@ -79,14 +75,16 @@ fn stride(n: usize) -> usize
 }
 
 // The home slot of a constant among n.
-fn home(n: usize, kind: u64, value: u64) -> usize
+#[tactic(auto, using(crate::proofs::SlotWays::home_steps), unfolding(crate::specs::Home::home))]
+fn home(n: usize, constant: ConstantWords) -> usize
     requires n_nonzero { 0 < n }
     requires n_bound { n ≤ 1152921504606846976 }
-    ensures { result ≡ homes.home n (constant_of kind value) }
+    ensures is { result ≡ homes.home n (constant_of constant.kind constant.value) }
+    ensures below { result < n }
 {
-    let spread = spread_value(n, kind, value);
+    let spread = spread_value(n, constant);
     let apart = stride(n);
-    (spread * apart + kind as usize % 8 * (n / 8)) % n
+    (spread * apart + constant.kind as usize % 8 * (n / 8)) % n
 }
 
 // The slot after slot p.
@@ -101,97 +99,92 @@ fn after(n: usize, p: usize) -> usize
 }
 
 // From a slot on, round the end, to the first that is empty or has the constant.
+#[tactic(auto, using(crate::proofs::SlotWays::look_steps))]
 fn look(
     constants: &[u64],
     count: usize,
     slots: &[u64],
     from: usize,
-    kind: u64,
-    value: u64,
+    constant: ConstantWords,
 ) -> Looked
     requires { from < length slots.now }
-    ensures { result ≡ table.looked_of (table.look (table.is_in_pool count (constant_of kind value) constants.now)
+    ensures { result ≡ table.looked_of (table.look (table.is_in_pool count (constant_of constant.kind constant.value) constants.now)
         (length slots.now) (length slots.now) slots.now from 0) }
 {
     let mut at = from;
-    let mut looked: usize = 0;
-    while looked < slots.len() {
+    for before in 0..slots.len() {
         let there = slots[at];
-        looked += 1;
+        let looked = before + 1;
         if there == 0 {
             return Looked {
-                found: Found::Nothing,
+                found: None,
                 looked,
             };
         }
-        if has(constants, count, there - 1, kind, value) {
+        if has(constants, count, there - 1, constant) {
             return Looked {
-                found: Found::At(there - 1),
+                found: Some(there - 1),
                 looked,
             };
         }
         at = after(slots.len(), at);
     }
     Looked {
-        found: Found::Nothing,
-        looked,
+        found: None,
+        looked: slots.len(),
     }
 }
 
 // Whether a number is in the pool and has the constant.
-fn has(constants: &[u64], count: usize, number: u64, kind: u64, value: u64) -> bool
-    ensures { result ≡ table.is_in_pool count (constant_of kind value) constants.now number }
+fn has(constants: &[u64], count: usize, number: u64, constant: ConstantWords) -> bool
+    ensures { result ≡ table.is_in_pool count (constant_of constant.kind constant.value) constants.now number }
 {
     let i = number as usize;
-    if i < count {
-        return plain::same_constant(constants, i, kind, value);
-    }
-    false
+    i < count && plain::same_constant(constants, i, constant)
 }
 
 // The search: through the slots where there are more of them than constants, else the plain one.
-pub fn find(constants: &[u64], count: usize, slots: &[u64], kind: u64, value: u64) -> Looked
-    ensures { result ≡ table.looked_of (table.search_slots count (constant_of kind value) constants.now slots.now) }
+pub fn find(constants: &[u64], count: usize, slots: &[u64], constant: ConstantWords) -> Looked
+    ensures { result ≡ table.looked_of (table.search_slots count (constant_of constant.kind constant.value) constants.now slots.now) }
 {
     if slots.len() <= count {
-        let found = plain::find(constants, count, kind, value);
+        let found = plain::find(constants, count, constant);
         return Looked { found, looked: 0 };
     }
-    let from = home(slots.len(), kind, value);
-    look(constants, count, slots, from, kind, value)
+    let from = home(slots.len(), constant);
+    look(constants, count, slots, from, constant)
 }
 
-// The first empty slot from a slot on, round the end; as many as there are slots where none is empty.
-fn first_empty(slots: &[u64], from: usize) -> usize
+// The first empty slot from a slot on, round the end.
+#[tactic(auto, using(crate::proofs::SlotWays::empty_steps))]
+fn first_empty(slots: &[u64], from: usize) -> Option<usize>
     requires { from < length slots.now }
-    ensures { result ≡ table.first_empty (length slots.now) (length slots.now) slots.now from }
+    ensures in_bounds { IfSome result (λ p. p < length slots.now) }
+    ensures is { unwrap_or result (length slots.now) ≡ table.first_empty (length slots.now) (length slots.now) slots.now from }
 {
     let mut at = from;
-    let mut looked: usize = 0;
-    while looked < slots.len() {
+    for looked in 0..slots.len() {
         if slots[at] == 0 {
-            return at;
+            return Some(at);
         }
-        looked += 1;
         at = after(slots.len(), at);
     }
-    slots.len()
+    None
 }
 
-// A constant of a number takes its slot; none where all are taken.
-pub fn put(slots: &mut [u64], number: u64, kind: u64, value: u64)
-    ensures { slots.new ≡ table.put_number slots.old number (constant_of kind value) }
+// A constant of a number takes its slot; none where all are taken. A slot holds the number and one, which the greatest word has not.
+pub fn put(slots: &mut [u64], number: u64, constant: ConstantWords)
+    ensures { slots.new ≡ table.put_number slots.old number (constant_of constant.kind constant.value) }
 {
-    if number == MOST_WORD {
+    let Some(held) = number.checked_add(1) else {
+        return;
+    };
+    if slots.is_empty() {
         return;
     }
-    if slots.len() == 0 {
-        return;
-    }
-    let from = home(slots.len(), kind, value);
-    let p = first_empty(slots, from);
-    if p < slots.len() {
-        slots[p] = number + 1;
+    let from = home(slots.len(), constant);
+    if let Some(p) = first_empty(slots, from) {
+        slots[p] = held;
     }
 }
 
@@ -199,7 +192,7 @@ pub fn put(slots: &mut [u64], number: u64, kind: u64, value: u64)
 pub fn clear(slots: &mut [u64])
     ensures { slots.new ≡ replicate (length slots.old) 0 }
 {
-    areas::clear_from(slots, 0);
+    slots.fill(0);
 }
 
 // The slots filled anew with the constants in use, in order. Once every slot is taken no constant takes one.
@@ -207,14 +200,7 @@ pub fn fill(constants: &[u64], count: usize, slots: &mut [u64])
     ensures { slots.new ≡ table.slots_of (length slots.old) (pool_of count constants.now) }
 {
     clear(slots);
-    let mut i: usize = 0;
-    while i < count {
-        if slots.len() <= i {
-            return;
-        }
-        let kind = areas::entry_word(constants, areas::CONSTANT_WORDS, i, plain::KIND);
-        let value = areas::entry_word(constants, areas::CONSTANT_WORDS, i, plain::VALUE);
-        put(slots, i as u64, kind, value);
-        i += 1;
+    for i in 0..count.min(slots.len()) {
+        put(slots, i as u64, plain::constant_at(constants, i));
     }
 }

@@ -7,39 +7,32 @@ use mathlib.Core.List.{List, [], ◌∷◌, ◌++◌, append_assoc, append-nil}
 use lib.ListN.{length, take, drop, replicate, length-drop, length-take, take-append-drop}
 use lib.Seq.{take_at, length-take-le}
 use lib.Dec.{eqb, leb, ltb}
-use borrow.Author.Tests.{eq-eqb, ne_eqb, le-leb, lt-leb, lt-ltb, le-ltb, not-true, not-false}
+use borrow.Author.Tests.{ltb-false, le-leb, lt-leb, lt-ltb, le-ltb}
 use borrow.Rule.Slice.PartMut.{mid_of, put_mid, Post-is, mid_len}
+use Rattle.std.specs.Prelude.{Result, Ok, Err}
+use Rattle.words.specs.Row.{row_number}
+use Rattle.words.specs.declared.row.Row.TheVariants.{BadLine, BadLength, BadShape, AreaFull, NotATable}
+use Rattle.words.specs.declared.row.Refused.{Refused}
 use Rattle.words.specs.Areas.{Written, cleared_from}
-use Rattle.words.specs.Record.{kind_at, span_at, position_at, value_at, most_records}
-use Rattle.tree.specs.Check.{shape_of, records_of}
-use Rattle.tree.specs.declared.Shape.{Shape}
-use Rattle.tree.specs.declared.Shape.TheVariants.{Fine, Refused}
+use Rattle.words.specs.Record.{kind_at, span_at, value_at, most_records}
+use Rattle.tree.specs.Check.{shape_of, records_of, refused}
 use Rattle.column_lines.proofs.Lines.{Begun, begun_more}
-use Rattle.column_files.specs.declared.Converted.{Converted}
-use Rattle.column_files.specs.Convert.{Converts, refusal, success, answer_by}
-use Rattle.column_files.proofs.Converting.{short_fine, answer_short, answer_done, cleared_all, cleared_rest}
+use Rattle.column_files.specs.Convert.{Stands}
+use Rattle.column_files.proofs.Converting.{stands_short, stands_off, stands_whole, cleared_all, cleared_rest}
 use Rattle.constant_tables.specs.Form.{table_line_length, local_definition_kind, integer_kind, float_kind, name_kind, document_kind}
-use Rattle.constant_tables.specs.Entry.{Entry, entry, is_text, read_entry, entry_line, table_bytes, record_kind, table_kind, definition_of, definitions_of}
+use Rattle.constant_tables.specs.Entry.{Entry, entry, is_text, entry_line, table_bytes, record_kind, table_kind, definition_of, definitions_of}
 use Rattle.constant_tables.specs.Entry.{table_records}
-use Rattle.constant_tables.specs.Table.{first_where, list_from, count_in, line_count, table_line, is_bad, bad_at, first_off, entry_in, line_entry, entries_of}
+use Rattle.constant_tables.specs.Table.{first_where, list_from, count_in, line_count, table_line, is_bad, bad_at, first_off, row_one, entry_in, line_entry, entries_of}
 use Rattle.constant_tables.specs.Table.{head_is, in_definition, agrees_at, not_table, entry_at, definition_count, entries_in}
 use Rattle.constant_tables.specs.Table.{DefinitionPut, DefinitionsPut, ConstantPut}
-use Rattle.constant_tables.specs.Convert.{table_rows, table_to_records, row_ten, document_rows, no_table, tabled, table_by}
+use Rattle.constant_tables.specs.Convert.{TableConversion, table_rows, table_to_records, row_ten, document_rows, no_table, tabled, table_by, TableStands}
 use Rattle.constant_tables.specs.Convert.{records_to_table, Tables}
-use Rattle.constant_tables.specs.declared.Tabled.{Tabled}
-use Rattle.constant_tables.specs.declared.line.TableLine.{TableLine}
-use Rattle.constant_tables.specs.declared.line.TableLine.TheVariants.{Constant, Bad}
+use Rattle.std.specs.Prelude.{Option, Some, None}
 use Rattle.constant_tables.proofs.TableLines.{line_length_lem, entry_length}
 use Rattle.constant_tables.proofs.Search.{first_start, first_end, first_here, first_next, list_length, list_more}
 use Rattle.constant_tables.proofs.Lists.{bytes_length, bytes_more, definitions_more, head_of, table_length}
 
 -- lines
-
-pub count_whole : (bytes : ℕ) → bytes % 34 ≡ 0 → bytes / 34 ≡ count_in bytes
-count_whole bytes e = simp (eq-eqb (bytes % 34) 0 e) (let x : bytes / 34 ≡ bytes / 34 + 0 = omega arith in x)
-
-pub count_rest : (bytes : ℕ) → (bytes % 34 ≡ 0 → ⊥) → bytes / 34 + 1 ≡ count_in bytes
-count_rest bytes n = simp (ne_eqb (bytes % 34) 0 n)
 
 pub count_most : (bytes : ℕ) → count_in bytes ≤ bytes / 34 + 1
 count_most bytes = by (eqb (bytes % 34) 0)
@@ -48,14 +41,11 @@ count_most bytes = by (eqb (bytes % 34) 0)
     by true = omega arith
     by false = omega arith
 
-pub line_none : (table : List ℕ) (i : ℕ) → length table / 34 ≤ i → Bad ≡ table_line table i
+pub line_none : (table : List ℕ) (i : ℕ) → length table / 34 ≤ i → None ≡ table_line table i
 line_none table i h =
     let l = take table_line_length (drop (i * 34) table) in
     let x : length l ≤ length (drop (i * 34) table) = simp length-take (omega arith) in
     line_length_lem l (λ e. omega (arith, x, length-drop (i * 34) table, e))
-
-pub line_part : (table : List ℕ) (i : ℕ) → read_entry (take (i * 34 + 34 - i * 34) (drop (i * 34) table)) ≡ table_line table i
-line_part table i = let e : i * 34 + 34 - i * 34 ≡ 34 = omega arith in ap (λ (n : ℕ). read_entry (take n (drop (i * 34) table))) e
 
 -- a definition is written
 
@@ -66,16 +56,13 @@ put_at b after words at x w e h =
     let a : after ≡ take (at * 4) b ++ (words ++ drop (at * 4 + 4) b) = simp t at w.words in
     a ∙ ap (λ (n : ℕ). take n b ++ (words ++ drop (n + 4) b)) e
 
-pub definition_none : (out : List ℕ) (i text kind value : ℕ) → length out / 12 ≤ i → DefinitionPut i text kind value out out
-definition_none out i text kind value h = record { words = λ l. absurd (omega (arith, h, l)) }
-
-pub definition_put : (b0 b1 b2 b3 : List ℕ) (i text kind value : ℕ) {of : ℕ} {r1 r2 r3 : Bool} → of ≡ record_kind kind
+pub definition_put : (b0 b1 b2 b3 : List ℕ) (i : ℕ) (e : Entry) {of : ℕ} {r1 r2 r3 : Bool} → of ≡ record_kind e.kind
     → length b1 ≡ length b0 → length b2 ≡ length b1
-    → Written 4 (i * 3 + 1) (local_definition_kind ∷ 3 ∷ 0 ∷ 0 ∷ []) b0 b1 r1 → Written 4 (i * 3 + 1 + 1) (name_kind ∷ 1 ∷ 0 ∷ text ∷ []) b1 b2 r2
-    → Written 4 (i * 3 + 1 + 2) (of ∷ 1 ∷ 0 ∷ value ∷ []) b2 b3 r3 → DefinitionPut i text kind value b0 b3
-definition_put b0 b1 b2 b3 i text kind value {of} K k1 k2 w1 w2 w3 = record { words = put }
+    → Written 4 (i * 3 + 1) (local_definition_kind ∷ 3 ∷ 0 ∷ 0 ∷ []) b0 b1 r1 → Written 4 (i * 3 + 1 + 1) (name_kind ∷ 1 ∷ 0 ∷ e.text ∷ []) b1 b2 r2
+    → Written 4 (i * 3 + 1 + 2) (of ∷ 1 ∷ 0 ∷ e.value ∷ []) b2 b3 r3 → DefinitionPut i e b0 b3
+definition_put b0 b1 b2 b3 i e {of} K k1 k2 w1 w2 w3 = record { words = put }
   where
-    put : i * 12 + 4 + 12 ≤ length b0 → b3 ≡ take (i * 12 + 4) b0 ++ (definition_of (entry text kind value) ++ drop (i * 12 + 4 + 12) b0)
+    put : i * 12 + 4 + 12 ≤ length b0 → b3 ≡ take (i * 12 + 4) b0 ++ (definition_of e ++ drop (i * 12 + 4 + 12) b0)
     put h =
         let x = i * 12 + 4 in
         let e1 = put_at b0 b1 _ (i * 3 + 1) x w1 (omega arith) (omega (arith, h)) in
@@ -83,10 +70,10 @@ definition_put b0 b1 b2 b3 i text kind value {of} K k1 k2 w1 w2 w3 = record { wo
         let e3 = put_at b2 b3 _ (i * 3 + 1 + 2) (x + 8) w3 (omega arith) (omega (arith, h, k1, k2)) in
         let s0 : Begun (take x b0) b0 b0 x = record { long = length-take-le x b0 (omega (arith, h)); rest = sym (take-append-drop x b0) } in
         let s1 = begun_more (take x b0) b0 b0 (local_definition_kind ∷ 3 ∷ 0 ∷ 0 ∷ []) b1 x (x + 4) s0 (omega arith) (omega arith) e1 in
-        let s2 = begun_more _ b0 b1 (name_kind ∷ 1 ∷ 0 ∷ text ∷ []) b2 (x + 4) (x + 8) s1 (omega arith) (omega arith)
-        (e2 ∙ ap (λ (n : ℕ). take (x + 4) b1 ++ ((name_kind ∷ 1 ∷ 0 ∷ text ∷ []) ++ drop n b1)) (let y : x + 4 + 4 ≡ x + 8 = omega arith in y)) in
-        let s3 = begun_more _ b0 b2 (of ∷ 1 ∷ 0 ∷ value ∷ []) b3 (x + 8) (x + 12) s2 (omega arith) (omega arith)
-        (e3 ∙ ap (λ (n : ℕ). take (x + 8) b2 ++ ((of ∷ 1 ∷ 0 ∷ value ∷ []) ++ drop n b2)) (let y : x + 8 + 4 ≡ x + 12 = omega arith in y)) in
+        let s2 = begun_more _ b0 b1 (name_kind ∷ 1 ∷ 0 ∷ e.text ∷ []) b2 (x + 4) (x + 8) s1 (omega arith) (omega arith)
+        (e2 ∙ ap (λ (n : ℕ). take (x + 4) b1 ++ ((name_kind ∷ 1 ∷ 0 ∷ e.text ∷ []) ++ drop n b1)) (let y : x + 4 + 4 ≡ x + 8 = omega arith in y)) in
+        let s3 = begun_more _ b0 b2 (of ∷ 1 ∷ 0 ∷ e.value ∷ []) b3 (x + 8) (x + 12) s2 (omega arith) (omega arith)
+        (e3 ∙ ap (λ (n : ℕ). take (x + 8) b2 ++ ((of ∷ 1 ∷ 0 ∷ e.value ∷ []) ++ drop n b2)) (let y : x + 8 + 4 ≡ x + 12 = omega arith in y)) in
         s3.rest ∙ rw K (simp append_assoc)
 
 -- the definitions of a table, one after the other
@@ -105,159 +92,140 @@ begins table out = record {
   };
 }
 
-pub begins_next : (table before out after : List ℕ) (i : ℕ) {text kind value : ℕ} {l : TableLine} → i < line_count table
-    → Begins table before out i → length out ≡ length before → l ≡ table_line table i → l ≡ Constant text kind value
-    → DefinitionPut i text kind value out after → Begins table before after (i + 1)
-begins_next table before out after i {text} {kind} {value} h b n L e d = record { room = more }
+pub begins_next : (table before out after : List ℕ) (i : ℕ) {x : Entry} {l : Option Entry} → i < line_count table
+    → Begins table before out i → length out ≡ length before → l ≡ table_line table i → l ≡ Some x
+    → DefinitionPut i x out after → Begins table before after (i + 1)
+begins_next table before out after i {x} h b n L e d = record { room = more }
   where
     more : line_count table * 12 + 4 ≤ length before
         → Begun (take 4 before ++ definitions_of (list_from (line_entry table) 0 (i + 1))) before after ((i + 1) * 12 + 4)
     more r =
         let z : 0 + i ≡ i = omega arith in
-        let f : line_entry table i ≡ entry text kind value = ap entry_in (sym L ∙ e) in
+        let f : line_entry table i ≡ x = ap entry_in (sym L ∙ e) in
         let p = d.words (omega (arith, h, r, n)) in
-        let s = begun_more (take 4 before ++ definitions_of (list_from (line_entry table) 0 i)) before out (definition_of (entry text kind value)) after
+        let s = begun_more (take 4 before ++ definitions_of (list_from (line_entry table) 0 i)) before out (definition_of x) after
         (i * 12 + 4) (i * 12 + 4 + 12) (b.room r) (omega arith) (omega arith) p in
         let q : definitions_of (list_from (line_entry table) 0 (i + 1)) ≡ definitions_of (list_from (line_entry table) 0 i) ++ definition_of
-        (entry text kind value)
+        x
         = ap definitions_of (list_more (line_entry table) 0 i ∙ ap (λ (m : ℕ). list_from (line_entry table) 0 i ++ (line_entry table m ∷ [])) z
-        ∙ ap (λ (x : Entry). list_from (line_entry table) 0 i ++ (x ∷ [])) f)
-        ∙ definitions_more (list_from (line_entry table) 0 i) (entry text kind value) in
+        ∙ ap (λ (y : Entry). list_from (line_entry table) 0 i ++ (y ∷ [])) f)
+        ∙ definitions_more (list_from (line_entry table) 0 i) x in
         let m : i * 12 + 4 + 12 ≡ (i + 1) * 12 + 4 = omega arith in
-        let a : (take 4 before ++ definitions_of (list_from (line_entry table) 0 i)) ++ definition_of (entry text kind value)
+        let a : (take 4 before ++ definitions_of (list_from (line_entry table) 0 i)) ++ definition_of x
         ≡ take 4 before ++ definitions_of (list_from (line_entry table) 0 (i + 1))
-        = append_assoc (take 4 before) (definitions_of (list_from (line_entry table) 0 i)) (definition_of (entry text kind value))
-        ∙ ap (λ (x : List ℕ). take 4 before ++ x) (sym q) in
-        subst (λ (x : List ℕ). Begun x before after ((i + 1) * 12 + 4)) a
-        (subst (λ (k : ℕ). Begun ((take 4 before ++ definitions_of (list_from (line_entry table) 0 i)) ++ definition_of (entry text kind value)) before after k)
+        = append_assoc (take 4 before) (definitions_of (list_from (line_entry table) 0 i)) (definition_of x)
+        ∙ ap (λ (y : List ℕ). take 4 before ++ y) (sym q) in
+        subst (λ (y : List ℕ). Begun y before after ((i + 1) * 12 + 4)) a
+        (subst (λ (k : ℕ). Begun ((take 4 before ++ definitions_of (list_from (line_entry table) 0 i)) ++ definition_of x) before after k)
         m s)
 
-bad_is : (table : List ℕ) (i : ℕ) {l : TableLine} → l ≡ table_line table i → l ≡ Bad → bad_at table i ≡ true
+bad_is : (table : List ℕ) (i : ℕ) {l : Option Entry} → l ≡ table_line table i → l ≡ None → bad_at table i ≡ true
 bad_is table i L e = ap is_bad (sym L ∙ e)
 
-pub good_is : (table : List ℕ) (i : ℕ) {l : TableLine} {t k v : ℕ} → l ≡ table_line table i → l ≡ Constant t k v → bad_at table i ≡ false
+pub good_is : (table : List ℕ) (i : ℕ) {l : Option Entry} {x : Entry} → l ≡ table_line table i → l ≡ Some x → bad_at table i ≡ false
 good_is table i L e = ap is_bad (sym L ∙ e)
 
-pub lines_bad : (table before out : List ℕ) (i : ℕ) {l : TableLine} → first_off table ≡ first_where (bad_at table) i (line_count table - i)
-    → i < line_count table → l ≡ table_line table i → l ≡ Bad → DefinitionsPut table before out i
+-- row 1 as a result
+
+row_one_off : (table : List ℕ) (i : ℕ) → first_off table ≡ i → i < line_count table → refused BadLine (i + 1) ≡ row_one table
+row_one_off table i e h =
+    let t : ltb (first_off table) (line_count table) ≡ true = lt-ltb (first_off table) (line_count table) (omega (arith, e, h)) in
+    rw (t, e)
+
+row_one_good : (table : List ℕ) → line_count table ≤ first_off table → Ok tt ≡ row_one table
+row_one_good table h = rw (le-ltb (first_off table) (line_count table) h)
+
+good_lines : (table : List ℕ) → row_one table ≡ Ok tt → line_count table ≤ first_off table
+good_lines table e = go (ltb (first_off table) (line_count table)) refl e
+  where
+    go : (t : Bool) → ltb (first_off table) (line_count table) ≡ t → cond t (refused BadLine (first_off table + 1)) (Ok (tt {0})) ≡ Ok (tt {0})
+        → line_count table ≤ first_off table
+    go true x y = cc
+    go false x y = ltb-false (first_off table) (line_count table) x
+
+pub lines_bad : (table before out : List ℕ) (i : ℕ) {l : Option Entry} → first_off table ≡ first_where (bad_at table) i (line_count table - i)
+    → i < line_count table → l ≡ table_line table i → l ≡ None → DefinitionsPut table before out (refused BadLine (i + 1))
 lines_bad table before out i B h L e =
-    record { first = sym (B ∙ first_here (bad_at table) (line_count table) i h (bad_is table i L e)); words = λ z. absurd (omega (arith, z, h)) }
+    record { first = row_one_off table i (B ∙ first_here (bad_at table) (line_count table) i h (bad_is table i L e)) h; words = λ z. cc }
 
 pub lines_good : (table before out : List ℕ) (i : ℕ) → first_off table ≡ first_where (bad_at table) i (line_count table - i)
-    → line_count table ≤ i → i ≤ line_count table → Begins table before out i → DefinitionsPut table before out i
+    → line_count table ≤ i → i ≤ line_count table → Begins table before out i → DefinitionsPut table before out (Ok tt)
 lines_good table before out i B h l b =
     let e : i ≡ line_count table = omega (arith, h, l) in
+    let f : first_off table ≡ i = B ∙ first_end (bad_at table) (line_count table) i h in
     record {
-      first = sym (B ∙ first_end (bad_at table) (line_count table) i h);
-      words = λ z r. (b.room r).rest ∙ ap (λ (k : ℕ). (take 4 before ++ definitions_of (list_from (line_entry table) 0 k)) ++ drop (k * 12 + 4) before) e
+      first = row_one_good table (omega (arith, f, h));
+      words = λ _ r. (b.room r).rest ∙ ap (λ (k : ℕ). (take 4 before ++ definitions_of (list_from (line_entry table) 0 k)) ++ drop (k * 12 + 4) before) e
           ∙ append_assoc (take 4 before) (definitions_of (entries_of table)) (drop (line_count table * 12 + 4) before);
     }
 
 -- a table to records
 
-refused_is : (s : Shape) (c : List ℕ) (n room : ℕ) {after : List ℕ} {r : Converted} {row place : ℕ} → s ≡ Refused row place → after ≡ replicate room 0
-    → r ≡ refusal row place → Converts (answer_by s c n room) after r
-unfolding answer_by
-refused_is s c n room e a q = rw e (record { reply = q; output = a })
+module _ (table : List ℕ) (file : ℕ) where
+  pub rows_bad : {found : Refused} → row_one table ≡ Err found → table_rows table file ≡ Err found
+  unfolding table_rows
+  rows_bad {found} e = go (ltb (first_off table) (line_count table)) _ e
+    where
+      go : (t : Bool) (x : Result (Unit {0}) Refused) → cond t (refused BadLine (first_off table + 1)) (Ok (tt {0})) ≡ Err found
+          → cond t (refused BadLine (first_off table + 1)) x ≡ Err found
+      go true x y = y
+      go false x y = cc
 
-module _ (table out mid : List ℕ) (file : ℕ) (n : length mid ≡ length out) {off : ℕ} (O : off ≡ first_off table) where
-  zeros : {after : List ℕ} → after ≡ cleared_from 0 mid → after ≡ replicate (length out) 0
-  zeros a = a ∙ cleared_all mid (length out) n
-
-  pub table_bad : {after : List ℕ} {r : Converted} → off < line_count table → after ≡ cleared_from 0 mid → r ≡ refusal 1 (off + 1)
-      → Converts (table_to_records table file (length out)) after r
-  unfolding table_to_records table_rows
-  table_bad h a q =
-      let t : ltb (first_off table) (line_count table) ≡ true = lt-ltb (first_off table) (line_count table) (omega (arith, O, h)) in
-      refused_is _ _ _ (length out) (rw t) (zeros a) (q ∙ ap (λ (k : ℕ). refusal 1 (k + 1)) O)
-
-  module _ (whole : line_count table ≤ off) where
+  module _ (good : row_one table ≡ Ok tt) where
     t : ltb (first_off table) (line_count table) ≡ false
-    t = le-ltb (first_off table) (line_count table) (omega (arith, O, whole))
+    t = le-ltb (first_off table) (line_count table) (good_lines table good)
 
-    pub table_long : {after : List ℕ} {r : Converted} → 349525 < line_count table → after ≡ cleared_from 0 mid → r ≡ refusal 2 0
-        → Converts (table_to_records table file (length out)) after r
-    unfolding table_to_records table_rows
-    table_long h a q =
-        let u : ltb most_records (line_count table * 3 + 1) ≡ true = lt-ltb most_records (line_count table * 3 + 1) (omega (arith, h)) in
-        refused_is _ _ _ (length out) (rw (t, u)) (zeros a) q
+    pub rows_long : 349525 < line_count table → table_rows table file ≡ refused BadLength 0
+    unfolding table_rows
+    rows_long h = let u : ltb most_records (line_count table * 3 + 1) ≡ true = lt-ltb most_records (line_count table * 3 + 1) (omega (arith, h)) in rw (t, u)
 
-    module _ (few : line_count table ≤ 349525) {b : Bool} (T : b ≡ is_text file) where
+    module _ (few : line_count table ≤ 349525) where
       u : ltb most_records (line_count table * 3 + 1) ≡ false
       u = le-ltb most_records (line_count table * 3 + 1) (omega (arith, few))
 
-      pub table_file : {after : List ℕ} {r : Converted} → not b ≡ true → after ≡ cleared_from 0 mid → r ≡ refusal 3 0
-          → Converts (table_to_records table file (length out)) after r
-      unfolding table_to_records table_rows
-      table_file x a q =
-          let v : is_text file ≡ false = sym T ∙ not-true b x in
-          refused_is _ _ _ (length out) (rw (t, u, v)) (zeros a) q
+      pub rows_file : is_text file ≡ false → table_rows table file ≡ refused BadShape 0
+      unfolding table_rows
+      rows_file v = rw (t, u, v)
 
-      module _ (x : not b ≡ false) where
-        fine : table_rows table file ≡ Fine
-        unfolding table_rows
-        fine = let v : is_text file ≡ true = sym T ∙ not-false b x in rw (t, u, v)
+      pub rows_good : is_text file ≡ true → table_rows table file ≡ Ok tt
+      unfolding table_rows
+      rows_good v = rw (t, u, v)
 
-        count : length (entries_of table) ≡ line_count table
-        count = list_length (line_entry table) 0 (line_count table)
+module _ (table mid : List ℕ) (file room : ℕ) (n : length mid ≡ room) where
+  pub table_refused : {found : Refused} → table_rows table file ≡ Err found → Stands 4 (table_to_records table file room) mid (Err found)
+  unfolding table_to_records
+  table_refused e = rw n (stands_off (table_rows table file) (table_records file (entries_of table)) (line_count table * 3 + 1) room e)
 
-        size : length (table_records file (entries_of table)) ≡ (line_count table * 3 + 1) * 4
-        size = table_length file (entries_of table) ∙ ap (λ (k : ℕ). (k * 3 + 1) * 4) count
+  count : length (entries_of table) ≡ line_count table
+  count = list_length (line_entry table) 0 (line_count table)
 
-        pub table_short : {after : List ℕ} {r : Converted} → length out / 4 < line_count table * 3 + 1 → after ≡ cleared_from 0 mid → r ≡ refusal 9 0
-            → Converts (table_to_records table file (length out)) after r
-        unfolding table_to_records
-        table_short h a q =
-            answer_short (table_rows table file) (table_records file (entries_of table)) (line_count table * 3 + 1) (length out)
-            (omega (arith, size, h)) (zeros a) (q ∙ short_fine (table_rows table file) fine)
+  size : length (table_records file (entries_of table)) ≡ (line_count table * 3 + 1) * 4
+  size = table_length file (entries_of table) ∙ ap (λ (k : ℕ). (k * 3 + 1) * 4) count
 
-        pub table_done : (first : List ℕ) {after : List ℕ} {w : Bool} → line_count table * 3 + 1 ≤ length out / 4 → length first ≡ length out
-            → Written 4 0 (document_kind ∷ (line_count table * 3 + 1) ∷ 0 ∷ file ∷ []) out first w
-            → DefinitionsPut table first mid off → after ≡ cleared_from ((line_count table * 3 + 1) * 4) mid
-            → Converts (table_to_records table file (length out)) after (success (line_count table * 3 + 1))
-        unfolding table_to_records
-        table_done first {after} h k W D a =
-            let f : first ≡ take 0 out ++ (head_of (line_count table * 3 + 1) file ++ drop (0 + 4) out)
-            = put_at out first _ 0 0 W refl (omega (arith, h)) in
-            let t4 : take 4 first ≡ head_of (line_count table * 3 + 1) file
-            = rw f (take_at (head_of (line_count table * 3 + 1) file) (drop (0 + 4) out) 4 refl) in
-            let m : mid ≡ table_records file (entries_of table) ++ drop (line_count table * 12 + 4) first
-            = D.words whole (omega (arith, h, k))
-            ∙ ap (λ (l : List ℕ). l ++ (definitions_of (entries_of table) ++ drop (line_count table * 12 + 4) first)) t4
-            ∙ ap (λ (c : ℕ). head_of (c * 3 + 1) file ++ (definitions_of (entries_of table) ++ drop (line_count table * 12 + 4) first)) (sym count) in
-            answer_done (table_rows table file) (table_records file (entries_of table)) (line_count table * 3 + 1) (length out) fine (omega (arith, size, h))
-            (a ∙ cleared_rest (table_records file (entries_of table)) _ mid ((line_count table * 3 + 1) * 4) (length out) m size n)
+  module _ (fine : table_rows table file ≡ Ok tt) where
+    pub table_short : {found : Refused} → room / 4 < line_count table * 3 + 1 → found ≡ record { row = AreaFull; place = 0 }
+        → Stands 4 (table_to_records table file room) mid (Err found)
+    unfolding table_to_records
+    table_short h f =
+        rw (f, n) (stands_short (table_rows table file) (table_records file (entries_of table)) (line_count table * 3 + 1) room fine (omega (arith, size, h)))
 
-        -- the same, with the lines as the code counts them
-        pub table_end : (first : List ℕ) {after : List ℕ} {w : Bool} {lines : ℕ} → lines ≡ line_count table → lines * 3 + 1 ≤ length out / 4
-            → length first ≡ length out → Written 4 0 (document_kind ∷ (lines * 3 + 1) ∷ 0 ∷ file ∷ []) out first w
-            → DefinitionsPut table first mid off → after ≡ cleared_from ((lines * 3 + 1) * 4) mid
-            → Converts (table_to_records table file (length out)) after (success (lines * 3 + 1))
-        table_end first {after} {w} {lines} L h k W D a =
-            rw L (table_done first (omega (arith, L, h)) k
-            (subst (λ (c : ℕ). Written 4 0 (document_kind ∷ (c * 3 + 1) ∷ 0 ∷ file ∷ []) out first w) L W) D
-            (a ∙ ap (λ (c : ℕ). cleared_from ((c * 3 + 1) * 4) mid) L))
+    -- with the lines as the code counts them
+    pub table_done : (out first : List ℕ) {w : Bool} {lines : ℕ} {r : Result (Unit {0}) Refused} → lines ≡ line_count table → lines * 3 + 1 ≤ room / 4
+        → length first ≡ length out → length out ≡ room → Written 4 0 (document_kind ∷ (lines * 3 + 1) ∷ 0 ∷ file ∷ []) out first w
+        → DefinitionsPut table first mid r → r ≡ Ok tt → Stands 4 (table_to_records table file room) mid (Ok (lines * 3 + 1))
+    unfolding table_to_records
+    table_done out first {w} {lines} L h k o W D g =
+        let f : first ≡ take 0 out ++ (head_of (lines * 3 + 1) file ++ drop (0 + 4) out) = put_at out first _ 0 0 W refl (omega (arith, h, o)) in
+        let t4 : take 4 first ≡ head_of (lines * 3 + 1) file = rw f (take_at (head_of (lines * 3 + 1) file) (drop (0 + 4) out) 4 refl) in
+        let m : mid ≡ table_records file (entries_of table) ++ drop (line_count table * 12 + 4) first
+        = D.words g (omega (arith, h, k, o, L))
+        ∙ ap (λ (l : List ℕ). l ++ (definitions_of (entries_of table) ++ drop (line_count table * 12 + 4) first)) t4
+        ∙ ap (λ (c : ℕ). head_of (c * 3 + 1) file ++ (definitions_of (entries_of table) ++ drop (line_count table * 12 + 4) first)) (L ∙ sym count) in
+        let s = stands_whole (table_rows table file) (table_records file (entries_of table)) _ mid (line_count table * 3 + 1) 4 fine size
+        (omega (arith, size, h, n, L)) m in
+        rw (L, ← n) s
 
 -- records that agree with a table's
-
-pub head_kind : (w : List ℕ) (i kind span : ℕ) {k : ℕ} → k ≡ kind_at w i → (k ≡ kind → ⊥) → false ≡ head_is w i kind span
-unfolding head_is
-head_kind w i kind span K n = simp (ne_eqb (kind_at w i) kind (λ e. n (K ∙ e)))
-
-module _ (w : List ℕ) (i kind span : ℕ) {k s : ℕ} (K : k ≡ kind_at w i) (same : k ≡ kind) (S : s ≡ span_at w i) where
-  pub head_span : (s ≡ span → ⊥) → false ≡ head_is w i kind span
-  unfolding head_is
-  head_span n =
-      let t : eqb (kind_at w i) kind ≡ true = eq-eqb (kind_at w i) kind (sym K ∙ same) in
-      simp (t, ne_eqb (span_at w i) span (λ e. n (S ∙ e)))
-
-  pub head_all : {p : ℕ} → s ≡ span → p ≡ position_at w i → eqb p 0 ≡ head_is w i kind span
-  unfolding head_is
-  head_all {p} e P =
-      let t : eqb (kind_at w i) kind ≡ true = eq-eqb (kind_at w i) kind (sym K ∙ same) in
-      let u : eqb (span_at w i) span ≡ true = eq-eqb (span_at w i) span (sym S ∙ e) in
-      ap (λ (x : ℕ). eqb x 0) P ∙ sym (ap (λ (x : Bool). x && (eqb (span_at w i) span && eqb (position_at w i) 0)) t
-      ∙ ap (λ (x : Bool). x && eqb (position_at w i) 0) u)
 
 suc_of : (i : ℕ) → (i ≡ 0 → ⊥) → i ≡ suc (i - 1)
 suc_of i n = omega arith
@@ -287,30 +255,28 @@ module _ (w : List ℕ) (i : ℕ) {s : ℕ} (S : s ≡ span_at w 0) where
           ∙ ap (λ (j : ℕ). in_definition part w j) (sym (suc_of i n))
 
       module _ (first : i' % 3 ≡ 0) {b : Bool} (H : b ≡ head_is w i local_definition_kind 3) where
-        pub agrees_no_head : not b ≡ true → false ≡ agrees_at w i
+        pub agrees_no_head : b ≡ false → b ≡ agrees_at w i
         unfolding in_definition
-        agrees_no_head x = let e : head_is w i local_definition_kind 3 ≡ false = sym H ∙ not-true b x in sym (inside 0 first ∙ simp e)
+        agrees_no_head x = let e : head_is w i local_definition_kind 3 ≡ false = sym H ∙ x in x ∙ sym (inside 0 first ∙ simp e)
 
-        pub agrees_head : {v : ℕ} → not b ≡ false → v ≡ value_at w i → eqb v 0 ≡ agrees_at w i
+        pub agrees_head : {v : ℕ} → b ≡ true → v ≡ value_at w i → eqb v 0 ≡ agrees_at w i
         unfolding in_definition
-        agrees_head x Va = let e : head_is w i local_definition_kind 3 ≡ true = sym H ∙ not-false b x in sym (inside 0 first ∙ rw Va (simp e))
+        agrees_head x Va = let e : head_is w i local_definition_kind 3 ≡ true = sym H ∙ x in sym (inside 0 first ∙ rw Va (simp e))
 
       pub agrees_name : {b : Bool} → i' % 3 ≡ 1 → b ≡ head_is w i name_kind 1 → b ≡ agrees_at w i
       unfolding in_definition
       agrees_name e H = H ∙ sym (inside 1 e)
 
-      module _ (f : i' % 3 ≡ 0 → ⊥) (g : i' % 3 ≡ 1 → ⊥) {a : Bool} (A : a ≡ head_is w i integer_kind 1) where
-        pub agrees_integer : a ≡ true → true ≡ agrees_at w i
+      module _ (last : i' % 3 ≡ 2) {a : Bool} (A : a ≡ head_is w i integer_kind 1) where
+        pub agrees_integer : a ≡ true → a ≡ agrees_at w i
         unfolding in_definition
         agrees_integer x =
-            let last : i' % 3 ≡ 2 = omega (arith, f, g) in
             let e : head_is w i integer_kind 1 ≡ true = sym A ∙ x in
-            sym (inside 2 last ∙ simp e)
+            x ∙ sym (inside 2 last ∙ simp e)
 
         pub agrees_float : {b : Bool} → a ≡ false → b ≡ head_is w i float_kind 1 → b ≡ agrees_at w i
         unfolding in_definition
         agrees_float x B =
-            let last : i' % 3 ≡ 2 = omega (arith, f, g) in
             let e : head_is w i integer_kind 1 ≡ false = sym A ∙ x in
             B ∙ sym (inside 2 last ∙ simp e)
 
@@ -332,19 +298,19 @@ module _ (w : List ℕ) (i : ℕ) (I : not_table w ≡ first_where (differs w) i
 pub other_start : (w : List ℕ) → not_table w ≡ first_where (differs w) 0 (records_of w - 0)
 other_start w = first_start (differs w) (records_of w) 0
 
-module _ (w : List ℕ) {s : Shape} (S : s ≡ shape_of w) where
-  pub rows_refused : {row place : ℕ} → s ≡ Refused row place → Refused row place ≡ document_rows w
+module _ (w : List ℕ) {s : Result (Unit {0}) Refused} (S : s ≡ shape_of w) where
+  pub rows_refused : {found : Refused} → s ≡ Err found → Err found ≡ document_rows w
   unfolding row_ten
   rows_refused e = sym (rw (← S, e))
 
-  module _ (e : s ≡ Fine) {at : ℕ} (N : at ≡ not_table w) where
-    pub rows_other : at < length w / 4 → Refused 10 at ≡ document_rows w
+  module _ (e : s ≡ Ok tt) {at : ℕ} (N : at ≡ not_table w) where
+    pub rows_other : at < length w / 4 → refused NotATable at ≡ document_rows w
     unfolding row_ten
     rows_other h =
         let t : ltb (not_table w) (records_of w) ≡ true = lt-ltb (not_table w) (records_of w) (omega (arith, N, h)) in
-        ap (Refused 10) N ∙ sym (rw (← S, e, t))
+        ap (λ (k : ℕ). refused NotATable k) N ∙ sym (rw (← S, e, t))
 
-    pub rows_fine : length w / 4 ≤ at → Fine ≡ document_rows w
+    pub rows_fine : length w / 4 ≤ at → Ok tt ≡ document_rows w
     unfolding row_ten
     rows_fine h =
         let t : ltb (not_table w) (records_of w) ≡ false = le-ltb (not_table w) (records_of w) (omega (arith, N, h)) in
@@ -383,33 +349,36 @@ constants_all w before out i n b e = b.rest ∙ ap (λ (k : ℕ). table_bytes (l
 
 -- records to a table
 
-module _ (w out : List ℕ) {s : Shape} (S : s ≡ document_rows w) where
-  pub document_refused : {after : List ℕ} {r : Tabled} {row place : ℕ} → s ≡ Refused row place → after ≡ cleared_from 0 out → r ≡ no_table row place
-      → Tables (records_to_table w (length out)) after r
+module _ (w mid : List ℕ) (room : ℕ) (n : length mid ≡ room) where
+  pub document_refused : {found : Refused} → document_rows w ≡ Err found → TableStands (value_at w 0) (records_to_table w room) mid (Err found)
   unfolding records_to_table table_by
-  document_refused e a q = rw (← S, e) (record { reply = q; output = a ∙ cleared_all out (length out) refl })
+  document_refused e = rw (e, n)
 
-  module _ (e : s ≡ Fine) where
+  module _ (e : document_rows w ≡ Ok tt) where
     bytes : length (table_bytes (entries_in w)) ≡ definition_count w * 34
     bytes = bytes_length (entries_in w) ∙ ap (λ (k : ℕ). k * 34) (list_length (entry_at w) 0 (definition_count w))
 
-    pub document_short : {after : List ℕ} {r : Tabled} → length out / 34 < definition_count w → after ≡ cleared_from 0 out → r ≡ no_table 9 0
-        → Tables (records_to_table w (length out)) after r
+    pub document_short : {found : Refused} → room / 34 < definition_count w → found ≡ record { row = AreaFull; place = 0 }
+        → TableStands (value_at w 0) (records_to_table w room) mid (Err found)
     unfolding records_to_table table_by
-    document_short h a q =
-        let t : leb (length (table_bytes (entries_in w))) (length out) ≡ false
-        = lt-leb (length (table_bytes (entries_in w))) (length out) (omega (arith, bytes, h)) in
-        rw (← S, e, t) (record { reply = q; output = a ∙ cleared_all out (length out) refl })
+    document_short h f =
+        let t : leb (length (table_bytes (entries_in w))) room ≡ false = lt-leb (length (table_bytes (entries_in w))) room (omega (arith, bytes, h)) in
+        rw (e, t, f, n)
 
-    pub document_done : (mid : List ℕ) {after : List ℕ} {file : ℕ} → definition_count w ≤ length out / 34 → length mid ≡ length out
+    pub document_done : (out : List ℕ) → definition_count w ≤ room / 34
         → mid ≡ table_bytes (list_from (entry_at w) 0 (definition_count w)) ++ drop (definition_count w * 34) out
-        → after ≡ cleared_from (definition_count w * 34) mid → file ≡ value_at w 0
-        → Tables (records_to_table w (length out)) after (tabled (definition_count w) file)
+        → TableStands (value_at w 0) (records_to_table w room) mid (Ok (definition_count w))
     unfolding records_to_table table_by
-    document_done mid {after} {file} h n m a F =
-        let t : leb (length (table_bytes (entries_in w))) (length out) ≡ true
-        = le-leb (length (table_bytes (entries_in w))) (length out) (omega (arith, bytes, h)) in
-        rw (← S, e, t) (record {
-          reply = ap (tabled (definition_count w)) F;
-          output = a ∙ cleared_rest (table_bytes (entries_in w)) _ mid (definition_count w * 34) (length out) m bytes n;
-        })
+    document_done out h m =
+        let t : leb (length (table_bytes (entries_in w))) room ≡ true = le-leb (length (table_bytes (entries_in w))) room (omega (arith, bytes, h)) in
+        let x : table_bytes (entries_in w) ++ replicate (room - length (table_bytes (entries_in w))) 0 ≡ cleared_from (definition_count w * 34) mid
+        = sym (cleared_rest (table_bytes (entries_in w)) _ mid (definition_count w * 34) room m bytes n) in
+        (omega (arith, h, n), rw (e, t) (ap (λ (o : List ℕ). record { reply = tabled (definition_count w) (value_at w 0); output = o }) x))
+
+pub tables_done : (c : TableConversion) (mid : List ℕ) (total file : ℕ) {after : List ℕ} {f : ℕ} → TableStands file c mid (Ok total) → after ≡ cleared_from (total * 34) mid
+    → f ≡ file → Tables c after (tabled total f)
+tables_done c mid total file s a f = rw (s.1, f) (record { reply = refl; output = a })
+
+pub tables_refused : (c : TableConversion) (mid : List ℕ) (file : ℕ) (found : Refused) {after : List ℕ} {number : ℕ} → TableStands file c mid (Err found)
+    → after ≡ cleared_from 0 mid → number ≡ row_number found.row → Tables c after (no_table number found.place)
+tables_refused c mid file found s a e = rw (s, e) (record { reply = refl; output = a ∙ cleared_all mid (length mid) refl })

@@ -9,9 +9,9 @@ use lib.ListN.{length, take, get_or, length-take}
 use lib.Seq.{get_or-take, length-take-le}
 use lib.Dec.{eqb, ltb}
 use borrow.Author.Tests.{ltb-true, lt-ltb, not-true, not-false}
+use Rattle.std.specs.Prelude.{Ok}
 use Rattle.words.specs.Record.{field_of, kind_at, span_at, value_at}
 use Rattle.tree.specs.Check.{shape_of, records_of}
-use Rattle.tree.specs.declared.Shape.TheVariants.{Fine}
 use Rattle.column_lines.specs.Numeral.{word_end}
 use Rattle.constant_tables.specs.Form.{local_definition_kind, integer_kind, float_kind, name_kind}
 use Rattle.constant_tables.specs.Entry.{Entry, entry, is_text, table_bytes, record_kind, table_kind, table_records}
@@ -143,7 +143,7 @@ module _ (w : List ℕ) (d : Document w) (n j : ℕ) (S : span_at w 0 ≡ n * 3 
   entries_mended : (q : ℕ) → q < length es → Good (get_or es q no_entry)
   entries_mended q h = let z = size in subst Good (sym (entry_is q (omega (arith, h, z)))) (mended_good w q)
 
-  mended_rows : table_rows (table_bytes es) (value_at w 0) ≡ Fine
+  mended_rows : table_rows (table_bytes es) (value_at w 0) ≡ Ok tt
   mended_rows =
       let c = table_count es entries_mended in
       let z = size in
@@ -172,14 +172,14 @@ module _ (w : List ℕ) (d : Document w) (n j : ℕ) (S : span_at w 0 ≡ n * 3 
 pub record Agrees (w : List ℕ) (j : ℕ) : Type 0 where
   pub table : List ℕ
   pub file : ℕ
-  pub rows : table_rows table file ≡ Fine
+  pub rows : table_rows table file ≡ Ok tt
   pub words : take ((j + 1) * 4) (table_records file (entries_of table)) ≡ take ((j + 1) * 4) w
 
 pub record FirstDisagreement (w : List ℕ) (i : ℕ) : Type 0 where
   pub none : Agrees w i → ⊥
   pub before : (j : ℕ) → j < i → Agrees w j
 
-pub first_disagreement : (w : List ℕ) → shape_of w ≡ Fine → not_table w < records_of w → FirstDisagreement w (not_table w)
+pub first_disagreement : (w : List ℕ) → shape_of w ≡ Ok tt → not_table w < records_of w → FirstDisagreement w (not_table w)
 first_disagreement w h l = record { none = no; before = one }
   where
     d : Document w
@@ -202,7 +202,7 @@ first_disagreement w h l = record { none = no; before = one }
         let z : not (agrees_at w (not_table w)) ≡ true = first_holds (differs w) 0 (records_of w) (omega (arith, l)) in
         let f : agrees_at w (not_table w) ≡ false = not-true (agrees_at w (not_table w)) z in
         let u : true ≡ false = sym y ∙ f in
-        absurd (let z : ◌≡◌ {A = ℕ} 0 1 = cc in omega arith)
+        cc
 
     one : (j : ℕ) → j < not_table w → Agrees w j
     one j x =

@@ -9,11 +9,11 @@ use mathlib.Core.List.{List}
 use lib.ListN.{length, get_or}
 use lib.Dec.{eqb, leb, ltb}
 use borrow.Author.Tests.{eq-eqb, ne_eqb, eqb-true, le-leb, leb-true, lt-ltb, ltb-true, not-false}
+use Rattle.std.specs.Prelude.{Ok}
+use Rattle.words.specs.declared.row.Row.TheVariants.{BadShape}
 use Rattle.words.specs.Record.{field_of, kind_at, span_at, position_at, value_at, most_records, most_levels, most_text, in_place}
 use Rattle.tree.specs.Rules.{anywhere, may_stand, slot_after, is_due, first_slot, may_be_at, in_range, goes_on}
-use Rattle.tree.specs.Check.{within_of, lacks_of, same_this, this_after, sound_at, head_at, walk_of, shape_of, records_of}
-use Rattle.tree.specs.declared.Shape.TheVariants.{Fine, Refused}
-use Rattle.tree.specs.declared.Outcome.TheVariants.{Went}
+use Rattle.tree.specs.Check.{within_of, lacks_of, same_this, this_after, sound_at, head_at, walk_of, shape_of, records_of, refused}
 use Rattle.tree.proofs.Spans.{and_left, and_right, within_true}
 use Rattle.tree.proofs.Walks.{lacks_done, lacks_stop, lacks_on, head_went, walk_done, walk_on, walk_next}
 use Rattle.tree.proofs.Ways.{shape_walked, shape_none}
@@ -177,7 +177,7 @@ never_lacks w (suc n) j e b = go (dec_lt j e) (within_of j (span_at w j) e) refl
 -- the walk over a record that is not at fault
 module _ (w : List ℕ) (s l i e k : ℕ) (K : kind_at w i ≡ k) (M : may_stand s k ≡ true) (W : within_of i (span_at w i) e ≡ true)
     (R : in_range k (position_at w i) (value_at w i) ≡ true) (N : eqb k 41 ≡ false) (F : lacks_of w (first_slot k) (i + 1) (i + span_at w i) ≡ false)
-    (I : walk_of w (first_slot k) (l + 1) 0 (i + 1) (i + span_at w i) ≡ Went 0) (L : l ≤ most_levels) (H : i < e) where
+    (I : walk_of w (first_slot k) (l + 1) 0 (i + 1) (i + span_at w i) ≡ Ok 0) (L : l ≤ most_levels) (H : i < e) where
   sound_here : sound_at w s 0 i e ≡ true
   unfolding sound_at same_this
   sound_here = rw K (simp (M, W, R, N, F))
@@ -216,7 +216,7 @@ module _ (w : List ℕ) (i e : ℕ) (D : Definition w i) (H : i + 3 ≤ e) where
   own_range : in_range local_definition_kind (position_at w i) (value_at w i) ≡ true
   own_range = rw (D.position, D.zero_value) range_definition
 
-  inner_walk : walk_of w 3 3 0 (i + 1) (i + 3) ≡ Went 0
+  inner_walk : walk_of w 3 3 0 (i + 1) (i + 3) ≡ Ok 0
   inner_walk =
       leaf_step w 3 3 (i + 1) (i + 3) name_kind D.name_kind may_name D.name_span name_range refl first_name (omega arith) (omega arith)
       ∙ ap (λ (s : ℕ). walk_of w s 3 0 (i + 1 + 1) (i + 3)) after_name ∙ ap (λ (j : ℕ). walk_of w 4 3 0 j (i + 3)) next_is
@@ -245,7 +245,7 @@ module _ (w : List ℕ) (i e : ℕ) (D : Definition w i) (H : i + 3 ≤ e) where
       (omega arith) (omega (arith, H))
       ∙ ap (λ (q : ℕ). walk_of w q 2 0 (i + span_at w i) e) (after_2 local_definition_kind) ∙ ap (λ (q : ℕ). walk_of w 2 2 0 (i + q) e) s
 
-walk_definitions : (m w-k n : ℕ) (w : List ℕ) → w-k + m ≡ n → ((k : ℕ) → k < n → Definition w (k * 3 + 1)) → walk_of w 2 2 0 (w-k * 3 + 1) (n * 3 + 1) ≡ Went 0
+walk_definitions : (m w-k n : ℕ) (w : List ℕ) → w-k + m ≡ n → ((k : ℕ) → k < n → Definition w (k * 3 + 1)) → walk_of w 2 2 0 (w-k * 3 + 1) (n * 3 + 1) ≡ Ok 0
 walk_definitions zero k n w e d = walk_done w 2 2 0 (k * 3 + 1) (n * 3 + 1) (omega (arith, e))
 walk_definitions (suc m) k n w e d =
     definition_step w (k * 3 + 1) (n * 3 + 1) (d k (omega (arith, e))) (omega (arith, e))
@@ -253,12 +253,12 @@ walk_definitions (suc m) k n w e d =
     ∙ walk_definitions m (k + 1) n w (omega (arith, e)) d
 
 -- such words pass rows 2 to 4
-pub tabular_fine : (w : List ℕ) (n : ℕ) → Tabular w n → n * 3 + 1 ≤ most_records → shape_of w ≡ Fine
+pub tabular_fine : (w : List ℕ) (n : ℕ) → Tabular w n → n * 3 + 1 ≤ most_records → shape_of w ≡ Ok tt
 tabular_fine w n T l =
     let g = T.long in
     let s = T.span in
     let r : records_of w ≡ n * 3 + 1 = omega (arith, g) in
-    let walk : walk_of w 1 1 0 0 (n * 3 + 1) ≡ Went 0 =
+    let walk : walk_of w 1 1 0 0 (n * 3 + 1) ≡ Ok 0 =
     walk_step w 1 1 0 (n * 3 + 1) document_kind T.kind may_document (within_yes 0 (span_at w 0) (n * 3 + 1) (omega (arith, s)) (omega (arith, s)))
     (rw T.position (range_document (value_at w 0) T.file)) refl
     (ap (λ (q : ℕ). lacks_of w q (0 + 1) (0 + span_at w 0)) first_document ∙ never_lacks w (0 + span_at w 0) (0 + 1) (0 + span_at w 0) (omega arith))
@@ -318,7 +318,7 @@ value_parts w i e = go (head_is w i integer_kind 1) refl (head_is w i float_kind
     go : (a : Bool) → head_is w i integer_kind 1 ≡ a → (b : Bool) → head_is w i float_kind 1 ≡ b → (a || b) ≡ true → Valued w i
     go true x b y z = valued integer_kind integer_value (head_parts w i integer_kind 1 x)
     go false x true y z = valued float_kind float_value (head_parts w i float_kind 1 y)
-    go false x false y z = absurd (let z : ◌≡◌ {A = ℕ} 0 1 = cc in omega arith)
+    go false x false y z = cc
 
 value_yes : (w : List ℕ) (i : ℕ) → Valued w i → in_definition 2 w i ≡ true
 unfolding in_definition
@@ -392,7 +392,7 @@ may_is : (k : ℕ) → may_stand 1 k ≡ true → k ≡ document_kind
 unfolding may_stand
 may_is k e = only_one k document_kind e
 
-pub fine_document : (w : List ℕ) → shape_of w ≡ Fine → Document w
+pub fine_document : (w : List ℕ) → shape_of w ≡ Ok tt → Document w
 fine_document w h =
     let p = fine_passed w h in
     let some : 0 < records_of w = above (ℕ_discrete (records_of w) 0) p.whole p.limit in
@@ -414,7 +414,7 @@ fine_document w h =
   where
     above : Dec (records_of w ≡ 0) → length w % 4 ≡ 0 → records_of w ≤ most_records → 0 < records_of w
     above (no n) a b = omega (arith, n)
-    above (yes e) a b = let z : Refused 3 0 ≡ Fine = shape_none w a b e ∙ h in absurd (let z : ◌≡◌ {A = ℕ} 0 1 = cc in omega arith)
+    above (yes e) a b = let z : refused BadShape 0 ≡ Ok tt = shape_none w a b e ∙ h in cc
 
 pub name_text : (w : List ℕ) → Document w → (i : ℕ) → i < records_of w → kind_at w i ≡ name_kind → Text (value_at w i)
 name_text w d i h k = in-name (position_at w i) (value_at w i) (ap (λ (q : ℕ). in_range q (position_at w i) (value_at w i)) (sym k) ∙ d.ranges i h)

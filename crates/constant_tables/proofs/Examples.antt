@@ -5,42 +5,41 @@ use mathlib.Core.List.{List, [], ◌∷◌, ◌++◌}
 use lib.ListN.{replicate}
 use Rattle.words.specs.Record.{field_of}
 use Rattle.column_lines.specs.Numeral.{read_numeral, sign_from, sign_at, number_from, zero_from, digits_from, word_of}
-use Rattle.constant_tables.specs.Entry.{is_text, is_table_kind, constant_in, read_entry}
+use Rattle.constant_tables.specs.Entry.{Entry, entry, is_text, is_table_kind, constant_in, read_entry}
 use Rattle.constant_tables.specs.Table.{first_where, head_is, in_definition, agrees_at, not_table}
-use Rattle.constant_tables.specs.declared.line.TableLine.{TableLine}
-use Rattle.constant_tables.specs.declared.line.TableLine.TheVariants.{Constant, Bad}
+use Rattle.std.specs.Prelude.{Option, Some, None}
 
 -- lines, from the last bytes of their three columns
 
 line : ℕ → List ℕ → ℕ → List ℕ → ℕ → List ℕ → List ℕ
 line a text b kind c value = replicate a 32 ++ (text ++ (replicate b 32 ++ (kind ++ (replicate c 32 ++ (value ++ (10 ∷ []))))))
 
-read : List ℕ → TableLine
+read : List ℕ → Option Entry
 unfolding read_entry constant_in is_text is_table_kind read_numeral sign_from sign_at number_from zero_from digits_from word_of
 read l = read_entry l
 
-integer : read (line 7 (49 ∷ []) 3 (50 ∷ []) 20 (55 ∷ [])) ≡ Constant 1 2 7
+integer : read (line 7 (49 ∷ []) 3 (50 ∷ []) 20 (55 ∷ [])) ≡ Some (entry 1 2 7)
 unfolding read line
 integer = refl
 
 -- -1 as an integer is 2^64 - 1; as a float's bits it is off the form
-minus_one : read (line 7 (49 ∷ []) 3 (50 ∷ []) 19 (45 ∷ 49 ∷ [])) ≡ Constant 1 2 18446744073709551615
+minus_one : read (line 7 (49 ∷ []) 3 (50 ∷ []) 19 (45 ∷ 49 ∷ [])) ≡ Some (entry 1 2 18446744073709551615)
 unfolding read line
 minus_one = refl
 
-minus_float : read (line 7 (49 ∷ []) 3 (51 ∷ []) 19 (45 ∷ 49 ∷ [])) ≡ Bad
+minus_float : read (line 7 (49 ∷ []) 3 (51 ∷ []) 19 (45 ∷ 49 ∷ [])) ≡ None
 unfolding read line
 minus_float = refl
 
-kind_four : read (line 7 (49 ∷ []) 3 (52 ∷ []) 20 (48 ∷ [])) ≡ Bad
+kind_four : read (line 7 (49 ∷ []) 3 (52 ∷ []) 20 (48 ∷ [])) ≡ None
 unfolding read line
 kind_four = refl
 
-text_none : read (line 7 (48 ∷ []) 3 (50 ∷ []) 20 (48 ∷ [])) ≡ Bad
+text_none : read (line 7 (48 ∷ []) 3 (50 ∷ []) 20 (48 ∷ [])) ≡ None
 unfolding read line
 text_none = refl
 
-minus_nought : read (line 7 (49 ∷ []) 3 (50 ∷ []) 19 (45 ∷ 48 ∷ [])) ≡ Bad
+minus_nought : read (line 7 (49 ∷ []) 3 (50 ∷ []) 19 (45 ∷ 48 ∷ [])) ≡ None
 unfolding read line
 minus_nought = refl
 

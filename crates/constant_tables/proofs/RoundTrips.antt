@@ -9,18 +9,18 @@ use lib.ListN.{length, take, drop, get_or, replicate, take-append-drop, drop_of_
 use lib.Seq.{drop-drop, ext_get_or, get_or-take, length-take-le, take_all}
 use lib.Dec.{eqb, ltb}
 use borrow.Author.Tests.{eq-eqb, le-leb, le-ltb, lt-ltb, eqb-true, ltb-false}
+use Rattle.std.specs.Prelude.{Result, Ok, Err}
+use Rattle.words.specs.declared.row.Row.TheVariants.{BadLine, BadLength, BadShape, NotATable}
+use Rattle.words.specs.declared.row.Refused.{Refused}
 use Rattle.words.specs.Record.{field_of, kind_at, span_at, position_at, value_at, most_records}
-use Rattle.tree.specs.Check.{shape_of, records_of}
-use Rattle.tree.specs.declared.Shape.{Shape}
-use Rattle.tree.specs.declared.Shape.TheVariants.{Fine, Refused}
+use Rattle.tree.specs.Check.{shape_of, records_of, refused}
 use Rattle.column_files.specs.Convert.{answer_by, success}
 use Rattle.constant_tables.specs.Form.{table_line_length, table_integer, table_float, integer_kind}
 use Rattle.constant_tables.specs.Entry.{Entry, is_text, read_entry, entry_line, table_bytes, record_kind, table_kind, table_records}
 use Rattle.constant_tables.specs.Table.{list_from, count_in, line_count, table_line, is_bad, bad_at, first_off, entry_in, line_entry, entries_of}
 use Rattle.constant_tables.specs.Table.{not_table, entry_at, definition_count, entries_in}
 use Rattle.constant_tables.specs.Convert.{table_rows, table_to_records, row_ten, document_rows, tabled, table_by, records_to_table}
-use Rattle.constant_tables.specs.declared.line.TableLine.{TableLine}
-use Rattle.constant_tables.specs.declared.line.TableLine.TheVariants.{Constant, Bad}
+use Rattle.std.specs.Prelude.{Option, Some, None}
 use Rattle.constant_tables.proofs.TableLines.{Text, text_parts, text_yes, TableKind, is_integer, is_float, Good, spells, line_again, entry_read}
 use Rattle.constant_tables.proofs.Search.{first_least, first_none, list_length, list_get, list_is}
 use Rattle.constant_tables.proofs.Lists.{no_entry, bytes_length, bytes_line, table_word, table_length}
@@ -35,17 +35,17 @@ pub record Passes (table : List ℕ) (file : ℕ) : Type 0 where
   pub limit : line_count table * 3 + 1 ≤ most_records
   pub is_text : Text file
 
-no_row : {A : Type 0} {r p : ℕ} → Refused r p ≡ Fine → A
+no_row : {A : Type 0} {found : Refused} → ◌≡◌ {A = Result (Unit {0}) Refused} (Err found) (Ok tt) → A
 no_row h = let z : ◌≡◌ {A = ℕ} 0 1 = cc in absurd (omega arith)
 
-pub rows_passed : (table : List ℕ) (file : ℕ) → table_rows table file ≡ Fine → Passes table file
+pub rows_passed : (table : List ℕ) (file : ℕ) → table_rows table file ≡ Ok tt → Passes table file
 unfolding table_rows
 rows_passed table file h =
     go (ltb (first_off table) (line_count table)) refl (ltb most_records (line_count table * 3 + 1)) refl (is_text file) refl h
   where
     go : (a : Bool) → ltb (first_off table) (line_count table) ≡ a → (b : Bool) → ltb most_records (line_count table * 3 + 1) ≡ b
         → (c : Bool) → is_text file ≡ c
-        → cond a (Refused 1 (first_off table + 1)) (cond b (Refused 2 0) (cond c Fine (Refused 3 0))) ≡ Fine → Passes table file
+        → cond a (refused BadLine (first_off table + 1)) (cond b (refused BadLength 0) (cond c (Ok (tt {0})) (refused BadShape 0))) ≡ Ok tt → Passes table file
     go true x b y c z e = no_row e
     go false x true y c z e = no_row e
     go false x false y false z e = no_row e
@@ -56,7 +56,7 @@ rows_passed table file h =
           is_text = text_parts file z;
         }
 
-pub passed_rows : (table : List ℕ) (file : ℕ) → Passes table file → table_rows table file ≡ Fine
+pub passed_rows : (table : List ℕ) (file : ℕ) → Passes table file → table_rows table file ≡ Ok tt
 unfolding table_rows
 passed_rows table file p =
     let a = le-ltb (first_off table) (line_count table) p.lines in
@@ -65,23 +65,23 @@ passed_rows table file p =
 
 -- the entries of a table
 
-good_line : (l : TableLine) → is_bad l ≡ false → (t : ℕ) × (k : ℕ) × (v : ℕ) × (l ≡ Constant t k v)
-good_line (Constant t k v) e = (t, k, v, refl)
-good_line Bad e = absurd (let z : ◌≡◌ {A = ℕ} 0 1 = cc in omega arith)
+good_line : (l : Option Entry) → is_bad l ≡ false → (e : Entry) × (l ≡ Some e)
+good_line (Some x) e = (x, refl)
+good_line None e = cc
 
 module _ (table : List ℕ) (h : line_count table ≤ first_off table) where
-  line_good : (j : ℕ) → j < line_count table → (t : ℕ) × (k : ℕ) × (v : ℕ) × (table_line table j ≡ Constant t k v)
+  line_good : (j : ℕ) → j < line_count table → (e : Entry) × (table_line table j ≡ Some e)
   line_good j l = good_line (table_line table j) (first_least (bad_at table) 0 (line_count table) j (omega arith) (omega (arith, l, h)))
 
   entry_good : (j : ℕ) → j < line_count table → Good (line_entry table j)
   entry_good j l =
       let g = line_good j l in
-      subst Good (ap entry_in (sym g.3)) (spells _ g.3).good
+      subst Good (ap entry_in (sym g.1)) (spells _ g.1).good
 
   line_back : (j : ℕ) → j < line_count table → entry_line (line_entry table j) ≡ take table_line_length (drop (j * table_line_length) table)
   line_back j l =
       let g = line_good j l in
-      ap (λ (x : TableLine). entry_line (entry_in x)) g.3 ∙ line_again (take table_line_length (drop (j * table_line_length) table)) g.3
+      ap (λ (x : Option Entry). entry_line (entry_in x)) g.1 ∙ line_again (take table_line_length (drop (j * table_line_length) table)) g.1
 
   pub entries_good : (j : ℕ) → j < length (entries_of table) → Good (get_or (entries_of table) j no_entry)
   entries_good j l =
@@ -123,8 +123,7 @@ module _ (es : List Entry) (g : (j : ℕ) → j < length es → Good (get_or es 
       let t : eqb (length (table_bytes es) % 34) 0 ≡ true = eq-eqb (length (table_bytes es) % 34) 0 (omega (arith, n)) in
       rw t (omega (arith, n))
 
-  line_is : (j : ℕ) → j < length es → table_line (table_bytes es) j ≡ Constant (get_or es j no_entry).text (get_or es j no_entry).kind
-      (get_or es j no_entry).value
+  line_is : (j : ℕ) → j < length es → table_line (table_bytes es) j ≡ Some (get_or es j no_entry)
   line_is j h = ap read_entry (bytes_line es j h) ∙ entry_read (get_or es j no_entry) (g j h)
 
   pub table_lines : line_count (table_bytes es) ≤ first_off (table_bytes es)
@@ -170,7 +169,7 @@ module _ (file : ℕ) (es : List Entry) (g : (j : ℕ) → j < length es → Goo
       ap (λ (n : ℕ). list_from (entry_at (table_records file es)) 0 n) definitions_is ∙ list_is (entry_at (table_records file es)) es no_entry entry_back
 
 -- the document of a table that passes rows 1 to 3 passes rows 2 to 4
-pub table_fine : (table : List ℕ) (file : ℕ) → table_rows table file ≡ Fine → shape_of (table_records file (entries_of table)) ≡ Fine
+pub table_fine : (table : List ℕ) (file : ℕ) → table_rows table file ≡ Ok tt → shape_of (table_records file (entries_of table)) ≡ Ok tt
 table_fine table file h =
     let p = rows_passed table file h in
     let l = p.limit in
@@ -179,7 +178,7 @@ table_fine table file h =
     (table_tabular file (entries_of table) p.is_text (entries_good table p.lines)) (omega (arith, n, l))
 
 -- and row 10
-pub table_agrees : (table : List ℕ) (file : ℕ) → table_rows table file ≡ Fine → document_rows (table_records file (entries_of table)) ≡ Fine
+pub table_agrees : (table : List ℕ) (file : ℕ) → table_rows table file ≡ Ok tt → document_rows (table_records file (entries_of table)) ≡ Ok tt
 unfolding row_ten
 table_agrees table file h =
     let p = rows_passed table file h in
@@ -192,7 +191,7 @@ table_agrees table file h =
     rw (table_fine table file h, n)
 
 -- a table comes back from its document byte for byte, with its file number
-pub table_round_trip : (table : List ℕ) (file room : ℕ) → table_rows table file ≡ Fine → length table ≤ room
+pub table_round_trip : (table : List ℕ) (file room : ℕ) → table_rows table file ≡ Ok tt → length table ≤ room
     → records_to_table (table_records file (entries_of table)) room
     ≡ record { reply = tabled (line_count table) file; output = table ++ replicate (room - length table) 0 }
 unfolding records_to_table table_by field_of
@@ -363,17 +362,17 @@ module _ (w : List ℕ) (n : ℕ) (T : Tabular w n) where
         value = let v = value_at_lem j l in let b = D.bits in omega (arith, v, b);
       }
 
-row_ten_parts : (s : Shape) (w : List ℕ) → s ≡ shape_of w → row_ten s w ≡ Fine → (shape_of w ≡ Fine) × (records_of w ≤ not_table w)
+row_ten_parts : (s : Result (Unit {0}) Refused) (w : List ℕ) → s ≡ shape_of w → row_ten s w ≡ Ok tt → (shape_of w ≡ Ok tt) × (records_of w ≤ not_table w)
 unfolding row_ten
-row_ten_parts (Refused r p) w e h = no_row h
-row_ten_parts Fine w e h = go (ltb (not_table w) (records_of w)) refl h
+row_ten_parts (Err found) w e h = no_row h
+row_ten_parts (Ok u) w e h = go (ltb (not_table w) (records_of w)) refl h
   where
-    go : (b : Bool) → ltb (not_table w) (records_of w) ≡ b → cond b (Refused 10 (not_table w)) Fine ≡ Fine → (shape_of w ≡ Fine) × (records_of w ≤ not_table w)
+    go : (b : Bool) → ltb (not_table w) (records_of w) ≡ b → cond b (refused NotATable (not_table w)) (Ok (tt {0})) ≡ Ok tt → (shape_of w ≡ Ok tt) × (records_of w ≤ not_table w)
     go true x y = no_row y
     go false x y = (sym e, ltb-false (not_table w) (records_of w) x)
 
 -- a document comes back from its lines word for word, given the file number that stood beside them
-pub document_round_trip : (w : List ℕ) (room : ℕ) → document_rows w ≡ Fine → length w ≤ room
+pub document_round_trip : (w : List ℕ) (room : ℕ) → document_rows w ≡ Ok tt → length w ≤ room
     → table_to_records (table_bytes (entries_in w)) (value_at w 0) room
     ≡ record { reply = success (records_of w); output = w ++ replicate (room - length w) 0 }
 unfolding table_to_records answer_by
@@ -388,11 +387,11 @@ document_round_trip w room h l =
     let c = table_count es g in
     let b = T.long in
     let m = d.limit in
-    let rows : table_rows (table_bytes es) (value_at w 0) ≡ Fine
+    let rows : table_rows (table_bytes es) (value_at w 0) ≡ Ok tt
     = passed_rows (table_bytes es) (value_at w 0) (record { lines = table_lines es g; limit = omega (arith, c, s, b, m); is_text = d.file }) in
     let words : table_records (value_at w 0) (entries_of (table_bytes es)) ≡ w
     = ap (table_records (value_at w 0)) (table_entries es g) ∙ document_back w n T in
     let total : line_count (table_bytes es) * 3 + 1 ≡ records_of w = omega (arith, c, s, b) in
-    ap (λ (r : Shape). answer_by r (table_records (value_at w 0) (entries_of (table_bytes es))) (line_count (table_bytes es) * 3 + 1) room) rows
-    ∙ ap (λ (c : List ℕ). answer_by Fine c (line_count (table_bytes es) * 3 + 1) room) words ∙ ap (λ (k : ℕ). answer_by Fine w k room) total
+    ap (λ (r : Result (Unit {0}) Refused). answer_by r (table_records (value_at w 0) (entries_of (table_bytes es))) (line_count (table_bytes es) * 3 + 1) room) rows
+    ∙ ap (λ (c : List ℕ). answer_by (Ok tt) c (line_count (table_bytes es) * 3 + 1) room) words ∙ ap (λ (k : ℕ). answer_by (Ok tt) w k room) total
     ∙ rw (le-leb (length w) room l)

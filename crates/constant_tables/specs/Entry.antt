@@ -4,20 +4,13 @@ use Rattle.words.specs.Record.{most_text}
 use Rattle.column_lines.specs.Form.{newline}
 use Rattle.column_lines.specs.Numeral.{numeral, read_numeral}
 use Rattle.column_lines.specs.Line.{field_in}
-use Rattle.column_lines.specs.declared.number.Number.{Number}
-use Rattle.column_lines.specs.declared.number.Number.TheVariants.{Word, Off}
 use Rattle.constant_tables.specs.Form.{text_width, table_kind_width, table_value_width, table_kind_place, table_value_place, table_newline_place}
 use Rattle.constant_tables.specs.Form.{table_line_length}
 use Rattle.constant_tables.specs.Form.{table_integer, table_float, document_kind, local_definition_kind, integer_kind, float_kind, name_kind}
-use Rattle.constant_tables.specs.declared.line.TableLine.{TableLine}
-use Rattle.constant_tables.specs.declared.line.TableLine.TheVariants.{Constant, Bad}
+use Rattle.std.specs.Prelude.{Option, Some, None}
+pub use Rattle.constant_tables.specs.declared.line.Entry.{Entry}
 
 -- 'text number .., kind .. (2 integer, 3 float), value': the value is its 64 bits, of an integer in two's complement
-pub record Entry : Type 0 where
-  pub text : ℕ
-  pub kind : ℕ
-  pub value : ℕ
-
 abbrev pub entry : ℕ → ℕ → ℕ → Entry
 entry text kind value = record { text = text; kind = kind; value = value }
 
@@ -29,25 +22,25 @@ unfoldable pub is_table_kind : ℕ → Bool
 is_table_kind kind = eqb kind table_integer || eqb kind table_float
 
 -- 'integers signed and floats as bits'
-abbrev pub integer_is : Number → Bool
-integer_is (Word kind) = eqb kind table_integer
-integer_is Off = false
+abbrev pub integer_is : Option ℕ → Bool
+integer_is (Some kind) = eqb kind table_integer
+integer_is None = false
 
 -- 'a line off this form, a text out of range too'
-unfoldable pub constant_in : Number → Number → Number → TableLine
-constant_in (Word text) (Word kind) (Word value) = cond (is_text text) (cond (is_table_kind kind) (Constant text kind value) Bad) Bad
-constant_in (Word text) (Word kind) Off = Bad
-constant_in (Word text) Off value = Bad
-constant_in Off kind value = Bad
+unfoldable pub constant_in : Option ℕ → Option ℕ → Option ℕ → Option Entry
+constant_in (Some text) (Some kind) (Some value) = cond (is_text text) (cond (is_table_kind kind) (Some (entry text kind value)) None) None
+constant_in (Some text) (Some kind) None = None
+constant_in (Some text) None value = None
+constant_in None kind value = None
 
 -- the columns of a line, read
-abbrev pub text_in : List ℕ → Number
+abbrev pub text_in : List ℕ → Option ℕ
 text_in l = read_numeral false (field_in 0 text_width l)
 
-abbrev pub table_kind_in : List ℕ → Number
+abbrev pub table_kind_in : List ℕ → Option ℕ
 table_kind_in l = read_numeral false (field_in table_kind_place table_kind_width l)
 
-abbrev pub table_value_in : List ℕ → Number
+abbrev pub table_value_in : List ℕ → Option ℕ
 table_value_in l = read_numeral (integer_is (table_kind_in l)) (field_in table_value_place table_value_width l)
 
 -- a line of its length, with its newline
@@ -55,8 +48,8 @@ abbrev pub whole_table_line : List ℕ → Bool
 whole_table_line l = eqb (length l) table_line_length && eqb (get_or l table_newline_place 0) newline
 
 -- `read_entry`
-unfoldable pub read_entry : List ℕ → TableLine
-read_entry l = cond (whole_table_line l) (constant_in (text_in l) (table_kind_in l) (table_value_in l)) Bad
+unfoldable pub read_entry : List ℕ → Option Entry
+read_entry l = cond (whole_table_line l) (constant_in (text_in l) (table_kind_in l) (table_value_in l)) None
 
 -- an entry's line
 unfoldable pub entry_line : Entry → List ℕ

@@ -2,11 +2,12 @@
 use Rattle.std.specs.Prelude.{ℕ, zero, suc, ◌+◌, ◌*◌, ◌/◌, ◌%◌, ◌≤◌, ◌≡◌, Bool, true, false, cond, not, ◌&&◌, ◌||◌, List, [], ◌∷◌, ◌++◌, length, take, drop}
 use Rattle.std.specs.Prelude.{eqb, ltb}
 use Rattle.words.specs.Record.{kind_at, span_at, position_at, value_at}
-use Rattle.tree.specs.Check.{records_of}
+use Rattle.tree.specs.Check.{records_of, refused}
 use Rattle.constant_tables.specs.Form.{table_line_length, local_definition_kind, integer_kind, float_kind, name_kind}
 use Rattle.constant_tables.specs.Entry.{Entry, entry, read_entry, entry_line, table_kind, definition_of, definitions_of}
-use Rattle.constant_tables.specs.declared.line.TableLine.{TableLine}
-use Rattle.constant_tables.specs.declared.line.TableLine.TheVariants.{Constant, Bad}
+use Rattle.std.specs.Prelude.{Option, Some, None, Result, Ok}
+use Rattle.words.specs.declared.row.Row.TheVariants.{BadLine}
+use Rattle.words.specs.declared.row.Refused.{Refused}
 
 -- the first number of n from k on that a test holds of; k + n if it holds of none
 unfoldable pub first_where : (ℕ → Bool) → ℕ → ℕ → ℕ
@@ -25,13 +26,13 @@ count_in bytes = bytes / table_line_length + cond (eqb (bytes % table_line_lengt
 abbrev pub line_count : List ℕ → ℕ
 line_count table = count_in (length table)
 
--- line i of a table, from 0; bad where there is no whole line
-abbrev pub table_line : List ℕ → ℕ → TableLine
+-- line i of a table, from 0; none where there is no whole line
+abbrev pub table_line : List ℕ → ℕ → Option Entry
 table_line table i = read_entry (take table_line_length (drop (i * table_line_length) table))
 
-abbrev pub is_bad : TableLine → Bool
-is_bad (Constant text kind value) = false
-is_bad Bad = true
+abbrev pub is_bad : Option Entry → Bool
+is_bad (Some e) = false
+is_bad None = true
 
 abbrev pub bad_at : List ℕ → ℕ → Bool
 bad_at table i = is_bad (table_line table i)
@@ -41,9 +42,9 @@ abbrev pub first_off : List ℕ → ℕ
 first_off table = first_where (bad_at table) 0 (line_count table)
 
 -- the entry of a line; nothing is asked of a bad one
-abbrev pub entry_in : TableLine → Entry
-entry_in (Constant text kind value) = entry text kind value
-entry_in Bad = entry 0 0 0
+abbrev pub entry_in : Option Entry → Entry
+entry_in (Some e) = e
+entry_in None = entry 0 0 0
 
 abbrev pub line_entry : List ℕ → ℕ → Entry
 line_entry table i = entry_in (table_line table i)
@@ -82,14 +83,18 @@ definition_count w = length w / 12
 abbrev pub entries_in : List ℕ → List Entry
 entries_in w = list_from (entry_at w) 0 (definition_count w)
 
--- what is left by the writers of a definition, of a table's definitions and of a line
-pub record DefinitionPut (i text kind value : ℕ) (before after : List ℕ) : Type 0 where
-  pub words : i * 12 + 4 + 12 ≤ length before
-      → after ≡ take (i * 12 + 4) before ++ (definition_of (entry text kind value) ++ drop (i * 12 + 4 + 12) before)
+-- row 1 as a result: the first line off the form, from 1
+abbrev pub row_one : List ℕ → Result (Unit {0}) Refused
+row_one table = cond (ltb (first_off table) (line_count table)) (refused BadLine (first_off table + 1)) (Ok tt)
 
-pub record DefinitionsPut (table before after : List ℕ) (off : ℕ) : Type 0 where
-  pub first : off ≡ first_off table
-  pub words : line_count table ≤ off → line_count table * 12 + 4 ≤ length before
+-- what is left by the writers of a definition, of a table's definitions and of a line
+pub record DefinitionPut (i : ℕ) (e : Entry) (before after : List ℕ) : Type 0 where
+  pub words : i * 12 + 4 + 12 ≤ length before
+      → after ≡ take (i * 12 + 4) before ++ (definition_of e ++ drop (i * 12 + 4 + 12) before)
+
+pub record DefinitionsPut (table before after : List ℕ) (r : Result (Unit {0}) Refused) : Type 0 where
+  pub first : r ≡ row_one table
+  pub words : r ≡ Ok tt → line_count table * 12 + 4 ≤ length before
       → after ≡ take 4 before ++ (definitions_of (entries_of table) ++ drop (line_count table * 12 + 4) before)
 
 pub record ConstantPut (w : List ℕ) (i : ℕ) (before after : List ℕ) : Type 0 where

@@ -1,11 +1,10 @@
 // A line of a constant table (02, 2026-02): text number in 8, kind in 4 (2 integer, 3 float), value in 21, then a newline. Its numbers are those of
 // `column_lines`.
-ghost use Rattle.std.specs.Prelude.{◌≡◌, ◌++◌, ◌-◌, ◌≤◌, length, take, drop};
-ghost use Rattle.column_lines.specs.Numeral.{numeral, read_numeral};
-ghost use Rattle.constant_tables.specs.Entry.{entry, is_text, integer_is, constant_in, read_entry, entry_line, record_kind, table_kind};
+ghost use Rattle.std.specs.Prelude.{◌≡◌, length};
+ghost use Rattle.constant_tables.specs.Entry.{is_text, is_table_kind, read_entry, entry_line, record_kind, table_kind};
 
 use column_lines::line::NEWLINE;
-use column_lines::number::{Number, read_number, write_number};
+use column_lines::number::{read_number, write_number};
 use words::record::{FLOAT, INTEGER, MOST_TEXT};
 
 const TEXT_END: usize = 8;
@@ -16,29 +15,36 @@ const VALUE_END: usize = KIND_END + 21;
 
 pub const TABLE_LINE_LENGTH: usize = VALUE_END + 1;
 
-// The kinds of a table.
+// The kinds of a table. They stay numbers: `Entry` of specs/ has its kind as one, and `record_kind` and `table_kind` answer for every number.
 const TABLE_INTEGER: u64 = 2;
 
 const TABLE_FLOAT: u64 = 3;
 
-// What a line spells: a constant's text, kind and value, or none.
-#[derive(Clone, Copy)]
-pub enum TableLine {
-    Constant(u64, u64, u64),
-    Bad,
+// What a line spells: a constant's text, kind and value.
+#[derive(Clone, Copy, PartialEq, Eq)]
+pub struct Entry {
+    pub text: u64,
+    pub kind: u64,
+    pub value: u64,
 }
 
 // A number is a text's.
+#[tactic(auto, unfolding(crate::specs::Entry::is_text))]
 pub(crate) fn is_text(number: u64) -> bool
     ensures { result ≡ is_text number }
 {
-    if number == 0 {
-        return false;
-    }
-    number <= MOST_TEXT
+    number != 0 && number <= MOST_TEXT
+}
+
+#[tactic(auto, unfolding(crate::specs::Entry::is_table_kind))]
+fn is_table_kind(kind: u64) -> bool
+    ensures { result ≡ is_table_kind kind }
+{
+    kind == TABLE_INTEGER || kind == TABLE_FLOAT
 }
 
 // The kind of the record that a table's kind becomes.
+#[tactic(auto, unfolding(crate::specs::Entry::record_kind))]
 pub(crate) fn record_kind(kind: u64) -> u64
     ensures { result ≡ record_kind kind }
 {
@@ -50,6 +56,7 @@ pub(crate) fn record_kind(kind: u64) -> u64
 }
 
 // The table's kind of a value's record.
+#[tactic(auto, unfolding(crate::specs::Entry::table_kind))]
 pub(crate) fn table_kind(kind: u64) -> u64
     ensures { result ≡ table_kind kind }
 {
@@ -60,82 +67,30 @@ pub(crate) fn table_kind(kind: u64) -> u64
     }
 }
 
-fn is_integer(kind: Number) -> bool
-    ensures { result ≡ integer_is kind }
-{
-    match kind {
-        Number::Word(k) => k == TABLE_INTEGER,
-        Number::Off => false,
-    }
-}
-
-// The constant that the three numbers of a line are.
-fn constant_in(text: Number, kind: Number, value: Number) -> TableLine
-    ensures { result ≡ constant_in text kind value }
-{
-    let Number::Word(t) = text else {
-        return TableLine::Bad;
-    };
-    let Number::Word(k) = kind else {
-        return TableLine::Bad;
-    };
-    let Number::Word(v) = value else {
-        return TableLine::Bad;
-    };
-    if !is_text(t) {
-        return TableLine::Bad;
-    }
-    if k == TABLE_INTEGER {
-        return TableLine::Constant(t, k, v);
-    }
-    if k == TABLE_FLOAT {
-        return TableLine::Constant(t, k, v);
-    }
-    TableLine::Bad
-}
-
-// The number in a column of a line, from a place to an end.
-fn read_column(line: &[u8], at: usize, end: usize, signed: bool) -> Number
-    requires at_le_end { at ≤ end }
-    requires end_in_bounds { end ≤ length line.now }
-    ensures { result ≡ read_numeral signed (take (end - at) (drop at line.now)) }
-{
-    read_number(&line[at..end], signed)
-}
-
-// Writes a number to a column of a line.
-fn write_column(out: &mut [u8], at: usize, end: usize, word: u64, signed: bool)
-    requires at_le_end { at ≤ end }
-    requires end_in_bounds { end ≤ length out.old }
-    ensures { out.new ≡ take at out.old ++ (numeral (end - at) signed word ++ drop end out.old) }
-{
-    write_number(&mut out[at..end], word, signed);
-}
-
 // Reads a line.
-pub(crate) fn read_entry(line: &[u8]) -> TableLine
+pub(crate) fn read_entry(line: &[u8]) -> Option<Entry>
     ensures { result ≡ read_entry line.now }
 {
-    if line.len() != TABLE_LINE_LENGTH {
-        return TableLine::Bad;
+    if line.len() != TABLE_LINE_LENGTH || line[VALUE_END] != NEWLINE {
+        return None;
     }
-    if line[VALUE_END] != NEWLINE {
-        return TableLine::Bad;
+    let text = read_number(&line[..TEXT_END], false)?;
+    let kind = read_number(&line[TEXT_END..KIND_END], false)?;
+    let value = read_number(&line[KIND_END..VALUE_END], kind == TABLE_INTEGER)?;
+    if !is_text(text) {
+        return None;
     }
-    let text = read_column(line, 0, TEXT_END, false);
-    let kind = read_column(line, TEXT_END, KIND_END, false);
-    let signed = is_integer(kind);
-    let value = read_column(line, KIND_END, VALUE_END, signed);
-    constant_in(text, kind, value)
+    is_table_kind(kind).then_some(Entry { text, kind, value })
 }
 
 // Writes a constant's line.
-pub(crate) fn write_entry(out: &mut [u8], text: u64, kind: u64, value: u64)
+pub(crate) fn write_entry(out: &mut [u8], entry: Entry)
     requires { length out.old ≡ 34 }
-    ensures { out.new ≡ entry_line (entry text kind value) }
+    ensures { out.new ≡ entry_line entry }
 {
-    write_column(out, 0, TEXT_END, text, false);
-    write_column(out, TEXT_END, KIND_END, kind, false);
-    write_column(out, KIND_END, VALUE_END, value, kind == TABLE_INTEGER);
+    write_number(&mut out[..TEXT_END], entry.text, false);
+    write_number(&mut out[TEXT_END..KIND_END], entry.kind, false);
+    let signed = entry.kind == TABLE_INTEGER;
+    write_number(&mut out[KIND_END..VALUE_END], entry.value, signed);
     out[VALUE_END] = NEWLINE;
 }

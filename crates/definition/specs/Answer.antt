@@ -1,4 +1,7 @@
 -- The compile call of 01: from any words and the areas' lengths to the reply and the words of the twelve areas
+use Rattle.std.specs.Prelude.{Result, Ok, Err}
+use Rattle.words.specs.Row.{row_number}
+use Rattle.words.specs.declared.row.Refused.{Refused}
 use Rattle.std.specs.Prelude.{ℕ, ◌-◌, ◌/◌, Bool, cond, List, [], ◌∷◌, map, length, replicate, ltb}
 use Rattle.std.proofs.Math.Option.{Option, none, some}
 use Rattle.words.specs.Ast.{Document}
@@ -6,8 +9,6 @@ use Rattle.words.specs.Areas.{widths, entries_in}
 use Rattle.words.specs.Record.{value_at}
 use Rattle.tree.specs.Check.{shape_of}
 use Rattle.tree.specs.Reading.{documents_of, list_of}
-use Rattle.tree.specs.declared.Shape.{Shape}
-use Rattle.tree.specs.declared.Shape.TheVariants.{Fine, Refused}
 use Rattle.definition.specs.Uses.{Limits, first_not_public, first_over}
 use Rattle.definition.specs.Compiler.{Error}
 use Rattle.definition.specs.Book.{Context, new_context, has_text}
@@ -70,9 +71,9 @@ answer_twice (some i) w l c = Refusal 5 i []
 answer_twice none w l c = answer_documents (documents_of w) l c
 
 -- rows 2 to 4, then 5, then the bundle
-abbrev pub answer_shape : Shape → List ℕ → Limits → Context → Answer
-answer_shape (Refused r p) w l c = Refusal r p []
-answer_shape Fine w l c = answer_twice (twice [] w (document_places w)) w l c
+abbrev pub answer_shape : Result (Unit {0}) Refused → List ℕ → Limits → Context → Answer
+answer_shape (Err found) w l c = Refusal (row_number found.row) found.place []
+answer_shape (Ok fine) w l c = answer_twice (twice [] w (document_places w)) w l c
 
 -- the areas' lengths in entries, from those in words; both by area from 1
 abbrev pub limits_by : List ℕ → List ℕ → Limits

@@ -1,13 +1,14 @@
 -- The call before 2026-04, when only the includes ahead of the first other definition were dependencies. It is kept for one theorem: a bundle whose includes
 -- all come first is answered as before (`head_includes_as_before`). Nothing else cites this file
+use Rattle.std.specs.Prelude.{Result, Ok, Err}
+use Rattle.words.specs.Row.{row_number}
+use Rattle.words.specs.declared.row.Refused.{Refused}
 use Rattle.std.specs.Prelude.{ℕ, zero, suc, ◌+◌, ◌≡◌, true, cond, List, [], ◌∷◌, length}
 use Rattle.std.proofs.Math.Option.{Option, none, some}
 use Rattle.words.specs.Ast.{Document, Definition}
 use Rattle.words.specs.Areas.{constants_area, books_area}
 use Rattle.tree.specs.Check.{shape_of}
 use Rattle.tree.specs.Reading.{documents_of}
-use Rattle.tree.specs.declared.Shape.{Shape}
-use Rattle.tree.specs.declared.Shape.TheVariants.{Fine, Refused}
 use Rattle.definition.specs.Uses.{Use, Limits, using'}
 use Rattle.definition.specs.Book.{Context, has_text}
 use Rattle.definition.specs.DependencySolver.{included_file, dependencies_of, find_document, insert_numbers, missing, all_in, without, Worked, Delivered}
@@ -76,9 +77,9 @@ abbrev pub answer_twice_before : Option ℕ → List ℕ → Limits → Context 
 answer_twice_before (some i) w l c = Refusal 5 i []
 answer_twice_before none w l c = answer_documents_before (documents_of w) l c
 
-abbrev pub answer_shape_before : Shape → List ℕ → Limits → Context → Answer
-answer_shape_before (Refused r p) w l c = Refusal r p []
-answer_shape_before Fine w l c = answer_twice_before (twice [] w (document_places w)) w l c
+abbrev pub answer_shape_before : Result (Unit {0}) Refused → List ℕ → Limits → Context → Answer
+answer_shape_before (Err found) w l c = Refusal (row_number found.row) found.place []
+answer_shape_before (Ok fine) w l c = answer_twice_before (twice [] w (document_places w)) w l c
 
 unfoldable pub answer_from_before : Context → List ℕ → List ℕ → Answer
 answer_from_before c w lengths = answer_shape_before (shape_of w) w (limits_of lengths) c

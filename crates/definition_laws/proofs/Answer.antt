@@ -11,16 +11,15 @@ use mathlib.Core.List.{List, [], ◌∷◌}
 use lib.ListN.{length, get_or, replicate, get_or-replicate}
 use lib.Seq.{get_or-set_other}
 use lib.Dec.{eqb, leb, ltb}
+use Rattle.std.specs.Prelude.{Result, Ok, Err}
+use Rattle.words.specs.Row.{row_number}
+use Rattle.words.specs.declared.row.Refused.{Refused}
 use Rattle.words.specs.Ast.{Document}
 use Rattle.words.specs.Areas.{errors_area}
 use Rattle.words.specs.Record.{kind_at, span_at, most_records, most_levels}
 use Rattle.tree.specs.Check.{only_if, sound_at, head_at, then_on, walk_by, shape_by, shape_of, records_of}
 use Rattle.tree.specs.Rules.{slot_after, first_slot}
 use Rattle.tree.specs.Reading.{documents_of}
-use Rattle.tree.specs.declared.Shape.{Shape}
-use Rattle.tree.specs.declared.Shape.TheVariants.{Fine, Refused}
-use Rattle.tree.specs.declared.Outcome.{Outcome}
-use Rattle.tree.specs.declared.Outcome.TheVariants.{Went, Fault}
 use Rattle.definition.specs.Uses.{Limits, first_not_public, first_over}
 use Rattle.definition.specs.Compiler.{Error}
 use Rattle.definition.specs.Book.{Context, new_context}
@@ -50,26 +49,26 @@ pub data Row : ℕ → List Error → Type 0 where
 
 -- rows 2, 3 and 4 are the shape's
 
-data OutcomeRow : Outcome → Type 0 where
-  went : (t : ℕ) → OutcomeRow (Went t)
-  fault : {r : ℕ} (p : ℕ) → Row r [] → OutcomeRow (Fault r p)
+data OutcomeRow : Result ℕ Refused → Type 0 where
+  went : (t : ℕ) → OutcomeRow (Ok t)
+  fault : (found : Refused) → Row (row_number found.row) [] → OutcomeRow (Err found)
 
-pub data ShapeRow : Shape → Type 0 where
-  fine : ShapeRow Fine
-  refused : {r : ℕ} (p : ℕ) → Row r [] → ShapeRow (Refused r p)
+pub data ShapeRow : Result (Unit {0}) Refused → Type 0 where
+  fine : ShapeRow (Ok tt)
+  refused : (found : Refused) → Row (row_number found.row) [] → ShapeRow (Err found)
 
 only_case : {A : Type 0} (P : A → Type 0) (b : Bool) {other : A} {by : ℕ → A} (n : ℕ) → P other → ((k : ℕ) → P (by k)) → P (only_if b other by n)
 only_case P true n o k = k n
 only_case P false n o k = o
 
-then_row : {o : Outcome} {f : ℕ → Outcome} → OutcomeRow o → ((t : ℕ) → OutcomeRow (f t)) → OutcomeRow (then_on o f)
+then_row : {o : Result ℕ Refused} {f : ℕ → Result ℕ Refused} → OutcomeRow o → ((t : ℕ) → OutcomeRow (f t)) → OutcomeRow (then_on o f)
 then_row (went t) k = k t
-then_row (fault p h) k = fault p h
+then_row (fault found h) k = fault found h
 
 head_row : (w : List ℕ) (s l t i e : ℕ) → OutcomeRow (head_at w s l t i e)
 unfolding head_at
 head_row w s l t i e =
-    cond_case OutcomeRow (sound_at w s t i e) (λ x. cond_case OutcomeRow (leb l most_levels) (λ y. went _) (λ y. fault i row_4)) (λ x. fault i row_3)
+    cond_case OutcomeRow (sound_at w s t i e) (λ x. cond_case OutcomeRow (leb l most_levels) (λ y. went _) (λ y. fault _ row_4)) (λ x. fault _ row_3)
 
 walk_row : (n : ℕ) (w : List ℕ) (s l t i e : ℕ) → OutcomeRow (walk_by n w s l t i e)
 unfolding walk_by
@@ -79,20 +78,20 @@ walk_row (suc n) w s l t i e =
     (λ t₁. then_row (walk_row n w (first_slot (kind_at w i)) (l + 1) t₁ (i + 1) (i + span_at w i))
     (λ t₂. walk_row n w (slot_after s (kind_at w i)) l t₂ (i + span_at w i) e)))
 
-shape_row_by : {o : Outcome} → OutcomeRow o → ShapeRow (shape_by o)
+shape_row_by : {o : Result ℕ Refused} → OutcomeRow o → ShapeRow (shape_by o)
 shape_row_by (went t) = fine
-shape_row_by (fault p h) = refused p h
+shape_row_by (fault found h) = refused found h
 
 pub shape_row : (w : List ℕ) → ShapeRow (shape_of w)
 unfolding shape_of
 shape_row w =
-    cond_case ShapeRow (not (eqb (length w % 4) 0) || ltb most_records (records_of w)) (λ x. refused 0 row_2)
-    (λ x. only_case ShapeRow (not (eqb (records_of w) 0)) (records_of w) (refused 0 row_3) (λ n. shape_row_by (walk_row (n - 0) w 1 1 0 0 n)))
+    cond_case ShapeRow (not (eqb (length w % 4) 0) || ltb most_records (records_of w)) (λ x. refused _ row_2)
+    (λ x. only_case ShapeRow (not (eqb (records_of w) 0)) (records_of w) (refused _ row_3) (λ n. shape_row_by (walk_row (n - 0) w 1 1 0 0 n)))
 
 -- how an answer onto a context comes about: refused before or above the work, or by the ending of a work on fine words whose notes row 9 lets pass
 pub data Reached (c : Context) (w lengths : List ℕ) : Answer → Type 0 where
   Before : {r : ℕ} (p : ℕ) → Row r [] → Reached c w lengths (Refusal r p [])
-  Ended : (numbers : List ℕ) → NeededOnce (loaded_of c) numbers → shape_of w ≡ Fine
+  Ended : (numbers : List ℕ) → NeededOnce (loaded_of c) numbers → shape_of w ≡ Ok tt
       → first_over (limits_of lengths) (compile_needed numbers (documents_of w) c).uses ≡ none
       → (e : Ending) → (compile_needed numbers (documents_of w) c).ending ≡ e → Reached c w lengths (answer_ending e)
 
@@ -103,31 +102,31 @@ reached c w lengths = shape (shape_row w) refl
     l : Limits
     l = limits_of lengths
 
-    worked : shape_of w ≡ Fine → (numbers : List ℕ) → NeededOnce (loaded_of c) numbers → (o : Option ℕ)
+    worked : shape_of w ≡ Ok tt → (numbers : List ℕ) → NeededOnce (loaded_of c) numbers → (o : Option ℕ)
         → first_over l (compile_needed numbers (documents_of w) c).uses ≡ o
         → Reached c w lengths (answer_by o (compile_needed numbers (documents_of w) c).ending)
     worked f numbers u (some area) q =
         cond_case (Reached c w lengths) (ltb area first_not_public) (λ t. Before area row_9) (λ t. Before (area - first_not_public) row_11)
     worked f numbers u none q = Ended numbers u f q _ refl
 
-    needing : shape_of w ≡ Fine → (numbers : List ℕ) → NeededOnce (loaded_of c) numbers → (o : Option ℕ)
+    needing : shape_of w ≡ Ok tt → (numbers : List ℕ) → NeededOnce (loaded_of c) numbers → (o : Option ℕ)
         → Reached c w lengths (answer_needed o numbers (documents_of w) l c)
     needing f numbers u (some n) = Before n row_6
     needing f numbers u none = worked f numbers u (first_over l (compile_needed numbers (documents_of w) c).uses) refl
 
-    documents : shape_of w ≡ Fine → (ds : List Document) → documents_of w ≡ ds → Reached c w lengths (answer_documents ds l c)
+    documents : shape_of w ≡ Ok tt → (ds : List Document) → documents_of w ≡ ds → Reached c w lengths (answer_documents ds l c)
     documents f [] q = Before 0 row_3
     documents f (root ∷ others) q =
         let numbers = needed (loaded_of c) root others in
         let o = missing (root ∷ others) numbers in
         subst (λ ds. Reached c w lengths (answer_needed o numbers ds l c)) q (needing f numbers (needed_once (loaded_of c) root others) o)
 
-    doubles : shape_of w ≡ Fine → (o : Option ℕ) → Reached c w lengths (answer_twice o w l c)
+    doubles : shape_of w ≡ Ok tt → (o : Option ℕ) → Reached c w lengths (answer_twice o w l c)
     doubles f (some i) = Before i row_5
     doubles f none = documents f (documents_of w) refl
 
-    shape : {s : Shape} → ShapeRow s → shape_of w ≡ s → Reached c w lengths (answer_shape s w l c)
-    shape (refused p h) q = Before p h
+    shape : {s : Result (Unit {0}) Refused} → ShapeRow s → shape_of w ≡ s → Reached c w lengths (answer_shape s w l c)
+    shape (refused found h) q = Before found.place h
     shape fine q = doubles q (twice [] w (document_places w))
 
 -- refusals
@@ -165,7 +164,7 @@ refusal_zero lengths r p es area n h which = filled_at lengths (error_tables es)
 
 -- the work of which c is the delivery
 pub record Delivering (c₀ : Context) (w lengths : List ℕ) (c : Context) : Type 0 where
-  pub fine : shape_of w ≡ Fine
+  pub fine : shape_of w ≡ Ok tt
   pub numbers : List ℕ
   pub once : NeededOnce (loaded_of c₀) numbers
   pub within : first_over (limits_of lengths) (compile_needed numbers (documents_of w) c₀).uses ≡ none

@@ -8,11 +8,11 @@ use mathlib.Core.List.{List, [], ◌∷◌}
 use lib.ListN.{length}
 use lib.Dec.{eqb, ltb}
 use borrow.Author.Tests.{eq-eqb}
+use Rattle.std.specs.Prelude.{Result, Ok, Err}
+use Rattle.words.specs.declared.row.Refused.{Refused}
 use Rattle.words.specs.Ast.{Document}
 use Rattle.tree.specs.Check.{shape_of}
 use Rattle.tree.specs.Reading.{documents_of}
-use Rattle.tree.specs.declared.Shape.{Shape}
-use Rattle.tree.specs.declared.Shape.TheVariants.{Fine, Refused}
 use Rattle.definition.specs.Uses.{Use, Limits}
 use Rattle.definition.specs.Compiler.{Error}
 use Rattle.definition.specs.Book.{Context, compile_document, has_text}
@@ -164,6 +164,6 @@ head_includes_as_before c w lengths h = go (shape_of w)
     second (some i) = refl
     second none = documents_before (documents_of w) l c h
 
-    go : (s : Shape) → answer_shape_before s w l c ≡ answer_shape s w l c
-    go (Refused r p) = refl
-    go Fine = second (twice [] w (document_places w))
+    go : (s : Result (Unit {0}) Refused) → answer_shape_before s w l c ≡ answer_shape s w l c
+    go (Err found) = refl
+    go (Ok u) = second (twice [] w (document_places w))

@@ -4,13 +4,13 @@ use Prim.Native.Nat.{ℕ, ◌≤◌}
 use native.Mathlib.Omega.{arith}
 use mathlib.Core.Path.{◌≡◌}
 use mathlib.Core.List.{List, [], ◌∷◌}
+use Rattle.std.specs.Prelude.{Ok}
 use Rattle.words.specs.Ast.{FunctionDefinition, Definition, LocalDefinition, IncludeDefinition, ModelDefinition, PublicModelDefinition, PlainFunction}
 use Rattle.words.specs.Ast.{PublicFunction, ImplementDefinition, ApplyDefinition, Document}
 use Rattle.words.specs.Record.{most_records, most_levels}
 use Rattle.tree.specs.At.{run_size, run_depth, size_f, depth_f, size_d, depth_d, size_doc, depth_doc}
 use Rattle.tree.specs.Check.{shape_of}
 use Rattle.tree.specs.Reading.{documents_of}
-use Rattle.tree.specs.declared.Shape.TheVariants.{Fine}
 use Rattle.tree.proofs.Bundle.{fine_spells}
 use Rattle.definition.specs.Within.{All, nil, ◌&◌}
 use Rattle.definition_laws.proofs.Lists.{all_map}
@@ -59,7 +59,7 @@ definition_limited (ApplyDefinition x y) s = nil
 document_limited : (d : Document) → Limited size_doc depth_doc d → LimitedDocument d
 document_limited d s = all_map definition_limited (run_limited size_d depth_d d.definitions (omega (arith, s.records)) (omega (arith, s.levels)))
 
-pub fine_limited : (w : List ℕ) → shape_of w ≡ Fine → All LimitedDocument (documents_of w)
+pub fine_limited : (w : List ℕ) → shape_of w ≡ Ok tt → All LimitedDocument (documents_of w)
 fine_limited w h =
     let s = fine_spells w h in
     all_map document_limited (run_limited size_doc depth_doc (documents_of w) (omega (arith, s.fills, s.limit)) (omega (arith, s.levels)))

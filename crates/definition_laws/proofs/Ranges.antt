@@ -8,11 +8,11 @@ use mathlib.Core.Bool.{Bool, true, false, ◌&&◌}
 use mathlib.Core.List.{List}
 use lib.ListN.{length, get_or, get_or-eq_default}
 use lib.Dec.{T, leb, leb→le, eqb→eq}
+use Rattle.std.specs.Prelude.{Ok}
 use Rattle.words.specs.Ast.{Token}
 use Rattle.words.specs.Record.{field_of, span_at, token_at, most_text, in_place}
 use Rattle.tree.specs.Rules.{rule_of, may_be_at, in_range}
 use Rattle.tree.specs.Check.{records_of, shape_of}
-use Rattle.tree.specs.declared.Shape.TheVariants.{Fine}
 use Rattle.tree.specs.At.{Leaf, Headed}
 use Rattle.tree.proofs.Bundle.{fine_spells}
 use Rattle.definition.specs.ProgramCheck.{is_text, is_position}
@@ -70,7 +70,7 @@ inside w i m h = go (dec_lt (i * 4 + 1) (length w))
     go (no l) = absurd (let x : length w ≤ i * 4 + 1 = omega (arith, l) in let e : get_or w (i * 4 + 1) 0 ≡ 0 = get_or-eq_default w 0 x in
         let y : 0 < get_or w (i * 4 + 1) 0 = h in omega (arith, e, y))
 
-pub fine_ranged : (w : List ℕ) → shape_of w ≡ Fine → (i : ℕ) → 0 < span_at w i → Ranged (token_at w i)
+pub fine_ranged : (w : List ℕ) → shape_of w ≡ Ok tt → (i : ℕ) → 0 < span_at w i → Ranged (token_at w i)
 fine_ranged w f i l = let S = fine_spells w f in record { ranged = S.ranges i (inside w i S.whole l) }
 
 -- the kind of a node's token

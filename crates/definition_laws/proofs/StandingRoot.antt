@@ -9,12 +9,12 @@ use mathlib.Core.Option.{Option, none}
 use mathlib.Core.List.{List, [], ◌∷◌, append-nil}
 use lib.ListN.{length, get_or, length-map, get_or-map}
 use lib.Dec.{eqb, eqb→eq}
+use Rattle.std.specs.Prelude.{Result, Ok}
+use Rattle.words.specs.declared.row.Refused.{Refused}
 use Rattle.words.specs.Ast.{Document}
 use Rattle.words.specs.Areas.{constants_area, errors_area, books_area}
 use Rattle.tree.specs.Check.{shape_of}
 use Rattle.tree.specs.Reading.{documents_of}
-use Rattle.tree.specs.declared.Shape.{Shape}
-use Rattle.tree.specs.declared.Shape.TheVariants.{Fine}
 use Rattle.definition.specs.Uses.{Limits, using'}
 use Rattle.definition.specs.Prior.{file_numbers}
 use Rattle.definition.specs.Book.{Context, has_text, book_count}
@@ -46,12 +46,12 @@ root_needs_none standing root others h =
     ∙ nothing_needed (length (root ∷ others)) standing (root ∷ others)
 
 -- a bundle that rows 2 to 5 let pass, whose root stands in a context
-pub root_delivers : (c : Context) (w lengths : List ℕ) (root : Document) (others : List Document) → Stands lengths c → shape_of w ≡ Fine
+pub root_delivers : (c : Context) (w lengths : List ℕ) (root : Document) (others : List Document) → Stands lengths c → shape_of w ≡ Ok tt
     → twice [] w (document_places w) ≡ none → documents_of w ≡ root ∷ others → has_text root.filename (loaded_of c) ≡ true
     → answer_from c w lengths ≡ Delivery c
 unfolding answer_from answer_bundle compile_needed drive
 root_delivers c w lengths root others s fine once spelt stands =
-    ap (λ (x : Shape). answer_shape x w l c) fine
+    ap (λ (x : Result (Unit {0}) Refused). answer_shape x w l c) fine
     ∙ ap (λ (x : Option ℕ). answer_twice x w l c) once
     ∙ ap (λ (ds : List Document). answer_documents ds l c) spelt
     ∙ ap (λ (ns : List ℕ). answer_needed (missing (root ∷ others) ns) ns (root ∷ others) l c) (root_needs_none (loaded_of c) root others stands)
@@ -68,7 +68,7 @@ module _ (strict : Bool) (p : Program) (thirteen : length p.areas ≡ 13) (passe
   abbrev c : Context
   c = context_of strict p
 
-  module _ (w : List ℕ) (root : Document) (others : List Document) (fine : shape_of w ≡ Fine) (once : twice [] w (document_places w) ≡ none)
+  module _ (w : List ℕ) (root : Document) (others : List Document) (fine : shape_of w ≡ Ok tt) (once : twice [] w (document_places w) ≡ none)
       (spelt : documents_of w ≡ root ∷ others) (stands : has_text root.filename (file_numbers (lent_entries p books_area)) ≡ true) where
     pub root_stands : lay_on strict w p ≡ Checked (Delivery c)
     unfolding lay_on context_of

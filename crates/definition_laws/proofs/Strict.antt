@@ -9,13 +9,13 @@ use mathlib.Core.List.{List, [], ◌∷◌, ◌++◌}
 use lib.ListN.{length}
 use lib.Dec.{ltb}
 use borrow.Author.Tests.{lt-ltb, le-ltb}
+use Rattle.std.specs.Prelude.{Result, Ok, Err}
+use Rattle.words.specs.declared.row.Refused.{Refused}
 use Rattle.words.specs.Ast.{Definition, LocalDefinition, IncludeDefinition, ModelDefinition}
 use Rattle.words.specs.Ast.{PublicModelDefinition, PlainFunction, PublicFunction, ImplementDefinition, ApplyDefinition, Document}
 use Rattle.words.specs.Areas.{widths}
 use Rattle.tree.specs.Check.{shape_of}
 use Rattle.tree.specs.Reading.{documents_of}
-use Rattle.tree.specs.declared.Shape.{Shape}
-use Rattle.tree.specs.declared.Shape.TheVariants.{Fine, Refused}
 use Rattle.definition.specs.FunctionState.{or_else}
 use Rattle.definition.specs.Uses.{Use, Limits, using', limit_of, first_over, over_by, first_not_public, not_public_area}
 use Rattle.definition.specs.Compiler.{Error}
@@ -255,9 +255,9 @@ strict_or_row_11 c w lengths = shape (shape_of w)
     doubles (some i) = equal refl
     doubles none = documents (documents_of w)
 
-    shape : (s : Shape) → Modes (answer_shape s w l c) (answer_shape s w l (in_mode false c))
-    shape (Refused r p) = equal refl
-    shape Fine = doubles (twice [] w (document_places w))
+    shape : (s : Result (Unit {0}) Refused) → Modes (answer_shape s w l c) (answer_shape s w l (in_mode false c))
+    shape (Err found) = equal refl
+    shape (Ok u) = doubles (twice [] w (document_places w))
 
 -- 'Strict programs equal the present ones whenever both are delivered': reply and every word; what is delivered in strict mode is delivered in the present one
 pub strict_equals_present : (w lengths : List ℕ) (c : Context) → answer true w lengths ≡ Delivery c

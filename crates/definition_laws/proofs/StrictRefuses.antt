@@ -9,12 +9,12 @@ use mathlib.Core.List.{List, [], ◌∷◌, ◌++◌, append_assoc, append-nil}
 use lib.ListN.{length}
 use lib.Dec.{eqb, ltb}
 use borrow.Author.Tests.{eq-eqb, eqb-true}
+use Rattle.std.specs.Prelude.{Result, Ok, Err}
+use Rattle.words.specs.declared.row.Refused.{Refused}
 use Rattle.words.specs.Ast.{Token, Alias, Definition, LocalDefinition, IncludeDefinition, ModelDefinition}
 use Rattle.words.specs.Ast.{PublicModelDefinition, PlainFunction, PublicFunction, ImplementDefinition, ApplyDefinition, Document}
 use Rattle.tree.specs.Check.{shape_of}
 use Rattle.tree.specs.Reading.{documents_of}
-use Rattle.tree.specs.declared.Shape.{Shape}
-use Rattle.tree.specs.declared.Shape.TheVariants.{Fine, Refused}
 use Rattle.definition.specs.Prior.{Prior, book_index, find_public}
 use Rattle.definition.specs.Uses.{Use, Limits, first_over, first_not_public, not_public_area}
 use Rattle.definition.specs.Compiler.{Error}
@@ -358,6 +358,6 @@ strict_refuses c₀ c w lengths strict = shape (shape_of w)
     doubles (some i) q = absurd (let z : ◌≡◌ {A = ℕ} 0 1 = cc in omega arith)
     doubles none q = documents (documents_of w) q
 
-    shape : (s : Shape) → Public (loaded_of c₀) (documents_of w) c (answer_shape s w l c₀)
-    shape (Refused r p) q = absurd (let z : ◌≡◌ {A = ℕ} 0 1 = cc in omega arith)
-    shape Fine q = doubles (twice [] w (document_places w)) q
+    shape : (s : Result (Unit {0}) Refused) → Public (loaded_of c₀) (documents_of w) c (answer_shape s w l c₀)
+    shape (Err found) q = absurd (let z : ◌≡◌ {A = ℕ} 0 1 = cc in omega arith)
+    shape (Ok u) q = doubles (twice [] w (document_places w)) q

@@ -4,7 +4,7 @@ use mathlib.Core.Path.{◌≡◌, ap, ◌∙◌}
 use mathlib.Core.List.{List}
 use Prim.Native.Nat.{ℕ}
 use Rattle.building.specs.declared.function_state.FunctionState.{FunctionState}
-use Rattle.building.specs.declared.scopes.Found.{Found}
+use Rattle.building.specs.Found.{Found}
 use Rattle.building.specs.Emission.{coded, emit_c, emit_return_c}
 use Rattle.building.specs.Scopes.{Naming, naming, Defines, define_c}
 use Rattle.emitters.specs.Function.{defined, function, function_c}

@@ -1,13 +1,9 @@
 -- What `define_local` answers and leaves, as its by-value form hands it back; and a function of one parameter and one instruction
 use Rattle.std.specs.Prelude.{ℕ, List}
 use Rattle.building.specs.declared.function_state.FunctionState.{FunctionState}
-use Rattle.building.specs.declared.scopes.Defined.{Defined}
-use Rattle.building.specs.declared.scopes.Found.{Found}
 use Rattle.building.specs.Emission.{Coded, coded, emit_c, emit_return_c}
 use Rattle.building.specs.Scopes.{naming, define_c}
-
-abbrev pub defined : Found → FunctionState → Defined
-defined f s = record { found = f; state = s }
+pub use Rattle.building.specs.Scopes.{defined}
 
 -- the state, area 1 and area 9
 pub record Function : Type 0 where

@@ -7,10 +7,13 @@ use native.Mathlib.Decide.{dec_lt, ℕ_discrete}
 use mathlib.Core.Path.{◌≡◌, refl, sym, ap, subst, ◌∙◌}
 use mathlib.Core.Bool.{Bool, true, false, cond, ◌&&◌, ◌||◌}
 use mathlib.Core.Option.{Option, none, some}
+use Rattle.std.specs.Prelude.{None}
 use mathlib.Core.List.{List, [], ◌∷◌, ◌++◌}
 use lib.ListN.{length, get_or, replicate, get_or-eq_default}
 use lib.Dec.{eqb, leb, ltb}
 use borrow.Author.Tests.{ne_eqb, eqb-true, le-leb}
+use Rattle.std.specs.Prelude.{Result, Ok, Err}
+use Rattle.words.specs.declared.row.Refused.{Refused}
 use Rattle.words.specs.Ast.{Token}
 use Rattle.words.specs.Ast.{Binding, Alias, FunctionDefinition, Definition, LocalDefinition, IncludeDefinition, ModelDefinition, PublicModelDefinition}
 use Rattle.words.specs.Ast.{PlainFunction, PublicFunction, ImplementDefinition, ApplyDefinition, Document}
@@ -20,8 +23,6 @@ use Rattle.words.specs.Areas.{errors_area}
 use Rattle.tree.specs.Rules.{Slot, slots, nothing, rule_of, may_be_at, has, may_stand, slot_after, goes_on, is_due, first_slot, in_range}
 use Rattle.tree.specs.Check.{records_of, shape_of, lacks_of, within_of}
 use Rattle.tree.specs.Reading.{documents_of}
-use Rattle.tree.specs.declared.Shape.{Shape}
-use Rattle.tree.specs.declared.Shape.TheVariants.{Fine, Refused}
 use Rattle.tree.specs.At.{Leaf, Headed, RunAt, NameAt, single, double}
 use Rattle.tree.specs.At.{ValueAt, BindingAt, size_f, FunctionAt, size_d, DefinitionAt, size_doc, DocumentAt}
 use Rattle.tree.proofs.Spans.{within_true}
@@ -58,7 +59,7 @@ use Rattle.definition_laws.proofs.KnownSteps.{Admits}
 use Rattle.error_lines.specs.Known.{stands_in, is_kind, known_token, is_text, known}
 use Rattle.error_lines.specs.Lines.{error_at, is_zeros, errors_from, errors_in}
 use Rattle.error_lines.specs.Words.{first_unknown}
-use Rattle.error_lines.proofs.Knowing.{error}
+use Rattle.error_lines.proofs.Lists.{error}
 use Rattle.error_lines.proofs.Injective.{error_eq}
 
 abbrev AllKnown : List Error → Type 0
@@ -375,7 +376,7 @@ none_due w (suc n) j e b = go (dec_lt j e) (within_of j (span_at w j) e) refl (n
         let x = within_true j (span_at w j) e q in
         lacks_on w 1 j e h q ∙ subst (λ s. lacks_of w s (j + span_at w j) e ≡ false) (sym (after_1 (kind_at w j))) (r (omega arith))
 
-documents_children : (w : List ℕ) → shape_of w ≡ Fine → Children w 1 1 0 (records_of w)
+documents_children : (w : List ℕ) → shape_of w ≡ Ok tt → Children w 1 1 0 (records_of w)
 documents_children w f =
     let p = fine_passed w f in
     record {
@@ -386,7 +387,7 @@ documents_children w f =
       ordered = omega arith;
     }
 
-record-known : (w : List ℕ) → shape_of w ≡ Fine → (i : ℕ) → 0 < span_at w i → KnownToken (token_at w i)
+record-known : (w : List ℕ) → shape_of w ≡ Ok tt → (i : ℕ) → 0 < span_at w i → KnownToken (token_at w i)
 unfolding known known_token
 record-known w f i l = record { range = fine_ranged w f i l; blamed = λ n a b. blamed n a b }
   where
@@ -493,7 +494,7 @@ abbrev AnswerKnown : Answer → Type 0
 AnswerKnown (Delivery c) = Unit {0}
 AnswerKnown (Refusal n p es) = AllKnown es
 
-document_text : (w : List ℕ) → shape_of w ≡ Fine → (i : ℕ) → 0 < span_at w i → kind_at w i ≡ 1 → TextNumber (value_at w i)
+document_text : (w : List ℕ) → shape_of w ≡ Ok tt → (i : ℕ) → 0 < span_at w i → kind_at w i ≡ 1 → TextNumber (value_at w i)
 unfolding in_range
 document_text w f i l e =
     let S = fine_spells w f in
@@ -505,9 +506,9 @@ answer_known : (c : Context) (w lengths : List ℕ) → AnswerKnown (answer_from
 unfolding answer_from answer_bundle
 answer_known c w lengths = shape (shape_of w) refl
   where
-    shape : (s : Shape) → shape_of w ≡ s → AnswerKnown (answer_shape s w (limits_of lengths) c)
-    shape (Refused r p) q = nil
-    shape Fine q = two (twice [] w (document_places w))
+    shape : (s : Result (Unit {0}) Refused) → shape_of w ≡ s → AnswerKnown (answer_shape s w (limits_of lengths) c)
+    shape (Err found) q = nil
+    shape (Ok u) q = two (twice [] w (document_places w))
       where
         here : (i : ℕ) → 0 < span_at w i → KnownToken (token_at w i)
         here = record-known w q
@@ -571,7 +572,7 @@ no_errors (suc (suc zero)) = refl
 no_errors (suc (suc (suc zero))) = refl
 no_errors (suc (suc (suc (suc m)))) = errors_cons 0 0 0 0 (replicate m 0)
 
-listed_known : (es : List Error) → AllKnown es → (m i j : ℕ) → first_unknown j (errors_in (flat (entries_from error_entry i es) ++ replicate m 0)) ≡ none
+listed_known : (es : List Error) → AllKnown es → (m i j : ℕ) → first_unknown j (errors_in (flat (entries_from error_entry i es) ++ replicate m 0)) ≡ None
 unfolding first_unknown
 listed_known [] nil m i j = ap (first_unknown j) (no_errors m)
 listed_known (e ∷ es) (p & ps) m i j =
@@ -579,8 +580,8 @@ listed_known (e ∷ es) (p & ps) m i j =
     (flat (entries_from error_entry (i + 1) es) ++ replicate m 0))
     ∙ go (is_zeros e) (listed_known es ps m (i + 1) (j + 1))
   where
-    go : (t : Bool) → first_unknown (j + 1) (errors_in (flat (entries_from error_entry (i + 1) es) ++ replicate m 0)) ≡ none
-        → first_unknown j (cond t [] (e ∷ errors_in (flat (entries_from error_entry (i + 1) es) ++ replicate m 0))) ≡ none
+    go : (t : Bool) → first_unknown (j + 1) (errors_in (flat (entries_from error_entry (i + 1) es) ++ replicate m 0)) ≡ None
+        → first_unknown j (cond t [] (e ∷ errors_in (flat (entries_from error_entry (i + 1) es) ++ replicate m 0))) ≡ None
     go true r = refl
     go false r = simp p r
 
@@ -593,7 +594,7 @@ area_known P (n ∷ ns) (t ∷ ts) zero z f = f n
 area_known P (n ∷ ns) (t ∷ ts) (suc k) z f = area_known P ns ts k z f
 
 abbrev NoneUnknown : List ℕ → Type 0
-NoneUnknown area = first_unknown 0 (errors_in area) ≡ none
+NoneUnknown area = first_unknown 0 (errors_in area) ≡ None
 
 answer_left : (lengths : List ℕ) (a : Answer) → AnswerKnown a → NoneUnknown (get_or (areas_of lengths a) errors_area [])
 unfolding areas_of tables_of error_tables
@@ -606,11 +607,11 @@ answer_left lengths (Refusal n p es) k =
 -- onto any standing program, over any words and areas of any lengths: the list that the call leaves in area 11 has no error that `errors_in_words`
 -- does not know
 pub standing_compiled_known : (c : Context) (w lengths : List ℕ)
-    → first_unknown 0 (errors_in (get_or (areas_of lengths (answer_from c w lengths)) errors_area [])) ≡ none
+    → first_unknown 0 (errors_in (get_or (areas_of lengths (answer_from c w lengths)) errors_area [])) ≡ None
 standing_compiled_known c w lengths = answer_left lengths (answer_from c w lengths) (answer_known c w lengths)
 
 -- and onto none
 pub compiled_known : (strict : Bool) (w lengths : List ℕ) → first_unknown 0 (errors_in (get_or (areas_of lengths (answer strict w lengths)) errors_area [])) ≡
-    none
+    None
 unfolding answer
 compiled_known strict w lengths = standing_compiled_known (new_context strict) w lengths

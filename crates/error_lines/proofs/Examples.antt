@@ -2,7 +2,7 @@
 use Prim.Native.Nat.{ℕ, zero, suc}
 use mathlib.Core.Path.{◌≡◌, refl}
 use mathlib.Core.Bool.{Bool, true, cond}
-use mathlib.Core.Option.{none, some}
+use Rattle.std.specs.Prelude.{Some, None}
 use mathlib.Core.List.{List, [], ◌∷◌, ◌++◌}
 use Rattle.words.specs.Record.{pack_position, in_place}
 use Rattle.tree.specs.Rules.{in_range, may_be_at}
@@ -37,27 +37,27 @@ unfolding escaped escape
 escapes = refl
 
 -- half an entry; a start at the end; a start past it; an end past it; a sum past 2^64; number 0
-half_an_entry : text_at (0 ∷ []) (97 ∷ []) 1 ≡ none
+half_an_entry : text_at (0 ∷ []) (97 ∷ []) 1 ≡ None
 unfolding text_at
 half_an_entry = refl
 
-empty_at_the_end : text_at (1 ∷ 0 ∷ []) (97 ∷ []) 1 ≡ some []
+empty_at_the_end : text_at (1 ∷ 0 ∷ []) (97 ∷ []) 1 ≡ Some []
 unfolding text_at
 empty_at_the_end = refl
 
-start_past : text_at (2 ∷ 0 ∷ []) (97 ∷ []) 1 ≡ none
+start_past : text_at (2 ∷ 0 ∷ []) (97 ∷ []) 1 ≡ None
 unfolding text_at
 start_past = refl
 
-end_past : text_at (0 ∷ 2 ∷ []) (97 ∷ []) 1 ≡ none
+end_past : text_at (0 ∷ 2 ∷ []) (97 ∷ []) 1 ≡ None
 unfolding text_at
 end_past = refl
 
-no_sum_wraps : text_at (18446744073709551615 ∷ 1 ∷ []) (97 ∷ []) 1 ≡ none
+no_sum_wraps : text_at (18446744073709551615 ∷ 1 ∷ []) (97 ∷ []) 1 ≡ None
 unfolding text_at
 no_sum_wraps = refl
 
-no_text_0 : text_at (0 ∷ 1 ∷ []) (97 ∷ []) 0 ≡ none
+no_text_0 : text_at (0 ∷ 1 ∷ []) (97 ∷ []) 0 ≡ None
 unfolding text_at
 no_text_0 = refl
 

@@ -5,7 +5,7 @@ use native.Mathlib.Omega.{arith}
 use native.Mathlib.Decide.{dec_lt, ℕ_discrete}
 use mathlib.Core.Path.{◌≡◌, refl, sym, ap, subst, ◌∙◌}
 use mathlib.Core.Bool.{Bool, true, false, cond, ◌&&◌}
-use mathlib.Core.Option.{Option, none, some}
+use Rattle.std.specs.Prelude.{Option, Some, None}
 use mathlib.Core.List.{List, [], ◌∷◌, ◌++◌, append_assoc}
 use lib.ListN.{length, get_or, replicate}
 use lib.Seq.{take-append_seam}
@@ -20,7 +20,7 @@ use Rattle.error_lines.specs.Messages.{messages, message}
 use Rattle.error_lines.specs.Texts.{plain, text_field, TextsDiffer}
 use Rattle.error_lines.specs.Lines.{error_at, is_zeros, errors_from, errors_in, file_of, shown_value, value_field, error_line, lines_of}
 use Rattle.error_lines.specs.Words.{first_unknown, delivered, in_words, written, AllBelow}
-use Rattle.error_lines.proofs.Knowing.{error}
+use Rattle.error_lines.proofs.Lists.{error}
 use Rattle.error_lines.proofs.Reading.{cons_tail, Free, end, more, free_split, Apart, free_plain, plain_same, text_split}
 
 apart_44 : Apart 44
@@ -270,22 +270,22 @@ module _ (table bytes : List ℕ) (B : AllBelow 256 bytes) (D : TextsDiffer tabl
 
 -- the list in an area of words of 64 bits, where no error is unknown
 
-readable : (w : List ℕ) → AllBelow word_end w → (n i : ℕ) → first_unknown i (errors_from w i n) ≡ none → Readable (errors_from w i n)
+readable : (w : List ℕ) → AllBelow word_end w → (n i : ℕ) → first_unknown i (errors_from w i n) ≡ None → Readable (errors_from w i n)
 unfolding first_unknown errors_from
 readable w h zero i e = none'
 readable w h (suc n) i e = go (is_zeros (error_at w i)) (known (error_at w i)) refl (readable w h n (i + 1)) e
   where
-    go : (t x : Bool) → known (error_at w i) ≡ x → (first_unknown (i + 1) (errors_from w (i + 1) n) ≡ none → Readable (errors_from w (i + 1) n))
-        → first_unknown i (cond t [] (error_at w i ∷ errors_from w (i + 1) n)) ≡ none → Readable (cond t [] (error_at w i ∷ errors_from w (i + 1) n))
+    go : (t x : Bool) → known (error_at w i) ≡ x → (first_unknown (i + 1) (errors_from w (i + 1) n) ≡ None → Readable (errors_from w (i + 1) n))
+        → first_unknown i (cond t [] (error_at w i ∷ errors_from w (i + 1) n)) ≡ None → Readable (cond t [] (error_at w i ∷ errors_from w (i + 1) n))
     go true x q r e = none'
     go false true q r e =
         more' q (record { position = h (i * 4 + 1); kind = h (i * 4 + 2); value = h (i * 4 + 3) }) (r (simp q at e))
-    go false false q r e = absurd (let x : some i ≡ none = simp q at e in let z : ◌≡◌ {A = ℕ} 0 1 = cc x in omega (arith, z))
+    go false false q r e = absurd (let x : Some i ≡ None = simp q at e in let z : ◌≡◌ {A = ℕ} 0 1 = cc x in omega (arith, z))
 
 -- what a delivery has written
 
 pub record Delivers (errors table bytes : List ℕ) (file room : ℕ) : Type 0 where
-  pub known' : first_unknown 0 (errors_in errors) ≡ none
+  pub known' : first_unknown 0 (errors_in errors) ≡ None
   pub lines : written (in_words errors file table bytes room) ≡ lines_of table bytes file (errors_in errors)
 
 delivers : (errors table bytes : List ℕ) (file room : ℕ) → (in_words errors file table bytes room).reply.number ≡ 0 → Delivers errors table bytes file room
@@ -300,10 +300,10 @@ delivers errors table bytes file room h = go (first_unknown 0 (errors_in errors)
     fit false q e = absurd (let x : ◌≡◌ {A = ℕ} 9 0 = rw q at e in omega (arith, x))
 
     go : (o : Option ℕ) → first_unknown 0 (errors_in errors) ≡ o → Delivers errors table bytes file room
-    go (some i) q = absurd (let x : ◌≡◌ {A = ℕ} 3 0 = rw q at h in omega (arith, x))
-    go none q = record { known' = q; lines = rw q (fit (leb (length ls) room) refl (rw q at h)) }
+    go (Some i) q = absurd (let x : ◌≡◌ {A = ℕ} 3 0 = rw q at h in omega (arith, x))
+    go None q = record { known' = q; lines = rw q (fit (leb (length ls) room) refl (rw q at h)) }
 
-whole : (w : List ℕ) → AllBelow word_end w → first_unknown 0 (errors_in w) ≡ none → Readable (errors_in w)
+whole : (w : List ℕ) → AllBelow word_end w → first_unknown 0 (errors_in w) ≡ None → Readable (errors_in w)
 unfolding errors_in
 whole w h e = readable w h (length w / 4) 0 e
 

@@ -3,7 +3,6 @@ pub mod Putting
 pub mod TextFields
 pub mod Lists
 pub mod Whole
-pub mod Knowing
 pub mod Walking
 pub mod Messages
 pub mod Reading

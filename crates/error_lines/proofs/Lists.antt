@@ -1,27 +1,24 @@
 -- The list of errors in an area, entry by entry: what a loop has left of it; and kinds, slot by slot. Assumes nothing.
-use Prim.Native.Nat.{ℕ, suc, ◌+◌, ◌-◌, ◌/◌, ◌≤◌, ◌<◌}
+use Prim.Native.Nat.{ℕ, zero, suc, ◌+◌, ◌-◌, ◌/◌, ◌≤◌, ◌<◌}
 use native.Mathlib.Omega.{arith}
 use mathlib.Core.Path.{◌≡◌, refl, sym, ap, ◌∙◌}
 use mathlib.Core.Bool.{Bool, true, false, cond, ◌||◌}
-use mathlib.Core.Option.{none, some}
+use Rattle.std.specs.Prelude.{Some, None}
 use mathlib.Core.List.{List, [], ◌∷◌, ◌++◌}
 use lib.ListN.{length, drop, drop_of_length-le}
 use lib.Seq.{drop-cons}
+use Rattle.std.specs.List.{list_any, range_with_len}
 use Rattle.tree.specs.Rules.{slots, nothing, slot_of, has, may_stand}
 use Rattle.definition.specs.Compiler.{Error}
 use Rattle.error_lines.specs.Known.{stands_in, is_kind, known}
 use Rattle.error_lines.specs.Lines.{error_at, is_zeros, errors_from, errors_in, error_line, lines_of}
 use Rattle.error_lines.specs.Words.{first_unknown}
 
+-- an error by its four words
+abbrev pub error : ℕ → ℕ → ℕ → ℕ → Error
+error n p k v = record { number = n; token = record { position = p; kind = k; value = v } }
+
 -- kinds
-
-or_no : (b x : Bool) → b ≡ false → (b || x) ≡ x
-or_no true x e = absurd (let z : ◌≡◌ {A = ℕ} 0 1 = cc e in omega (arith, z))
-or_no false x e = refl
-
-or_yes : (b x : Bool) → b ≡ true → (b || x) ≡ true
-or_yes true x e = refl
-or_yes false x e = absurd (let z : ◌≡◌ {A = ℕ} 0 1 = cc e in omega (arith, z))
 
 stands_step : (k i : ℕ) → i < length slots → stands_in k (drop i slots) ≡ (may_stand i k || stands_in k (drop (i + 1) slots))
 unfolding stands_in may_stand
@@ -29,23 +26,18 @@ stands_step k i l =
     let e : suc i ≡ i + 1 = omega arith in
     ap (stands_in k) (drop-cons slots i nothing l) ∙ ap (λ (j : ℕ). has k (slot_of i).kinds || stands_in k (drop j slots)) e
 
-pub stands_more : (k i : ℕ) {x : Bool} → i < 24 → x ≡ may_stand i k → x ≡ false → stands_in k (drop i slots) ≡ is_kind k
-    → stands_in k (drop (i + 1) slots) ≡ is_kind k
-stands_more k i l h e s = sym (stands_step k i l ∙ or_no (may_stand i k) _ (sym h ∙ e)) ∙ s
-
-pub stands_here : (k i : ℕ) {x : Bool} → i < 24 → x ≡ may_stand i k → x ≡ true → stands_in k (drop i slots) ≡ is_kind k → true ≡ is_kind k
-stands_here k i l h e s = sym (stands_step k i l ∙ or_yes (may_stand i k) _ (sym h ∙ e)) ∙ s
-
-pub stands_begin : (k : ℕ) → stands_in k (drop 0 slots) ≡ is_kind k
-unfolding is_kind
-stands_begin k = refl
-
 past_all : (i : ℕ) → 24 ≤ i → drop i slots ≡ []
 past_all i l = drop_of_length-le slots l
 
-pub stands_end : (k i : ℕ) → 24 ≤ i → stands_in k (drop i slots) ≡ is_kind k → false ≡ is_kind k
+stands_from : (k n i : ℕ) → i + n ≡ 24 → list_any (λ (j : ℕ). may_stand j k) (range_with_len i n) ≡ stands_in k (drop i slots)
 unfolding stands_in
-stands_end k i l s = sym (ap (stands_in k) (past_all i l)) ∙ s
+stands_from k zero i e = sym (ap (stands_in k) (past_all i (omega (arith, e))))
+stands_from k (suc n) i e =
+    ap (λ (b : Bool). may_stand i k || b) (stands_from k n (i + 1) (omega (arith, e))) ∙ sym (stands_step k i (omega (arith, e)))
+
+pub kind_stands : (k : ℕ) → list_any (λ (j : ℕ). may_stand j k) (range_with_len 0 24) ≡ is_kind k
+unfolding is_kind
+kind_stands k = stands_from k 24 0 refl
 
 -- the list
 
@@ -75,19 +67,19 @@ module _ (w : List ℕ) where
 
 -- what is left of the search for an unknown error
 
-unknown_by : (i : ℕ) (e : Error) (es : List Error) → first_unknown i (e ∷ es) ≡ cond (known e) (first_unknown (i + 1) es) (some i)
+unknown_by : (i : ℕ) (e : Error) (es : List Error) → first_unknown i (e ∷ es) ≡ cond (known e) (first_unknown (i + 1) es) (Some i)
 unfolding first_unknown
 unknown_by i e es = refl
 
-pub unknown_none : (i : ℕ) {es : List Error} → es ≡ [] → first_unknown i es ≡ none
+pub unknown_none : (i : ℕ) {es : List Error} → es ≡ [] → first_unknown i es ≡ None
 unfolding first_unknown
 unknown_none i e = ap (first_unknown i) e
 
 pub unknown_more : (i : ℕ) (e : Error) {l : List Error} (es : List Error) → l ≡ e ∷ es → known e ≡ true → first_unknown i l ≡ first_unknown (i + 1) es
-unknown_more i e es q h = ap (first_unknown i) q ∙ (unknown_by i e es ∙ ap (λ (t : Bool). cond t (first_unknown (i + 1) es) (some i)) h)
+unknown_more i e es q h = ap (first_unknown i) q ∙ (unknown_by i e es ∙ ap (λ (t : Bool). cond t (first_unknown (i + 1) es) (Some i)) h)
 
-pub unknown_here : (i : ℕ) (e : Error) {l : List Error} (es : List Error) → l ≡ e ∷ es → known e ≡ false → first_unknown i l ≡ some i
-unknown_here i e es q h = ap (first_unknown i) q ∙ (unknown_by i e es ∙ ap (λ (t : Bool). cond t (first_unknown (i + 1) es) (some i)) h)
+pub unknown_here : (i : ℕ) (e : Error) {l : List Error} (es : List Error) → l ≡ e ∷ es → known e ≡ false → first_unknown i l ≡ Some i
+unknown_here i e es q h = ap (first_unknown i) q ∙ (unknown_by i e es ∙ ap (λ (t : Bool). cond t (first_unknown (i + 1) es) (Some i)) h)
 
 -- lines
 

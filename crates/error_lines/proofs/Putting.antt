@@ -1,12 +1,13 @@
--- Writing from a place on: nothing, a byte, one part after the other, and what a loop has left to write. Assumes nothing.
+-- Writing from a place on: nothing, one part after the other, and what a loop has left to write. Assumes nothing.
 use Prim.Native.Nat.{ℕ, suc, ◌+◌, ◌-◌, ◌≤◌, ◌<◌}
 use native.Mathlib.Omega.{arith}
 use native.Mathlib.Decide.{dec_lt}
 use mathlib.Core.Path.{◌≡◌, refl, sym, ap, subst, ◌∙◌}
 use mathlib.Core.List.{List, [], ◌∷◌, ◌++◌, append_assoc, append-nil}
-use lib.ListN.{length, take, drop, get_or, set, length-append, length-set, length-drop, drop_of_length-le}
-use lib.Seq.{drop-cons, take-suc-set, take_all}
-use Rattle.error_lines.specs.Puts.{Puts}
+use lib.ListN.{length, take, drop, get_or, length-append, length-drop, drop_of_length-le}
+use lib.Seq.{drop-cons, take_all}
+use Rattle.error_lines.specs.Puts.{Puts, Writes}
+use Rattle.error_lines.specs.declared.buffer.Sink.{Sink}
 
 pub puts_none : (at : ℕ) (out : List ℕ) → Puts [] at out out at
 puts_none at out = record {
@@ -14,22 +15,6 @@ puts_none at out = record {
   place = λ h. omega arith;
   bytes = λ h. sym (append-nil (take at out));
   full = λ h. omega (arith, h);
-}
-
-pub puts_byte : (at b : ℕ) (out : List ℕ) → at < length out → Puts (b ∷ []) at out (set out at b) (at + 1)
-puts_byte at b out l = record {
-  same = length-set out at b;
-  place = λ h. omega arith;
-  bytes = λ h. let e : at + 1 ≡ suc at = omega arith in ap (λ (k : ℕ). take k (set out at b)) e ∙ take-suc-set out at b l;
-  full = λ h. omega (arith, h, l);
-}
-
-pub puts_full : (at b : ℕ) (out : List ℕ) → length out ≤ at → Puts (b ∷ []) at out out (length out + 1)
-puts_full at b out l = record {
-  same = refl;
-  place = λ h. absurd (omega (arith, h, l));
-  bytes = λ h. absurd (omega (arith, h, l));
-  full = λ h. omega arith;
 }
 
 pub puts_then : (a b : List ℕ) {at m r : ℕ} {o p q : List ℕ} → Puts a at o p m → Puts b m p q r → Puts (a ++ b) at o q r
@@ -53,24 +38,27 @@ puts_then a b {at} {m} {r} {o} {p} {q} A B =
         let z = B.full (omega (arith, y, s, n, h)) in
         omega (arith, z, s)
 
+-- the same of a sink
+pub writes_none : (s : Sink) → Writes [] s s
+writes_none s = record { same_buffer = refl; puts = puts_none s.place s.out.now }
+
+pub writes_then : (a b : List ℕ) {s t u : Sink} → Writes a s t → Writes b t u → Writes (a ++ b) s u
+writes_then a b A B = record { same_buffer = B.same_buffer ∙ A.same_buffer; puts = puts_then a b A.puts B.puts }
+
 -- one text for another
-pub puts_as : {a b : List ℕ} {at r : ℕ} {o q : List ℕ} → a ≡ b → Puts a at o q r → Puts b at o q r
-puts_as {a} {b} {at} {r} {o} {q} e P = subst (λ (t : List ℕ). Puts t at o q r) e P
+pub writes_as : {a b : List ℕ} {s t : Sink} → a ≡ b → Writes a s t → Writes b s t
+writes_as {a} {b} {s} {t} e W = subst (λ (x : List ℕ). Writes x s t) e W
 
 -- whoever writes `rest` from here has written `text` from there
-pub record Rest (text : List ℕ) (at₀ : ℕ) (out₀ rest : List ℕ) (at : ℕ) (out : List ℕ) : Type 0 where
-  pub long : length out ≡ length out₀
-  pub whole : (after : List ℕ) (r : ℕ) → Puts rest at out after r → Puts text at₀ out₀ after r
+pub record Rest (text : List ℕ) (first : Sink) (rest : List ℕ) (here : Sink) : Type 0 where
+  pub whole : (after : Sink) → Writes rest here after → Writes text first after
 
-pub rest_begin : (text : List ℕ) (at : ℕ) (out : List ℕ) → Rest text at out text at out
-rest_begin text at out = record { long = refl; whole = λ after r h. h }
+pub rest_more : (a b rest : List ℕ) {text : List ℕ} {first here next : Sink} → rest ≡ a ++ b → Rest text first rest here → Writes a here next
+    → Rest text first b next
+rest_more a b rest e R A = record { whole = λ after B. R.whole after (writes_as (sym e) (writes_then a b A B)) }
 
-pub rest_more : (a b rest : List ℕ) {text : List ℕ} {at₀ at at' : ℕ} {out₀ out out' : List ℕ} → rest ≡ a ++ b → Rest text at₀ out₀ rest at out
-    → Puts a at out out' at' → Rest text at₀ out₀ b at' out'
-rest_more a b rest e R A = record { long = A.same ∙ R.long; whole = λ after r B. R.whole after r (puts_as (sym e) (puts_then a b A B)) }
-
-pub rest_end : (rest : List ℕ) {text : List ℕ} {at₀ at : ℕ} {out₀ out : List ℕ} → rest ≡ [] → Rest text at₀ out₀ rest at out → Puts text at₀ out₀ out at
-rest_end rest {text} {at₀} {at} {out₀} {out} e R = R.whole out at (puts_as (sym e) (puts_none at out))
+pub rest_end : (rest : List ℕ) {text : List ℕ} {first here : Sink} → rest ≡ [] → Rest text first rest here → Writes text first here
+rest_end rest {here = here} e R = R.whole here (writes_as (sym e) (writes_none here))
 
 -- the bytes from place i on: the one there, and those after it
 pub bytes_more : (bytes : List ℕ) (i : ℕ) → i < length bytes → drop i bytes ≡ (get_or bytes i 0 ∷ []) ++ drop (i + 1) bytes

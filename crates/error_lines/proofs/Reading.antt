@@ -5,14 +5,14 @@ use native.Mathlib.Decide.{dec_lt, ℕ_discrete}
 use mathlib.Core.Path.{◌≡◌, refl, sym, ap, subst, ◌∙◌}
 use mathlib.Core.Logic.{◌⊎◌, inl, inr}
 use mathlib.Core.Bool.{Bool, true, false, cond}
-use mathlib.Core.Option.{Option, none, some}
+use Rattle.std.specs.Prelude.{Option, Some, None}
 use mathlib.Core.List.{List, [], ◌∷◌, ◌++◌, append_assoc}
 use lib.ListN.{length, take, drop, get_or, replicate, length-take, get_or-eq_default}
 use lib.Seq.{get_or-take, get_or-drop}
 use lib.Dec.{eqb, leb}
 use Rattle.column_lines.specs.Numeral.{word_end, digit_of, negative_of, numeral, read_numeral}
 use Rattle.column_lines.specs.Spelling.{magnitude_of, lead_of, rest_of, spelled}
-use Rattle.column_lines.specs.declared.number.Number.TheVariants.{Word}
+use Rattle.std.specs.Prelude.{Some}
 use Rattle.column_lines.proofs.Digits.{numeral_spelled}
 use Rattle.column_lines.proofs.Numerals.{read_written}
 use Rattle.column_lines.proofs.Again.{value_fits}
@@ -103,13 +103,13 @@ read_after s (b ∷ l) = go (eqb b 32) refl (read_after s l)
     go true e r = simp e r
     go false e r = simp e
 
-read_plain : (s : Bool) (word : ℕ) → word < word_end → read_numeral s (plain s word) ≡ Word word
+read_plain : (s : Bool) (word : ℕ) → word < word_end → read_numeral s (plain s word) ≡ Some word
 unfolding plain
 read_plain s word h = read_after s (numeral 21 s word) ∙ read_written 21 s word h (value_fits s word h)
 
 pub plain_same : (s : Bool) (a b : ℕ) → a < word_end → b < word_end → plain s a ≡ plain s b → a ≡ b
 plain_same s a b h k e =
-    let w : Word a ≡ Word b = sym (read_plain s a h) ∙ (ap (read_numeral s) e ∙ read_plain s b k) in
+    let w : Some a ≡ Some b = sym (read_plain s a h) ∙ (ap (read_numeral s) e ∙ read_plain s b k) in
     cc w
 
 -- escapes
@@ -205,11 +205,11 @@ below_part l n start len h z j = go (dec_lt j len)
         let e : get_or (take len (drop start l)) j 0 ≡ 0 = get_or-eq_default (take len (drop start l)) 0 m in
         omega (arith, e, z)
 
-text_below : (table bytes : List ℕ) (n : ℕ) (t : List ℕ) → AllBelow 256 bytes → text_at table bytes n ≡ some t → AllBelow 256 t
+text_below : (table bytes : List ℕ) (n : ℕ) (t : List ℕ) → AllBelow 256 bytes → text_at table bytes n ≡ Some t → AllBelow 256 t
 unfolding text_at
 text_below table bytes n t h = go (in_table table n) (leb (start_of table n + length_of table n) (length bytes))
   where
-    go : (a b : Bool) → cond a (cond b (some (take (length_of table n) (drop (start_of table n) bytes))) none) none ≡ some t → AllBelow 256 t
+    go : (a b : Bool) → cond a (cond b (Some (take (length_of table n) (drop (start_of table n) bytes))) None) None ≡ Some t → AllBelow 256 t
     go true true e =
         let q : take (length_of table n) (drop (start_of table n) bytes) ≡ t = cc e in
         subst (AllBelow 256) q (below_part bytes 256 (start_of table n) (length_of table n) h (omega arith))
@@ -235,13 +235,13 @@ module _ (table bytes : List ℕ) (B : AllBelow 256 bytes) (c : ℕ) (A : Apart 
     where
       go : (x y : Option (List ℕ)) → text_at table bytes n ≡ x → text_at table bytes m ≡ y → text_field_by x n ++ (c ∷ r) ≡ text_field_by y m ++ (c ∷ s)
           → (r ≡ s) × (TextsDiffer table bytes → n < word_end → m < word_end → n ≡ m)
-      go (some t) (some u) p q e =
+      go (Some t) (Some u) p q e =
           let x = quoted_split t u (c ∷ r) (c ∷ s) (text_below table bytes n t B p) (text_below table bytes m u B q) e in
-          (cons_tail x.1, λ D h k. D n m t p (q ∙ ap some (sym x.0)))
-      go (some t) none p q e =
+          (cons_tail x.1, λ D h k. D n m t p (q ∙ ap Some (sym x.0)))
+      go (Some t) None p q e =
           absurd (no_mark c _ (plain false m) s (free_plain 34 apart_34 false m) d (sym (quoted_starts t (c ∷ r)) ∙ e))
-      go none (some u) p q e =
+      go None (Some u) p q e =
           absurd (no_mark c _ (plain false n) r (free_plain 34 apart_34 false n) d (sym (quoted_starts u (c ∷ s)) ∙ sym e))
-      go none none p q e =
+      go None None p q e =
           let x = free_split c (plain false n) (plain false m) r s (free_plain c A false n) (free_plain c A false m) e in
           (x.1, λ D h k. plain_same false n m h k x.0)

@@ -1,19 +1,22 @@
 -- Escapes, blanks, and where a text stands in the lent bytes. Assumes nothing.
-use Prim.Native.Nat.{ℕ, ◌+◌, ◌-◌, ◌*◌, ◌/◌, ◌≤◌, ◌<◌}
+use Prim.Native.Nat.{ℕ, suc, ◌+◌, ◌-◌, ◌*◌, ◌/◌, ◌≤◌, ◌<◌}
 use native.Mathlib.Omega.{arith}
-use mathlib.Core.Path.{◌≡◌, refl, sym, ap, ◌∙◌}
-use mathlib.Core.Bool.{Bool, true, false, cond}
-use mathlib.Core.Option.{Option, none, some}
+use mathlib.Core.Path.{◌≡◌, refl, ap, ◌∙◌}
+use mathlib.Core.Bool.{Bool, true, false, cond, not}
+use denote.Ref.{Bor}
+use Rattle.std.specs.Prelude.{Option, Some, None}
+use Rattle.std.specs.Option.{option_copied, unwrap_or}
+use Rattle.std.proofs.lemmas.Bool.{ltb-false}
+use Rattle.std.proofs.lemmas.List.Sums.{prefix_len-le-length}
+use Rattle.std.specs.List.{position_or_len}
+use Rattle.std.specs.Slice.{IsGetRangeResult}
 use mathlib.Core.List.{List, [], ◌∷◌, ◌++◌}
-use lib.ListN.{length, take, drop, get_or}
-use lib.Dec.{leb}
-use borrow.Author.Tests.{leb-true, le-leb, lt-leb, eq-eqb, ne_eqb}
+use lib.ListN.{length, take, drop, get_or, length-drop}
+use lib.Dec.{eqb, ltb}
+use borrow.Author.Tests.{le-leb, lt-leb, eq-eqb, ne_eqb}
 use Rattle.column_lines.specs.Numeral.{digit_of}
-use Rattle.error_lines.specs.Puts.{Puts}
-use Rattle.error_lines.specs.Parts.{part_at}
-use Rattle.error_lines.specs.Texts.{backslash, after_blanks, plain, escape, escaped, quoted, start_of, length_of, in_table, text_at, text_field, text_field_by}
-use Rattle.error_lines.specs.declared.texts.Part.TheVariants.{From, Lacking}
-use Rattle.error_lines.proofs.Putting.{puts_as, bytes_more}
+use Rattle.error_lines.specs.Texts.{backslash, after_blanks, escape, escaped, start_of, length_of, text_at}
+use Rattle.error_lines.proofs.Putting.{bytes_more}
 
 -- escapes, by the tests of the code
 
@@ -50,99 +53,87 @@ escaped_none rest e = ap escaped e
 
 -- blanks
 
-pub blank_more : (l : List ℕ) (i : ℕ) → i < length l → get_or l i 0 ≡ 32 → after_blanks (drop (i + 1) l) ≡ after_blanks (drop i l)
+abbrev pub no_blank : ℕ → Bool
+no_blank b = not (eqb b 32)
+
+one_more : (n : ℕ) → 1 + n ≡ suc n
+one_more n = omega arith
+
+blanks_first : (l : List ℕ) → drop (position_or_len no_blank l) l ≡ after_blanks l
 unfolding after_blanks
-blank_more l i h e = sym (ap after_blanks (bytes_more l i h) ∙ simp (eq-eqb (get_or l i 0) 32 e))
+blanks_first [] = refl
+blanks_first (b ∷ bs) = go (eqb b 32) (blanks_first bs)
+  where
+    go : (t : Bool) → drop (position_or_len no_blank bs) bs ≡ after_blanks bs
+        → drop (cond (not (not t)) (1 + position_or_len no_blank bs) 0) (b ∷ bs) ≡ cond t (after_blanks bs) (b ∷ bs)
+    go true r = ap (λ (k : ℕ). drop k (b ∷ bs)) (one_more (position_or_len no_blank bs)) ∙ r
+    go false r = refl
 
-pub blank_end : (l : List ℕ) (i : ℕ) → i < length l → (get_or l i 0 ≡ 32 → ⊥) → drop i l ≡ after_blanks (drop i l)
-unfolding after_blanks
-blank_end l i h d =
-    let s : get_or l i 0 ∷ drop (i + 1) l ≡ after_blanks (get_or l i 0 ∷ drop (i + 1) l) = simp (ne_eqb (get_or l i 0) 32 d) in
-    bytes_more l i h ∙ (s ∙ ap after_blanks (sym (bytes_more l i h)))
+-- what `position` and `unwrap_or` find
+pub place_or : (test : ℕ → Bool) (l : List ℕ) {r : Option ℕ} → r ≡ cond (ltb (position_or_len test l) (length l)) (Some (position_or_len test l)) None
+    → unwrap_or r (length l) ≡ position_or_len test l
+place_or test l e = rw e (go (ltb (position_or_len test l) (length l)) refl)
+  where
+    go : (t : Bool) → ltb (position_or_len test l) (length l) ≡ t → unwrap_or (cond t (Some (position_or_len test l)) None) (length l) ≡ position_or_len test l
+    go true h = refl
+    go false h =
+        let past = ltb-false (position_or_len test l) (length l) h in
+        let within = prefix_len-le-length (λ (b : ℕ). not (test b)) l in
+        omega (arith, past, within)
 
-pub blank_none : (rest : List ℕ) → rest ≡ [] → rest ≡ after_blanks rest
-unfolding after_blanks
-blank_none rest e = e ∙ ap after_blanks (sym e)
+pub blanks_passed : (l : List ℕ) (n : ℕ) → n ≡ position_or_len no_blank l → drop n l ≡ after_blanks l
+blanks_passed l n e = ap (λ (k : ℕ). drop k l) e ∙ blanks_first l
 
--- where a text stands
+-- where a text stands: i is n - 1
 
-pub record Stands (table bytes : List ℕ) (n s e : ℕ) : Type 0 where
-  pub ordered : s ≤ e
-  pub inside : e ≤ length bytes
-  pub text : text_at table bytes n ≡ some (take (e - s) (drop s bytes))
+module _ (table bytes : List ℕ) (n : ℕ) where
+  pub text_zero : n < 1 → None ≡ text_at table bytes n
+  unfolding text_at
+  text_zero h = simp (lt-leb 1 n h)
 
-module _ (bytes : List ℕ) (start len : ℕ) where
-  from : (t u : Bool) → u ≡ leb (start + len) (length bytes) → (s e : ℕ) → cond t (cond u (From start (start + len)) Lacking) Lacking ≡ From s e
-      → (s ≤ e) × (e ≤ length bytes) × (cond t (cond u (some (take len (drop start bytes))) none) none ≡ some (take (e - s) (drop s bytes)))
-  from true true q s e h =
-      let a : start ≡ s = cc h in
-      let b : start + len ≡ e = cc h in
-      let l = leb-true (start + len) (length bytes) (sym q) in
-      let k : len ≡ e - s = omega (arith, a, b) in (
-        omega (arith, a, b),
-        omega (arith, b, l),
-        ap some (ap (λ (m : ℕ). take m (drop start bytes)) k ∙ ap (λ (m : ℕ). take (e - s) (drop m bytes)) a),
-      )
-  from true false q s e h = absurd (let z : ◌≡◌ {A = ℕ} 0 1 = cc h in omega (arith, z))
-  from false u q s e h = absurd (let z : ◌≡◌ {A = ℕ} 0 1 = cc h in omega (arith, z))
+  pub text_past : 1 ≤ n → length table / 2 ≤ n - 1 → None ≡ text_at table bytes n
+  unfolding text_at
+  text_past h l = simp (le-leb 1 n h, lt-leb (2 * n) (length table) (omega (arith, h, l)))
 
-  lacking : (t u : Bool) → cond t (cond u (From start (start + len)) Lacking) Lacking ≡ Lacking
-      → cond t (cond u (some (take len (drop start bytes))) none) none ≡ none
-  lacking true true h = absurd (let z : ◌≡◌ {A = ℕ} 0 1 = cc h in omega (arith, z))
-  lacking true false h = refl
-  lacking false u h = refl
+  module _ (i : ℕ) (h : i + 1 ≡ n) (l : i < length table / 2) where
+    start_lem : get_or table (i * 2) 0 ≡ start_of table n
+    start_lem = ap (λ (k : ℕ). get_or table k 0) (omega (arith, h))
 
-pub part_stands : (table bytes : List ℕ) (n s e : ℕ) → part_at table (length bytes) n ≡ From s e → Stands table bytes n s e
-unfolding part_at text_at
-part_stands table bytes n s e h =
-    let r = from bytes (start_of table n) (length_of table n) (in_table table n) (leb (start_of table n + length_of table n) (length bytes)) refl s e h in
-    record { ordered = r.0; inside = r.1; text = r.2 }
+    length_lem : get_or table (i * 2 + 1) 0 ≡ length_of table n
+    length_lem = ap (λ (k : ℕ). get_or table k 0) (omega (arith, h))
 
-pub part_lacking : (table bytes : List ℕ) (n : ℕ) → part_at table (length bytes) n ≡ Lacking → text_at table bytes n ≡ none
-unfolding part_at text_at
-part_lacking table bytes n h =
-    lacking bytes (start_of table n) (length_of table n) (in_table table n) (leb (start_of table n + length_of table n) (length bytes)) h
+    text_ends : length bytes < start_of table n + length_of table n → None ≡ text_at table bytes n
+    unfolding text_at
+    text_ends x =
+        simp (
+          le-leb 1 n (omega (arith, h)),
+          le-leb (2 * n) (length table) (omega (arith, h, l)),
+          lt-leb (start_of table n + length_of table n) (length bytes) x,
+        )
 
--- a text's field
-pub field_quoted : (table bytes : List ℕ) (n s e : ℕ) {at r : ℕ} {o q : List ℕ} → Stands table bytes n s e
-    → Puts (quoted (take (e - s) (drop s bytes))) at o q r
-    → Puts (text_field table bytes n) at o q r
-unfolding text_field
-field_quoted table bytes n s e S P = puts_as (ap (λ (t : Option (List ℕ)). text_field_by t n) (sym S.text)) P
+    text_inside : start_of table n + length_of table n ≤ length bytes → Some (take (length_of table n) (drop (start_of table n) bytes)) ≡ text_at table bytes n
+    unfolding text_at
+    text_inside x =
+        simp (
+          le-leb 1 n (omega (arith, h)),
+          le-leb (2 * n) (length table) (omega (arith, h, l)),
+          le-leb (start_of table n + length_of table n) (length bytes) x,
+        )
 
-pub field_plain : (table bytes : List ℕ) (n : ℕ) {at r : ℕ} {o q : List ℕ} → text_at table bytes n ≡ none → Puts (plain false n) at o q r
-    → Puts (text_field table bytes n) at o q r
-unfolding text_field
-field_plain table bytes n e P = puts_as (ap (λ (t : Option (List ℕ)). text_field_by t n) (sym e)) P
+    pub text_starts_past : length bytes < get_or table (i * 2) 0 → None ≡ text_at table bytes n
+    text_starts_past x = text_ends (omega (arith, x, start_lem))
 
--- the part that the code finds: i is n - 1
-
-module _ (table : List ℕ) (size n : ℕ) where
-  pub part_zero : n < 1 → Lacking ≡ part_at table size n
-  unfolding part_at
-  part_zero h = simp (lt-leb 1 n h)
-
-  pub part_past : 1 ≤ n → length table / 2 ≤ n - 1 → Lacking ≡ part_at table size n
-  unfolding part_at
-  part_past h l = simp (le-leb 1 n h, lt-leb (2 * n) (length table) (omega (arith, h, l)))
-
-  words_at_lem : 1 ≤ n → ((n - 1) * 2 ≡ 2 * n - 2) × ((n - 1) * 2 + 1 ≡ 2 * n - 1)
-  words_at_lem h = (omega (arith, h), omega (arith, h))
-
-  pub part_ends : 1 ≤ n → n - 1 < length table / 2 → {start len : ℕ} → start ≡ get_or table ((n - 1) * 2) 0 → len ≡ get_or table ((n - 1) * 2 + 1) 0
-      → size < start + len → Lacking ≡ part_at table size n
-  unfolding part_at
-  part_ends h l {start} {len} a b x =
-      let p : start ≡ start_of table n = a ∙ ap (λ (k : ℕ). get_or table k 0) (words_at_lem h).0 in
-      let q : len ≡ length_of table n = b ∙ ap (λ (k : ℕ). get_or table k 0) (words_at_lem h).1 in
-      simp (le-leb 1 n h, le-leb (2 * n) (length table) (omega (arith, h, l)), lt-leb (start_of table n + length_of table n) size (omega (arith, p, q, x)))
-
-  pub part_inside : 1 ≤ n → n - 1 < length table / 2 → {start len : ℕ} → start ≡ get_or table ((n - 1) * 2) 0 → len ≡ get_or table ((n - 1) * 2 + 1) 0
-      → start + len ≤ size → From start (start + len) ≡ part_at table size n
-  unfolding part_at
-  part_inside h l {start} {len} a b x =
-      let p : start ≡ start_of table n = a ∙ ap (λ (k : ℕ). get_or table k 0) (words_at_lem h).0 in
-      let q : len ≡ length_of table n = b ∙ ap (λ (k : ℕ). get_or table k 0) (words_at_lem h).1 in
-      let s : From (start_of table n) (start_of table n + length_of table n) ≡ part_at table size n
-      = simp (le-leb 1 n h, le-leb (2 * n) (length table) (omega (arith, h, l)), le-leb (start_of table n + length_of table n) size (omega (arith, p, q, x))) in
-      ap (λ (k : ℕ). From k (k + len)) p ∙ (ap (λ (k : ℕ). From (start_of table n) (start_of table n + k)) q ∙ s)
+    -- the bytes from the start on, and of these as many as the text has
+    pub text_got : (rest : List ℕ) (r : Option (Bor (List ℕ))) → rest ≡ drop (get_or table (i * 2) 0) bytes → get_or table (i * 2) 0 ≤ length bytes
+        → IsGetRangeResult rest 0 (get_or table (i * 2 + 1) 0) r → option_copied r ≡ text_at table bytes n
+    text_got rest None e x g =
+        let k : length rest ≡ length bytes - get_or table (i * 2) 0 = ap length e ∙ length-drop _ bytes in
+        let short : length rest < get_or table (i * 2 + 1) 0 = omega (arith, g.0) in
+        text_ends (omega (arith, short, k, x, start_lem, length_lem))
+    text_got rest (Some y) e x g =
+        let k : length rest ≡ length bytes - get_or table (i * 2) 0 = ap length e ∙ length-drop _ bytes in
+        let enough : get_or table (i * 2 + 1) 0 ≤ length rest = g.0.1 in
+        let same : get_or table (i * 2 + 1) 0 - 0 ≡ get_or table (i * 2 + 1) 0 = omega arith in
+        ap Some (g.0.2 ∙ (ap (λ (m : ℕ). take m rest) (same ∙ length_lem) ∙ (ap (take (length_of table n)) e
+        ∙ ap (λ (m : ℕ). take (length_of table n) (drop m bytes)) start_lem)))
+        ∙ text_inside (omega (arith, enough, k, x, start_lem, length_lem))

@@ -6,4 +6,3 @@ pub mod Lines
 pub mod Words
 pub mod Puts
 pub mod Listed
-pub mod Parts

@@ -1,7 +1,7 @@
 -- Numbers and texts as a line has them (2026-10: 'numbers plain'; 'Texts come from a lent table, whose words 2n - 2 and 2n - 1 give start and length of
 -- text n in lent bytes. They stand between quotation marks')
 use Rattle.std.specs.Prelude.{ℕ, ◌+◌, ◌-◌, ◌*◌, ◌/◌, ◌≡◌, Bool, false, cond, ◌&&◌, ◌||◌, List, [], ◌∷◌, ◌++◌, length, take, drop, get_or, eqb, leb}
-use Rattle.std.proofs.Math.Option.{Option, none, some}
+use Rattle.std.specs.Prelude.{Option, Some, None}
 use Rattle.column_lines.specs.Numeral.{blank, digit_of, numeral}
 use Rattle.column_lines.specs.Form.{value_width}
 
@@ -50,18 +50,18 @@ in_table table n = leb 1 n && leb (2 * n) (length table)
 -- text n; none for 'a text number that the table lacks or ends past its bytes'
 unfoldable pub text_at : List ℕ → List ℕ → ℕ → Option (List ℕ)
 text_at table bytes n =
-    cond (in_table table n) (cond (leb (start_of table n + length_of table n) (length bytes)) (some (take (length_of table n) (drop (start_of table n) bytes)))
-    none)
-    none
+    cond (in_table table n) (cond (leb (start_of table n + length_of table n) (length bytes)) (Some (take (length_of table n) (drop (start_of table n) bytes)))
+    None)
+    None
 
 -- 'A text number that the table lacks or ends past its bytes is written without quotation marks'
 abbrev pub text_field_by : Option (List ℕ) → ℕ → List ℕ
-text_field_by (some text) n = quoted text
-text_field_by none n = plain false n
+text_field_by (Some text) n = quoted text
+text_field_by None n = plain false n
 
 unfoldable pub text_field : List ℕ → List ℕ → ℕ → List ℕ
 text_field table bytes n = text_field_by (text_at table bytes n) n
 
 -- 'one text table whose texts all differ': no two numbers that are written between quotation marks have the same bytes
 abbrev pub TextsDiffer : List ℕ → List ℕ → Type 0
-TextsDiffer table bytes = (m n : ℕ) (text : List ℕ) → text_at table bytes m ≡ some text → text_at table bytes n ≡ some text → m ≡ n
+TextsDiffer table bytes = (m n : ℕ) (text : List ℕ) → text_at table bytes m ≡ Some text → text_at table bytes n ≡ Some text → m ≡ n

@@ -1,7 +1,7 @@
 -- The answer of the call (2026-10: 'Checks: row 3, its index, for the first error ..; then row 9, place 13, for a short line buffer, all zero after
 -- either'): the reply and the whole line buffer
 use Rattle.std.specs.Prelude.{ℕ, ◌+◌, ◌-◌, ◌<◌, cond, List, [], ◌∷◌, ◌++◌, length, take, get_or, replicate, leb}
-use Rattle.std.proofs.Math.Option.{Option, none, some}
+use Rattle.std.specs.Prelude.{Option, Some, None}
 use Rattle.column_files.specs.Convert.{Conversion, refuse, success}
 use Rattle.definition.specs.Compiler.{Error}
 use Rattle.error_lines.specs.Known.{known}
@@ -13,8 +13,8 @@ line_buffer = 13
 
 -- the index of the first error that is not known, counted from i
 unfoldable pub first_unknown : ℕ → List Error → Option ℕ
-first_unknown i [] = none
-first_unknown i (e ∷ es) = cond (known e) (first_unknown (i + 1) es) (some i)
+first_unknown i [] = None
+first_unknown i (e ∷ es) = cond (known e) (first_unknown (i + 1) es) (Some i)
 
 -- lines in a buffer of `room` bytes: zeros after them, and how many bytes; or row 9, and zeros
 unfoldable pub delivered : List ℕ → ℕ → Conversion
@@ -23,8 +23,8 @@ delivered lines room =
     (refuse 9 line_buffer room)
 
 abbrev pub in_words_by : Option ℕ → List ℕ → ℕ → Conversion
-in_words_by (some i) lines room = refuse 3 i room
-in_words_by none lines room = delivered lines room
+in_words_by (Some i) lines room = refuse 3 i room
+in_words_by None lines room = delivered lines room
 
 unfoldable pub in_words : List ℕ → ℕ → List ℕ → List ℕ → ℕ → Conversion
 in_words errors file table bytes room =

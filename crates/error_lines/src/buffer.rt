@@ -1,77 +1,66 @@
-// Writes bytes from a place of the line buffer on and answers the place after them. Where something does not fit the place is behind the end, and
-// nothing more is written.
-ghost use Rattle.std.specs.Prelude.{◌≡◌, [], ◌∷◌, drop};
-ghost use Rattle.error_lines.specs.Puts.{Puts};
+// Writes bytes into the line buffer, one after the other. Where something does not fit the place is behind the end, and nothing more is written.
+ghost use Rattle.std.specs.Prelude.{◌≡◌, [], ◌∷◌};
+ghost use Rattle.error_lines.specs.Puts.{Writes};
 ghost use Rattle.error_lines.specs.Lines.{between};
 ghost use Rattle.error_lines.specs.Texts.{after_blanks, plain};
 
 use column_lines::number::{BLANK, write_number};
 
-const COMMA: u8 = b',';
-
 // The digits of a word, with its sign.
 const NUMBER_WIDTH: usize = 21;
 
-pub fn put(out: &mut [u8], at: usize, byte: u8) -> usize
-    ensures { Puts (byte ∷ []) at out.old out.new result }
-{
-    if at < out.len() {
-        out[at] = byte;
-        return at + 1;
-    }
-    out.len() + 1
-}
-
-pub fn put_bytes(out: &mut [u8], at: usize, bytes: &[u8]) -> usize
-    ensures { Puts bytes.now at out.old out.new result }
-{
-    let mut place = at;
-    let mut i: usize = 0;
-    while i < bytes.len() {
-        place = put(out, place, bytes[i]);
-        i += 1;
-    }
-    place
-}
-
-// A comma and a blank.
-pub fn put_between(out: &mut [u8], at: usize) -> usize
-    ensures { Puts between at out.old out.new result }
-{
-    let next = put(out, at, COMMA);
-    put(out, next, BLANK)
-}
-
-// The place of the first byte that is no blank.
-fn skip_blanks(field: &[u8]) -> usize
-    ensures { drop result field.now ≡ after_blanks field.now }
-{
-    let mut i: usize = 0;
-    while i < field.len() {
-        if field[i] != BLANK {
-            return i;
-        }
-        i += 1;
-    }
-    i
+// The line buffer, and the place of the next byte. The place is a number also where something did not fit: each step's promise (`Puts`) speaks of one behind
+// the end.
+#[derive(Drop)]
+pub struct Sink<'a> {
+    pub out: &'a mut [u8],
+    pub place: usize,
 }
 
 // The bytes after the blanks.
-fn put_field(out: &mut [u8], at: usize, field: &[u8]) -> usize
-    ensures { Puts (after_blanks field.now) at out.old out.new result }
+fn without_blanks(field: &[u8]) -> &[u8]
+    ensures { result.now ≡ after_blanks field.now }
 {
-    let first = skip_blanks(field);
-    if first < field.len() {
-        return put_bytes(out, at, &field[first..]);
-    }
-    at
+    let first = field
+        .iter()
+        .position(|byte| *byte != BLANK)
+        .unwrap_or(field.len());
+    &field[first..]
 }
 
-// A plain number.
-pub fn put_number(out: &mut [u8], at: usize, word: u64, signed: bool) -> usize
-    ensures { Puts (plain signed word) at out.old out.new result }
-{
-    let mut field = [BLANK; NUMBER_WIDTH];
-    write_number(&mut field, word, signed);
-    put_field(out, at, &field)
+impl<'a> Sink<'a> {
+    pub fn put(&mut self, byte: u8)
+        ensures { Writes (byte ∷ []) self.old self.new }
+    {
+        if self.place < self.out.len() {
+            self.out[self.place] = byte;
+            self.place += 1;
+        } else {
+            self.place = self.out.len() + 1;
+        }
+    }
+
+    pub fn put_bytes(&mut self, bytes: &[u8])
+        ensures { Writes bytes.now self.old self.new }
+    {
+        for byte in bytes {
+            self.put(*byte);
+        }
+    }
+
+    // A comma and a blank.
+    pub fn put_between(&mut self)
+        ensures { Writes between self.old self.new }
+    {
+        self.put_bytes(b", ");
+    }
+
+    // A plain number.
+    pub fn put_number(&mut self, word: u64, signed: bool)
+        ensures { Writes (plain signed word) self.old self.new }
+    {
+        let mut field = [BLANK; NUMBER_WIDTH];
+        write_number(&mut field, word, signed);
+        self.put_bytes(without_blanks(&field));
+    }
 }

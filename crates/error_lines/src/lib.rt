@@ -11,8 +11,9 @@ ghost use Rattle.column_files.specs.Convert.{Converts};
 ghost use Rattle.error_lines.specs.Puts.{Finishes};
 ghost use Rattle.error_lines.specs.Words.{in_words};
 
-use crate::known::{Index, first_unknown};
-use crate::lines::put_lines;
+use crate::buffer::Sink;
+use crate::known::first_unknown;
+use crate::texts::Texts;
 use column_files::Converted;
 use column_files::file::clear_bytes;
 use words::reply::{AREA_FULL, BAD_SHAPE};
@@ -20,23 +21,27 @@ use words::reply::{AREA_FULL, BAD_SHAPE};
 // The place that row 9 gives for the line buffer.
 const LINE_BUFFER: usize = 13;
 
-// The reply, and zeros after the lines; where something did not fit, row 9 and zeros.
-fn finish(out: &mut [u8], end: usize) -> Converted
-    ensures { Finishes end out.old out.new result }
-{
-    if end <= out.len() {
-        clear_bytes(out, end);
-        return Converted {
-            number: 0,
-            place: 0,
-            total: end,
-        };
-    }
-    clear_bytes(out, 0);
-    Converted {
-        number: AREA_FULL,
-        place: LINE_BUFFER,
-        total: 0,
+impl<'a> Sink<'a> {
+    // The reply, and zeros after the lines; where something did not fit, row 9 and zeros.
+    fn finish(self) -> Converted
+        ensures { Finishes self.entry.place self.entry.out.now self.exit.0.now result }
+    {
+        let end = self.place;
+        if end <= self.out.len() {
+            clear_bytes(self.out, end);
+            Converted {
+                number: 0,
+                place: 0,
+                total: end,
+            }
+        } else {
+            clear_bytes(self.out, 0);
+            Converted {
+                number: AREA_FULL,
+                place: LINE_BUFFER,
+                total: 0,
+            }
+        }
     }
 }
 
@@ -51,19 +56,15 @@ pub fn errors_in_words(
 ) -> Converted
     ensures { Converts (in_words errors.now file table.now bytes.now (length out.old)) out.new result }
 {
-    let unknown = first_unknown(errors);
-    match unknown {
-        Index::At(i) => {
-            clear_bytes(out, 0);
-            Converted {
-                number: BAD_SHAPE,
-                place: i,
-                total: 0,
-            }
-        }
-        Index::Nothing => {
-            let end = put_lines(out, errors, file, table, bytes);
-            finish(out, end)
-        }
+    if let Some(i) = first_unknown(errors) {
+        clear_bytes(out, 0);
+        return Converted {
+            number: BAD_SHAPE,
+            place: i,
+            total: 0,
+        };
     }
+    let mut sink = Sink { out, place: 0 };
+    sink.put_lines(errors, file, Texts { table, bytes });
+    sink.finish()
 }

@@ -1,115 +1,79 @@
 // A line of an error, and the lines of a list.
 ghost use Rattle.std.specs.Prelude.{◌≡◌};
-ghost use Rattle.error_lines.specs.Puts.{Puts};
+ghost use Rattle.error_lines.specs.Puts.{Writes};
 ghost use Rattle.error_lines.specs.Listed.{listed};
-ghost use Rattle.error_lines.specs.Lines.{file_of, shown_value, value_field, error_line, errors_in, lines_of};
+ghost use Rattle.error_lines.specs.Lines.{value_field, error_line, errors_in, lines_of};
 ghost use Rattle.error_lines.specs.Messages.{message};
 
-use crate::buffer::{put, put_between, put_bytes, put_number};
-use crate::known::{ListedError, error_at, holds_text, is_zeros};
-use crate::texts::put_text;
+use crate::buffer::Sink;
+use crate::known::{ListedError, holds_text};
+use crate::texts::Texts;
 use column_lines::line::NEWLINE;
+use words::UnknownNumber;
 use words::areas::ERROR_WORDS;
 use words::record::{INTEGER, column_of, line_of};
-use words::reply::ERROR_RING;
+use words::reply::CompileError;
 
-// The Rust's messages.
-fn put_message(out: &mut [u8], at: usize, number: u64) -> usize
-    ensures { Puts (message number) at out.old out.new result }
+// The Rust's messages. A number that is no error's has none.
+#[tactic(auto, unfolding(crate::specs::Messages::message), using(crate::proofs::Messages::no_message))]
+fn message(number: u64) -> &'static [u8]
+    ensures { result.now ≡ message number }
 {
-    match number {
-        1 => put_bytes(out, at, b"variable already exists"),
-        2 => put_bytes(out, at, b"can not assign"),
-        3 => put_bytes(out, at, b"unknown operation"),
-        4 => put_bytes(out, at, b"rescue can only in the layer of function"),
-        5 => put_bytes(out, at, b"value in local definition can be constant only"),
-        6 => put_bytes(out, at, b"property already exists"),
-        7 => put_bytes(out, at, b"parameter already exists"),
-        8 => put_bytes(
-            out,
-            at,
-            b"instance function can inside implement block only",
-        ),
-        9 => put_bytes(out, at, b"is not a model"),
-        10 => put_bytes(out, at, b"can not found model"),
-        11 => put_bytes(out, at, b"ring"),
-        _ => at,
+    match CompileError::try_from(number) {
+        Ok(CompileError::VariableExists) => b"variable already exists",
+        Ok(CompileError::CanNotAssign) => b"can not assign",
+        Ok(CompileError::UnknownOperation) => b"unknown operation",
+        Ok(CompileError::RescueInLayer) => b"rescue can only in the layer of function",
+        Ok(CompileError::ConstantOnly) => b"value in local definition can be constant only",
+        Ok(CompileError::PropertyExists) => b"property already exists",
+        Ok(CompileError::ParameterExists) => b"parameter already exists",
+        Ok(CompileError::InstanceFunction) => b"instance function can inside implement block only",
+        Ok(CompileError::NotAModel) => b"is not a model",
+        Ok(CompileError::ModelNotFound) => b"can not found model",
+        Ok(CompileError::Ring) => b"ring",
+        Err(UnknownNumber(_)) => b"",
     }
 }
 
-// The caller's file, for error 11 its own.
-fn file_of(file: u64, error: ListedError) -> u64
-    ensures { result ≡ file_of file (listed error) }
-{
-    if error.number == ERROR_RING {
-        error.value
-    } else {
-        file
-    }
-}
-
-// A token's value; 0 for error 11.
-fn shown_value(error: ListedError) -> u64
-    ensures { result ≡ shown_value (listed error) }
-{
-    if error.number == ERROR_RING {
-        0
-    } else {
-        error.value
-    }
-}
-
-fn put_value(out: &mut [u8], at: usize, table: &[u64], bytes: &[u8], kind: u64, value: u64) -> usize
-    ensures { Puts (value_field table.now bytes.now kind value) at out.old out.new result }
-{
-    if holds_text(kind) {
-        return put_text(out, at, table, bytes, value);
-    }
-    put_number(out, at, value, kind == INTEGER)
-}
-
-fn put_line(
-    out: &mut [u8],
-    at: usize,
-    table: &[u64],
-    bytes: &[u8],
-    file: u64,
-    error: ListedError,
-) -> usize
-    ensures { Puts (error_line table.now bytes.now file (listed error)) at out.old out.new result }
-{
-    let a = put_message(out, at, error.number);
-    let b = put_between(out, a);
-    let name = file_of(file, error);
-    let c = put_text(out, b, table, bytes, name);
-    let d = put_between(out, c);
-    let line = line_of(error.position);
-    let e = put_number(out, d, line, false);
-    let f = put_between(out, e);
-    let column = column_of(error.position);
-    let g = put_number(out, f, column, false);
-    let h = put_between(out, g);
-    let i = put_number(out, h, error.kind, false);
-    let j = put_between(out, i);
-    let value = shown_value(error);
-    let k = put_value(out, j, table, bytes, error.kind, value);
-    put(out, k, NEWLINE)
-}
-
-// The lines of the list in an area.
-pub fn put_lines(out: &mut [u8], errors: &[u64], file: u64, table: &[u64], bytes: &[u8]) -> usize
-    ensures { Puts (lines_of table.now bytes.now file (errors_in errors.now)) 0 out.old out.new result }
-{
-    let entries = errors.len() / ERROR_WORDS;
-    let mut place: usize = 0;
-    let mut i: usize = 0;
-    while i < entries {
-        let error = error_at(errors, i);
-        if is_zeros(error) {
-            return place;
+impl<'a> Sink<'a> {
+    #[tactic(auto, unfolding(crate::specs::Lines::value_field))]
+    fn put_value(&mut self, texts: Texts<'_>, kind: u64, value: u64)
+        ensures { Writes (value_field texts.entry.table.now texts.entry.bytes.now kind value) self.old self.new }
+    {
+        if holds_text(kind) {
+            self.put_text(texts, value);
+        } else {
+            self.put_number(value, kind == INTEGER);
         }
-        place = put_line(out, place, table, bytes, file, error);
-        i += 1;
     }
-    place
+
+    fn put_line(&mut self, texts: Texts<'_>, file: u64, error: ListedError)
+        ensures { Writes (error_line texts.entry.table.now texts.entry.bytes.now file (listed error)) self.old self.new }
+    {
+        self.put_bytes(message(error.number));
+        self.put_between();
+        self.put_text(texts, error.file(file));
+        self.put_between();
+        self.put_number(line_of(error.position), false);
+        self.put_between();
+        self.put_number(column_of(error.position), false);
+        self.put_between();
+        self.put_number(error.kind, false);
+        self.put_between();
+        self.put_value(texts, error.kind, error.shown_value());
+        self.put(NEWLINE);
+    }
+
+    // The lines of the list in an area.
+    pub fn put_lines(&mut self, errors: &[u64], file: u64, texts: Texts<'_>)
+        ensures { Writes (lines_of texts.entry.table.now texts.entry.bytes.now file (errors_in errors.now)) self.old self.new }
+    {
+        for i in 0..errors.len() / ERROR_WORDS {
+            let error = ListedError::at(errors, i);
+            if error.is_zeros() {
+                return;
+            }
+            self.put_line(texts, file, error);
+        }
+    }
 }

@@ -1,11 +1,11 @@
 // Texts from a lent table, between quotation marks and escaped.
 ghost use Rattle.std.specs.Prelude.{◌≡◌, [], ◌∷◌, ◌/◌};
-ghost use Rattle.error_lines.specs.Puts.{Puts};
-ghost use Rattle.error_lines.specs.Texts.{backslash, escape, escaped, quoted, text_field};
+ghost use Rattle.std.specs.Option.{option_copied};
+ghost use Rattle.error_lines.specs.Puts.{Writes};
+ghost use Rattle.error_lines.specs.Texts.{backslash, escape, escaped, quoted, text_at, text_field};
 ghost use Rattle.column_lines.specs.Numeral.{digit_of};
-ghost use Rattle.error_lines.specs.Parts.{part_at};
 
-use crate::buffer::{put, put_number};
+use crate::buffer::Sink;
 
 const QUOTATION_MARK: u8 = b'"';
 
@@ -18,95 +18,82 @@ const FIRST_PRINTED: u8 = 32;
 
 const LAST_PRINTED: u8 = 126;
 
-// Where a text stands in the bytes: its start and its end.
+// Lent texts: text n is `table[2n - 1]` bytes of `bytes` from `table[2n - 2]` on.
 #[derive(Clone, Copy)]
-pub enum Part {
-    From(usize, usize),
-    Lacking,
+pub struct Texts<'a> {
+    pub table: &'a [u64],
+    pub bytes: &'a [u8],
 }
 
-// The part of so many bytes that text n is; no sum wraps.
-fn part_at(table: &[u64], length: usize, n: u64) -> Part
-    ensures { result ≡ part_at table.now length n }
-{
-    if n < 1 {
-        return Part::Lacking;
+impl<'a> Texts<'a> {
+    // A text by its number; none where the table lacks it or it ends past the bytes.
+    fn text(self, n: u64) -> Option<&'a [u8]>
+        ensures { option_copied result ≡ text_at self.entry.table.now self.entry.bytes.now n }
+    {
+        let i = n.checked_sub(1)? as usize;
+        if i >= self.table.len() / 2 {
+            return None;
+        }
+        let start = self.table[i * 2] as usize;
+        let size = self.table[i * 2 + 1] as usize;
+        let rest = self.bytes.get(start..)?;
+        rest.get(..size)
     }
-    let i = (n - 1) as usize;
-    if i >= table.len() / 2 {
-        return Part::Lacking;
-    }
-    let start = table[i * 2] as usize;
-    let size = table[i * 2 + 1] as usize;
-    if start > length {
-        return Part::Lacking;
-    }
-    if size > length - start {
-        return Part::Lacking;
-    }
-    Part::From(start, start + size)
 }
 
-// A byte that is not printed: a backslash and three decimal digits.
-fn put_digits(out: &mut [u8], at: usize, byte: u8) -> usize
-    ensures { Puts (backslash ∷ digit_of (byte / 100) ∷ digit_of (byte / 10) ∷ digit_of byte ∷ []) at out.old out.new result }
-{
-    let a = put(out, at, BACKSLASH);
-    let b = put(out, a, ZERO + byte / 100 % 10);
-    let c = put(out, b, ZERO + byte / 10 % 10);
-    put(out, c, ZERO + byte % 10)
-}
+impl<'a> Sink<'a> {
+    // A byte that is not printed: a backslash and three decimal digits.
+    fn put_digits(&mut self, byte: u8)
+        ensures { Writes (backslash ∷ digit_of (byte / 100) ∷ digit_of (byte / 10) ∷ digit_of byte ∷ []) self.old self.new }
+    {
+        self.put(BACKSLASH);
+        self.put(ZERO + byte / 100 % 10);
+        self.put(ZERO + byte / 10 % 10);
+        self.put(ZERO + byte % 10);
+    }
 
-// A byte of a text.
-fn put_escape(out: &mut [u8], at: usize, byte: u8) -> usize
-    ensures { Puts (escape byte) at out.old out.new result }
-{
-    if byte == QUOTATION_MARK {
-        let next = put(out, at, BACKSLASH);
-        return put(out, next, byte);
+    // A byte of a text.
+    #[tactic(auto, unfolding(crate::specs::Texts::escape))]
+    fn put_escape(&mut self, byte: u8)
+        ensures { Writes (escape byte) self.old self.new }
+    {
+        if byte == QUOTATION_MARK || byte == BACKSLASH {
+            self.put(BACKSLASH);
+            self.put(byte);
+        } else if (FIRST_PRINTED..=LAST_PRINTED).contains(&byte) {
+            self.put(byte);
+        } else {
+            self.put_digits(byte);
+        }
     }
-    let is_backslash = byte == BACKSLASH;
-    if is_backslash {
-        let next = put(out, at, BACKSLASH);
-        return put(out, next, byte);
-    }
-    if byte < FIRST_PRINTED {
-        return put_digits(out, at, byte);
-    }
-    if byte > LAST_PRINTED {
-        return put_digits(out, at, byte);
-    }
-    put(out, at, byte)
-}
 
-fn put_escaped(out: &mut [u8], at: usize, text: &[u8]) -> usize
-    ensures { Puts (escaped text.now) at out.old out.new result }
-{
-    let mut place = at;
-    let mut i: usize = 0;
-    while i < text.len() {
-        place = put_escape(out, place, text[i]);
-        i += 1;
+    // Not one function with `put_bytes` over the step: the step's promise (`Writes`, of each byte) would be a `requires`, longer than this loop.
+    fn put_escaped(&mut self, text: &[u8])
+        ensures { Writes (escaped text.now) self.old self.new }
+    {
+        for byte in text {
+            self.put_escape(*byte);
+        }
     }
-    place
-}
 
-// A text between quotation marks.
-fn put_quoted(out: &mut [u8], at: usize, text: &[u8]) -> usize
-    ensures { Puts (quoted text.now) at out.old out.new result }
-{
-    let a = put(out, at, QUOTATION_MARK);
-    let b = put_escaped(out, a, text);
-    put(out, b, QUOTATION_MARK)
-}
+    // A text between quotation marks.
+    #[tactic(auto, unfolding(crate::specs::Texts::quoted))]
+    fn put_quoted(&mut self, text: &[u8])
+        ensures { Writes (quoted text.now) self.old self.new }
+    {
+        self.put(QUOTATION_MARK);
+        self.put_escaped(text);
+        self.put(QUOTATION_MARK);
+    }
 
-// A text by its number; the number itself where the table lacks it or it ends past the bytes.
-pub fn put_text(out: &mut [u8], at: usize, table: &[u64], bytes: &[u8], n: u64) -> usize
-    ensures { Puts (text_field table.now bytes.now n) at out.old out.new result }
-{
-    let part = part_at(table, bytes.len(), n);
-    match part {
-        Part::From(start, end) => put_quoted(out, at, &bytes[start..end]),
-        Part::Lacking => put_number(out, at, n, false),
+    // A text by its number; the number itself where the table lacks it or it ends past the bytes.
+    #[tactic(auto, unfolding(crate::specs::Texts::text_field))]
+    pub fn put_text(&mut self, texts: Texts<'_>, n: u64)
+        ensures { Writes (text_field texts.entry.table.now texts.entry.bytes.now n) self.old self.new }
+    {
+        match texts.text(n) {
+            Some(text) => self.put_quoted(text),
+            None => self.put_number(n, false),
+        }
     }
 }

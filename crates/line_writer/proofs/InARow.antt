@@ -7,20 +7,21 @@ use Prim.Native.Nat.{ℕ}
 use lib.ListN.{length}
 use base.Fml.{GName}
 use denote.Ref.{MutBor}
-use Rattle.line_writer.specs.declared.place.Place.{Place}
+use Rattle.std.specs.Prelude.{Result}
+use Rattle.line_writer.specs.declared.place.Refused.{Refused}
 use Rattle.line_writer.specs.declared.writer.Writer.{Writer}
 use Rattle.line_writer.specs.declared.writer.Fields.{Fields}
 use Rattle.line_writer.specs.Placed.{Placed, placed, number_at, byte_at}
 use Rattle.column_lines.specs.Form.{newline}
 use Rattle.line_writer.specs.Written.{held, onto, begun, start_at, field_at, section_width, field_width, last_width, line_at}
-use Rattle.line_writer.proofs.Placing.{number_length, byte_length}
+use Rattle.line_writer.proofs.Placing.{number_length, byte_length, placed_back}
 
 -- the writer r is h after a step: the same borrow, at the step's bytes
 pub record Then (F : Placed → Placed) (h r : Writer) : Type 0 where
   pub is : r ≡ onto h (F (held h))
 
 then_held : {F : Placed → Placed} {h r : Writer} {m : Placed} → held h ≡ m → Then F h r → held r ≡ F m
-then_held {F} before e = ap held e.is ∙ ap F before
+then_held {F} {h} before e = ap held e.is ∙ (placed_back (F (held h)) ∙ ap F before)
 
 then_name : {F : Placed → Placed} {h r : Writer} {γ : GName} → h.buffer.ghost_name ≡ γ → Then F h r → r.buffer.ghost_name ≡ γ
 then_name before e = ap (λ (w : Writer). w.buffer.ghost_name) e.is ∙ before
@@ -50,9 +51,9 @@ module _ (x : MutBor (List ℕ)) (n : ℕ) (l : Fields) (r₀ r₁ r₂ r₃ r�
       e₄) e₅) e₆) e₇) e₈) e₉
 
   -- where the writer's borrow ended as e says, and the buffer has what it ended with
-  pub line_back : {p : Place} {last bs : List ℕ} → (x.ghost_name ≡ r₉.buffer.ghost_name → last ≡ bs) → placed p bs ≡ held r₉
+  pub line_back : (p : Result ℕ Refused) (last bs : List ℕ) → (x.ghost_name ≡ r₉.buffer.ghost_name → last ≡ bs) → placed p bs ≡ held r₉
       → placed p last ≡ line_at l (start_at n x.now)
-  line_back {p} tie e = ap (placed p) (tie (sym line_name)) ∙ (e ∙ line_held)
+  line_back p last bs tie e = ap (placed p) (tie (sym line_name)) ∙ (e ∙ line_held)
 
 -- the same of the column writer on slice and offset
 module _ (l : Fields) (m₀ m₁ m₂ m₃ m₄ m₅ m₆ m₇ m₈ m₉ : Placed) (e₁ : m₁ ≡ number_at section_width false l.section m₀) (e₂ : m₂ ≡ field_at l.first m₁)

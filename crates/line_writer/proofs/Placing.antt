@@ -12,20 +12,15 @@ use borrow.Author.Tests.{le-leb, lt-leb, leb-true}
 use borrow.Rule.Slice.PartMut.{mid_of, put_mid, mid_len}
 use Rattle.column_lines.specs.Numeral.{numeral, numeral_fits, Wrote}
 use Rattle.column_lines.proofs.Lines.{numeral_length, field_put}
-use Rattle.line_writer.specs.declared.place.Place.{Place}
+use Rattle.std.specs.Prelude.{Result, Ok}
+use Rattle.line_writer.specs.declared.place.Refused.{Refused}
+use Rattle.line_writer.specs.Written.{start_at, place_of}
 use Rattle.line_writer.specs.Placed.{Placed, placed, has_room, refused, number_put, number_at, byte_put, byte_at}
-
--- the offset, and whether all fits
-abbrev pub place : ℕ → Bool → Place
-place at fits = record { offset = at; fits = fits }
 
 pub room_yes : (n : ℕ) (m : Placed) → m.fits ≡ true → m.offset + n ≤ length m.bytes → has_room n m ≡ true
 room_yes n m f h = ap (λ (b : Bool). b && leb (m.offset + n) (length m.bytes)) f ∙ le-leb _ _ h
 
--- no room: refused before, or the buffer is too short
-room_refused : (n : ℕ) (m : Placed) → m.fits ≡ false → has_room n m ≡ false
-room_refused n m f = ap (λ (b : Bool). b && leb (m.offset + n) (length m.bytes)) f
-
+-- no room: the buffer is too short
 room_short : (n : ℕ) (m : Placed) → length m.bytes < m.offset + n → has_room n m ≡ false
 room_short n m h = ap (λ (b : Bool). m.fits && b) (lt-leb _ _ h) ∙ none m.fits
   where
@@ -33,48 +28,52 @@ room_short n m h = ap (λ (b : Bool). m.fits && b) (lt-leb _ _ h) ∙ none m.fit
     none true = refl
     none false = refl
 
-pub number_done : (width word : ℕ) (s : Bool) (p : Place) (xs ys : List ℕ) {r : Bool} → p.fits ≡ true → p.offset ≤ length xs → width ≤ length xs - p.offset
-    → Wrote s word (mid_of p.offset (p.offset + width - p.offset) xs) ys r
-    → placed (place (p.offset + width) r) (put_mid p.offset (p.offset + width - p.offset) xs ys) ≡ number_at width s word (placed p xs)
+pub number_done : (width word : ℕ) (s : Bool) (p : Result ℕ Refused) (at : ℕ) (xs ys : List ℕ) {r t : Bool} → p ≡ Ok at → at ≤ length xs
+    → width ≤ length xs - at → Wrote s word (mid_of at (at + width - at) xs) ys r → r ≡ t
+    → record { offset = at + width; fits = t; bytes = put_mid at (at + width - at) xs ys } ≡ number_at width s word (placed p xs)
 unfolding number_at
-number_done width word s p xs ys {r} f h h' w =
-    let at : ℕ = p.offset in
+number_done width word s p at xs ys {r} {t} q h h' w e =
     let within : at + width ≤ length xs = omega (arith, h, h') in
     let same : at + width - at ≡ width = omega arith in
     let bytes : put_mid at (at + width - at) xs ys ≡ take at xs ++ (numeral width s word ++ drop (at + width) xs) =
     field_put at (at + width) word s xs ys (omega arith) within w ∙ ap (λ (n : ℕ). take at xs ++ (numeral n s word ++ drop (at + width) xs)) same in
-    let fits : r ≡ numeral_fits width s word = w.fits ∙ ap (λ (n : ℕ). numeral_fits n s word) (mid_len at (at + width) xs within ∙ same) in
+    let fits : t ≡ numeral_fits width s word =
+    sym e ∙ (w.fits ∙ ap (λ (n : ℕ). numeral_fits n s word) (mid_len at (at + width) xs within ∙ same)) in
     (λ j. record { offset = at + width; fits = fits j; bytes = bytes j })
-    ∙ sym (ap (λ (b : Bool). cond b (number_put width s word (placed p xs)) (refused (placed p xs))) (room_yes width (placed p xs) f within))
+    ∙ sym (ap (λ (b : Bool). cond b (number_put width s word (start_at at xs)) (refused (start_at at xs))) (room_yes width (start_at at xs) refl within))
+    ∙ ap (λ (o : Result ℕ Refused). number_at width s word (placed o xs)) (sym q)
 
-number_refused : (width word : ℕ) (s : Bool) (p : Place) (xs : List ℕ) → has_room width (placed p xs) ≡ false
-    → placed (place p.offset false) xs ≡ number_at width s word (placed p xs)
+pub number_short : (width word : ℕ) (s : Bool) (at : ℕ) (xs : List ℕ) → length xs < at + width
+    → refused (start_at at xs) ≡ number_at width s word (start_at at xs)
 unfolding number_at
-number_refused width word s p xs e = sym (ap (λ (b : Bool). cond b (number_put width s word (placed p xs)) (refused (placed p xs))) e)
+number_short width word s at xs h =
+    sym (ap (λ (b : Bool). cond b (number_put width s word (start_at at xs)) (refused (start_at at xs))) (room_short width (start_at at xs) h))
 
-pub number_gone : (width word : ℕ) (s : Bool) (p : Place) (xs : List ℕ) → p.fits ≡ false
-    → placed (place p.offset false) xs ≡ number_at width s word (placed p xs)
-number_gone width word s p xs f = number_refused width word s p xs (room_refused width (placed p xs) f)
+pub number_gone : (width word : ℕ) (s : Bool) (at : ℕ) (xs : List ℕ) → refused (start_at at xs) ≡ number_at width s word (refused (start_at at xs))
+unfolding number_at
+number_gone width word s at xs = refl
 
-pub number_short : (width word : ℕ) (s : Bool) (p : Place) (xs : List ℕ) → length xs < p.offset + width
-    → placed (place p.offset false) xs ≡ number_at width s word (placed p xs)
-number_short width word s p xs h = number_refused width word s p xs (room_short width (placed p xs) h)
-
-pub byte_done : (b : ℕ) (p : Place) (xs : List ℕ) → p.fits ≡ true → p.offset < length xs
-    → placed (place (p.offset + 1) true) (set xs p.offset b) ≡ byte_at b (placed p xs)
+pub byte_done : (b at : ℕ) (xs : List ℕ) → at < length xs → start_at (at + 1) (set xs at b) ≡ byte_at b (start_at at xs)
 unfolding byte_at
-byte_done b p xs f h =
-    sym (ap (λ (t : Bool). cond t (byte_put b (placed p xs)) (refused (placed p xs))) (room_yes 1 (placed p xs) f (omega (arith, h))))
+byte_done b at xs h =
+    sym (ap (λ (t : Bool). cond t (byte_put b (start_at at xs)) (refused (start_at at xs))) (room_yes 1 (start_at at xs) refl (omega (arith, h))))
 
-byte_refused : (b : ℕ) (p : Place) (xs : List ℕ) → has_room 1 (placed p xs) ≡ false → placed (place p.offset false) xs ≡ byte_at b (placed p xs)
+pub byte_short : (b at : ℕ) (xs : List ℕ) → length xs ≤ at → refused (start_at at xs) ≡ byte_at b (start_at at xs)
 unfolding byte_at
-byte_refused b p xs e = sym (ap (λ (t : Bool). cond t (byte_put b (placed p xs)) (refused (placed p xs))) e)
+byte_short b at xs h =
+    sym (ap (λ (t : Bool). cond t (byte_put b (start_at at xs)) (refused (start_at at xs))) (room_short 1 (start_at at xs) (omega (arith, h))))
 
-pub byte_gone : (b : ℕ) (p : Place) (xs : List ℕ) → p.fits ≡ false → placed (place p.offset false) xs ≡ byte_at b (placed p xs)
-byte_gone b p xs f = byte_refused b p xs (room_refused 1 (placed p xs) f)
+pub byte_gone : (b at : ℕ) (xs : List ℕ) → refused (start_at at xs) ≡ byte_at b (refused (start_at at xs))
+unfolding byte_at
+byte_gone b at xs = refl
 
-pub byte_short : (b : ℕ) (p : Place) (xs : List ℕ) → length xs ≤ p.offset → placed (place p.offset false) xs ≡ byte_at b (placed p xs)
-byte_short b p xs h = byte_refused b p xs (room_short 1 (placed p xs) (omega (arith, h)))
+-- what a place makes of a buffer has that place
+pub placed_back : (m : Placed) → placed (place_of m) m.bytes ≡ m
+placed_back m = by m.offset m.fits m.bytes
+  where
+    by : (at : ℕ) (f : Bool) (bs : List ℕ) → placed (place_of (record { offset = at; fits = f; bytes = bs })) bs ≡ record { offset = at; fits = f; bytes = bs }
+    by at true bs = refl
+    by at false bs = refl
 
 -- the buffer stays as long as it is
 pub number_length : (width word : ℕ) (s : Bool) (m : Placed) → length (number_at width s word m).bytes ≡ length m.bytes

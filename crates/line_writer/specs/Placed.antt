@@ -1,7 +1,7 @@
 -- What numbers and bytes at an offset make of a buffer. What does not fit is refused, and all after it
-use Rattle.std.specs.Prelude.{ℕ, ◌+◌, Bool, true, false, cond, ◌&&◌, List, ◌++◌, length, take, drop, set, leb}
+use Rattle.std.specs.Prelude.{ℕ, ◌+◌, Bool, true, false, cond, ◌&&◌, List, ◌++◌, length, take, drop, set, leb, Result, Ok, Err}
 use Rattle.column_lines.specs.Numeral.{numeral, numeral_fits}
-use Rattle.line_writer.specs.declared.place.Place.{Place}
+use Rattle.line_writer.specs.declared.place.Refused.{Refused}
 
 -- where the next byte goes, whether all so far fits, and the buffer
 pub record Placed : Type 0 where
@@ -9,8 +9,9 @@ pub record Placed : Type 0 where
   pub fits : Bool
   pub bytes : List ℕ
 
-abbrev pub placed : Place → List ℕ → Placed
-placed p bs = record { offset = p.offset; fits = p.fits; bytes = bs }
+abbrev pub placed : Result ℕ Refused → List ℕ → Placed
+placed (Ok at) bs = record { offset = at; fits = true; bytes = bs }
+placed (Err r) bs = record { offset = r.offset; fits = false; bytes = bs }
 
 abbrev pub has_room : ℕ → Placed → Bool
 has_room n m = m.fits && leb (m.offset + n) (length m.bytes)

@@ -1,21 +1,26 @@
 -- The writer that carries its buffer, and a line of 01's listing: 'Lines have widths 4, six of 8, and 21, right-justified'
-use Rattle.std.specs.Prelude.{ℕ, true, false, List, [], ◌∷◌, ◌++◌}
+use Rattle.std.specs.Prelude.{ℕ, true, false, cond, List, [], ◌∷◌, ◌++◌, Result, Ok, Err}
 use denote.Ref.{MutBor, at_last}
 use Rattle.column_lines.specs.Form.{newline}
 use Rattle.column_lines.specs.Numeral.{numeral}
+use Rattle.line_writer.specs.declared.place.Refused.{Refused}
 use Rattle.line_writer.specs.declared.writer.Writer.{Writer}
 use Rattle.line_writer.specs.declared.writer.Fields.{Fields}
-use Rattle.line_writer.specs.Placed.{Placed, number_at, byte_at}
+use Rattle.line_writer.specs.Placed.{Placed, placed, number_at, byte_at}
 
 -- what a writer holds; `at_last x l` is the borrow x, its pointer and its ghost name with it, at the list l
 abbrev pub held : Writer → Placed
-held w = record { offset = w.offset; fits = w.fits; bytes = w.buffer.now }
+held w = placed w.place w.buffer.now
+
+-- the place where the next byte goes, if all so far fits
+abbrev pub place_of : Placed → Result ℕ Refused
+place_of m = cond m.fits (Ok m.offset) (Err (record { offset = m.offset }))
 
 abbrev pub onto : Writer → Placed → Writer
-onto w m = record { buffer = at_last w.buffer m.bytes; offset = m.offset; fits = m.fits }
+onto w m = record { buffer = at_last w.buffer m.bytes; place = place_of m }
 
 abbrev pub begun : MutBor (List ℕ) → ℕ → Writer
-begun buffer offset = record { buffer = buffer; offset = offset; fits = true }
+begun buffer offset = record { buffer = buffer; place = Ok offset }
 
 abbrev pub start_at : ℕ → List ℕ → Placed
 start_at offset bytes = record { offset = offset; fits = true; bytes = bytes }

@@ -4,49 +4,40 @@ ghost use Rattle.line_writer.specs.Placed.{placed, number_at, byte_at};
 
 use column_lines::number::write_number;
 
-// Where the next byte goes, and whether all before it had room and was no wider than its field.
-#[derive(Clone, Copy)]
-pub struct Place {
+// Something had no room or was wider than its field. Where the next byte would go stays as the offset.
+#[derive(Clone, Copy, Debug, PartialEq, Eq)]
+pub struct Refused {
     pub offset: usize,
-    pub fits: bool,
 }
 
+// Where the next byte goes, if all before it had room and was no wider than its field.
+pub type Place = Result<usize, Refused>;
+
 // A number, right-justified in a width. One that is wider leaves its last bytes and is refused; where the buffer is too short nothing is written.
+#[tactic(auto, using(crate::proofs::Placing::number_short, crate::proofs::Placing::number_gone))]
 pub fn number_at(buffer: &mut [u8], place: Place, width: usize, word: u64, signed: bool) -> Place
     ensures { placed result buffer.new ≡ number_at width signed word (placed place buffer.old) }
 {
-    let at = place.offset;
-    if place.fits {
-        if at <= buffer.len() {
-            if width <= buffer.len() - at {
-                let end = at + width;
-                let fits = write_number(&mut buffer[at..end], word, signed);
-                return Place { offset: end, fits };
-            }
+    let at = place?;
+    if at <= buffer.len() && width <= buffer.len() - at {
+        let end = at + width;
+        if write_number(&mut buffer[at..end], word, signed) {
+            return Ok(end);
         }
+        return Err(Refused { offset: end });
     }
-    Place {
-        offset: at,
-        fits: false,
-    }
+    Err(Refused { offset: at })
 }
 
 // One byte.
+#[tactic(auto, using(crate::proofs::Placing::byte_done, crate::proofs::Placing::byte_short, crate::proofs::Placing::byte_gone))]
 pub fn byte_at(buffer: &mut [u8], place: Place, byte: u8) -> Place
     ensures { placed result buffer.new ≡ byte_at byte (placed place buffer.old) }
 {
-    let at = place.offset;
-    if place.fits {
-        if at < buffer.len() {
-            buffer[at] = byte;
-            return Place {
-                offset: at + 1,
-                fits: true,
-            };
-        }
+    let at = place?;
+    if at < buffer.len() {
+        buffer[at] = byte;
+        return Ok(at + 1);
     }
-    Place {
-        offset: at,
-        fits: false,
-    }
+    Err(Refused { offset: at })
 }

@@ -7,7 +7,7 @@ ghost use Rattle.std.specs.Prelude.{◌≤◌, length};
 use book_compiler::compile;
 use column_files::{Converted, columns_to_records};
 use column_lines::line::LINE_LENGTH;
-use listings::write;
+use listings::{LentAreas, write};
 use reading::read_full;
 use std::io;
 use words::reply::{AREA_FULL, Reply};
@@ -25,27 +25,12 @@ const MOST_TEXT: usize = 65490;
 
 const LISTING_LINE: usize = 74;
 
-// Areas of 1,000 entries each, one after the other in one memory: where they end. Nothing is shown of areas 8 and 9, public names and scope names, but that
-// area 10 ends behind them.
-const CODE_END: usize = 2000;
+// The words of the areas, of 1,000 entries each, which stand one after the other in one memory.
+const LENGTHS: [usize; 12] = [
+    2000, 3000, 8000, 2000, 2000, 3000, 4000, 3000, 2000, 1000, 4000, 1000,
+];
 
-const CONSTANTS_END: usize = 5000;
-
-const FUNCTIONS_END: usize = 13000;
-
-const MODELS_END: usize = 15000;
-
-const PROPERTIES_END: usize = 17000;
-
-const METHODS_END: usize = 20000;
-
-const LOCALS_END: usize = 24000;
-
-const BREAKS_END: usize = 30000;
-
-const ERRORS_END: usize = 34000;
-
-const BOOKS_END: usize = 35000;
+const MEMORY: usize = 35000;
 
 // The line of a refusal without errors.
 fn refuse(rt: &impl Print, number: u64, place: u64) -> io::Result<()> {
@@ -53,9 +38,18 @@ fn refuse(rt: &impl Print, number: u64, place: u64) -> io::Result<()> {
     let empty = &none[0..0];
     let reply = Reply::refused(number, place);
     let mut line = [0u8; LISTING_LINE];
-    let answer = write(
-        reply, empty, empty, empty, empty, empty, empty, empty, empty, empty, &mut line,
-    );
+    let lent = LentAreas {
+        code: empty,
+        constants: empty,
+        functions: empty,
+        models: empty,
+        properties: empty,
+        methods: empty,
+        locals: empty,
+        errors: empty,
+        books: empty,
+    };
+    let answer = write(reply, lent, &mut line);
     if answer.total == LISTING_LINE {
         rt.write_all(&line)?;
     }
@@ -66,19 +60,29 @@ fn refuse(rt: &impl Print, number: u64, place: u64) -> io::Result<()> {
 fn write_areas(reply: Reply, memory: &[u64], text: &mut [u8]) -> Converted
     requires { 35000 ≤ length memory.now }
 {
-    write(
-        reply,
-        &memory[0..CODE_END],
-        &memory[CODE_END..CONSTANTS_END],
-        &memory[CONSTANTS_END..FUNCTIONS_END],
-        &memory[FUNCTIONS_END..MODELS_END],
-        &memory[MODELS_END..PROPERTIES_END],
-        &memory[PROPERTIES_END..METHODS_END],
-        &memory[METHODS_END..LOCALS_END],
-        &memory[BREAKS_END..ERRORS_END],
-        &memory[ERRORS_END..BOOKS_END],
-        text,
-    )
+    let (code, rest) = memory.split_at(LENGTHS[0]);
+    let (constants, rest) = rest.split_at(LENGTHS[1]);
+    let (functions, rest) = rest.split_at(LENGTHS[2]);
+    let (models, rest) = rest.split_at(LENGTHS[3]);
+    let (properties, rest) = rest.split_at(LENGTHS[4]);
+    let (methods, rest) = rest.split_at(LENGTHS[5]);
+    let (locals, rest) = rest.split_at(LENGTHS[6]);
+    // Nothing is shown of public names, scope names and breaks.
+    let (_, rest) = rest.split_at(LENGTHS[7] + LENGTHS[8] + LENGTHS[9]);
+    let (errors, rest) = rest.split_at(LENGTHS[10]);
+    let (books, _) = rest.split_at(LENGTHS[11]);
+    let lent = LentAreas {
+        code,
+        constants,
+        functions,
+        models,
+        properties,
+        methods,
+        locals,
+        errors,
+        books,
+    };
+    write(reply, lent, text)
 }
 
 fn show(rt: &impl Print, reply: Reply, memory: &[u64]) -> io::Result<()>
@@ -96,11 +100,8 @@ fn show(rt: &impl Print, reply: Reply, memory: &[u64]) -> io::Result<()>
 }
 
 fn compile_and_show(rt: &impl Print, tree: &[u64]) -> io::Result<()> {
-    let mut memory = [0u64; BOOKS_END];
-    let lengths = [
-        2000, 3000, 8000, 2000, 2000, 3000, 4000, 3000, 2000, 1000, 4000, 1000,
-    ];
-    let reply = compile(tree, false, lengths, &mut memory);
+    let mut memory = [0; MEMORY];
+    let reply = compile(tree, false, LENGTHS, &mut memory);
     show(rt, reply, &memory)
 }
 

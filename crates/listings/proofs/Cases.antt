@@ -11,19 +11,18 @@ use Rattle.words.specs.Areas.{width_of, entry_word, constants_area}
 use Rattle.words.specs.Constants.{kind_of, decode_of, numbered_of, constant_at}
 use Rattle.words.specs.Object.{null_kind, boolean_kind, integer_kind, float_kind, text_kind, model_kind, function_kind}
 use Rattle.words.specs.declared.object.Constant.{Constant}
-use Rattle.words.specs.declared.object.Decoded.{Decoded}
-use Rattle.words.specs.declared.object.Decoded.TheVariants.{Is, NoConstant}
+use Rattle.std.specs.Prelude.{Option, Some, None}
 use Rattle.words.proofs.Integers.{word_back}
 use Rattle.line_writer.specs.declared.writer.Fields.{Fields}
 use Rattle.listings.specs.Cases.{value_in, case_line}
 use Rattle.listings.specs.Sections.{line, constant_line}
 
 -- what a kind and a value were decoded to
-abbrev Origin : (kind value : ℕ) → Decoded → Type 0
-Origin k v (Is c) = (kind_of c ≡ k) × (value_in c v ≡ v)
-Origin k v NoConstant = k ≡ integer_kind → ⊥
+abbrev Origin : (kind value : ℕ) → Option Constant → Type 0
+Origin k v (Some c) = (kind_of c ≡ k) × (value_in c v ≡ v)
+Origin k v None = k ≡ integer_kind → ⊥
 
-by_test_lem : (k v : ℕ) (b : Bool) (d e : Decoded) → (b ≡ true → Origin k v d) → (b ≡ false → Origin k v e) → Origin k v (cond b d e)
+by_test_lem : (k v : ℕ) (b : Bool) (d e : Option Constant) → (b ≡ true → Origin k v d) → (b ≡ false → Origin k v e) → Origin k v (cond b d e)
 by_test_lem k v true d e f g = f refl
 by_test_lem k v false d e f g = g refl
 
@@ -55,24 +54,17 @@ module _ (w : List ℕ) (i v : ℕ) (l : v < 2 ^ 64) (is : v ≡ entry_word (wid
   abbrev value : ℕ
   value = entry_word (width_of constants_area) i 1 w
 
-  from : {d : Decoded} → d ≡ constant_at w i → Origin kind value d
-  from e = subst (λ (d : Decoded). Origin kind value d) (sym e) (origin kind value (subst (λ (n : ℕ). n < 2 ^ 64) is l))
+  from : {d : Option Constant} → d ≡ constant_at w i → Origin kind value d
+  from e = subst (λ (d : Option Constant). Origin kind value d) (sym e) (origin kind value (subst (λ (n : ℕ). n < 2 ^ 64) is l))
 
-  pub constant_listed : {r : Fields} (c : Constant) → Is c ≡ constant_at w i → r ≡ case_line i c v → r ≡ constant_line w i
+  pub constant_listed : {r : Fields} (c : Constant) → Some c ≡ constant_at w i → r ≡ case_line i c v → r ≡ constant_line w i
   unfolding case_line
   constant_listed c e f =
-      let o : Origin kind value (Is c) = from e in
+      let o : Origin kind value (Some c) = from e in
       f ∙ ap (λ (n : ℕ). case_line i c n) is ∙ ap (λ (k : ℕ). line 4 i k 0 0 0 0 (value_in c value) (eqb k integer_kind)) o.0
       ∙ ap (λ (n : ℕ). line 4 i kind 0 0 0 0 n (eqb kind integer_kind)) o.1
 
-  pub words_listed : {r : Fields} (k : ℕ) → k ≡ kind → NoConstant ≡ constant_at w i → r ≡ line 4 i k 0 0 0 0 v false → r ≡ constant_line w i
+  pub words_listed : {r : Fields} (k : ℕ) → k ≡ kind → None ≡ constant_at w i → r ≡ line 4 i k 0 0 0 0 v false → r ≡ constant_line w i
   words_listed k p e f =
       f ∙ ap (λ (n : ℕ). line 4 i n 0 0 0 0 v false) p ∙ ap (λ (n : ℕ). line 4 i kind 0 0 0 0 n false) is
       ∙ ap (λ (b : Bool). line 4 i kind 0 0 0 0 value b) (sym (ne_eqb kind integer_kind (from e)))
-
--- and each case's line is that of the case
-pub by_case : (i bits : ℕ) (s : Bool) (word : Constant → ℕ) (c d : Constant) (r : Fields) (k v : ℕ) → c ≡ d → k ≡ kind_of c → v ≡ word c
-    → r ≡ line 4 i k 0 0 0 0 v s → line 4 i (kind_of d) 0 0 0 0 (word d) s ≡ case_line i d bits → r ≡ case_line i c bits
-by_case i bits s word c d r k v e p q f g =
-    f ∙ ap (λ (n : ℕ). line 4 i n 0 0 0 0 v s) p ∙ ap (λ (n : ℕ). line 4 i (kind_of c) 0 0 0 0 n s) q
-    ∙ subst (λ (x : Constant). line 4 i (kind_of x) 0 0 0 0 (word x) s ≡ case_line i x bits) (sym e) g

@@ -12,8 +12,8 @@ use Rattle.definition.specs.Within.{All, nil, ◌&◌}
 use Rattle.line_writer.specs.declared.writer.Fields.{Fields}
 use Rattle.listings.specs.Sections.{method_model, method_name, method_line, is_below, insert_method, method_order, methods, each_from}
 use Rattle.listings.specs.Selecting.{is_above, is_less, lesser, least_from, method_after, method_at, method_lines, selected}
-use Rattle.listings.specs.declared.methods.Method.{Method}
-use Rattle.listings.specs.declared.methods.Method.TheVariants.{Entry, Over}
+use Rattle.std.specs.Prelude.{Option}
+use Rattle.std.specs.Prelude.{Some, None}
 
 -- keys as pairs
 abbrev lower : (a b c d : ℕ) → Bool
@@ -92,14 +92,14 @@ module _ (w : List ℕ) where
   below_self i = is_not (M i) (N i) (M i) (N i) (past_name refl (omega arith))
 
   -- neither is below the other: the keys are the same
-  same_above : (i j : ℕ) → is_below w i j ≡ false → is_below w j i ≡ false → (last : Method) → is_above w last i ≡ is_above w last j
+  same_above : (i j : ℕ) → is_below w i j ≡ false → is_below w j i ≡ false → (last : Option ℕ) → is_above w last i ≡ is_above w last j
   same_above i j p q last = go (not_is (M i) (N i) (M j) (N j) p) (not_is (M j) (N j) (M i) (N i) q) last
     where
-      same : M i ≡ M j → N i ≡ N j → (last : Method) → is_above w last i ≡ is_above w last j
-      same m n Over = refl
-      same m n (Entry k) = (λ t. lower (M k) (N k) (m t) (n t))
+      same : M i ≡ M j → N i ≡ N j → (last : Option ℕ) → is_above w last i ≡ is_above w last j
+      same m n None = refl
+      same m n (Some k) = (λ t. lower (M k) (N k) (m t) (n t))
 
-      go : Not (M i) (N i) (M j) (N j) → Not (M j) (N j) (M i) (N i) → (last : Method) → is_above w last i ≡ is_above w last j
+      go : Not (M i) (N i) (M j) (N j) → Not (M j) (N j) (M i) (N i) → (last : Option ℕ) → is_above w last i ≡ is_above w last j
       go (past_model a) (past_model b) last = absurd (omega (arith, a, b))
       go (past_model a) (past_name e b) last = absurd (omega (arith, a, e))
       go (past_name e a) (past_model b) last = absurd (omega (arith, e, b))
@@ -144,107 +144,107 @@ module _ (w : List ℕ) where
   rising_order (suc n) = rising_insert n (method_order w n) (rising_order n)
 
   -- the first of a list above the last one
-  abbrev first_above : Method → List ℕ → Method
-  first_above last [] = Over
-  first_above last (j ∷ js) = cond (is_above w last j) (Entry j) (first_above last js)
+  abbrev first_above : Option ℕ → List ℕ → Option ℕ
+  first_above last [] = None
+  first_above last (j ∷ js) = cond (is_above w last j) (Some j) (first_above last js)
 
-  first_less : (last : Method) (i : ℕ) (js : List ℕ) → Above i js → is_less w (first_above last js) i ≡ true
+  first_less : (last : Option ℕ) (i : ℕ) (js : List ℕ) → Above i js → is_less w (first_above last js) i ≡ true
   first_less last i [] nil = refl
   first_less last i (j ∷ js) (p & ps) = go (is_above w last j) (first_less last i js ps)
     where
-      go : (x : Bool) → is_less w (first_above last js) i ≡ true → is_less w (cond x (Entry j) (first_above last js)) i ≡ true
+      go : (x : Bool) → is_less w (first_above last js) i ≡ true → is_less w (cond x (Some j) (first_above last js)) i ≡ true
       go true r = p
       go false r = r
 
-  stays : (last : Method) (i j : ℕ) → is_below w i j ≡ false → lesser w last (Entry j) i ≡ Entry j
+  stays : (last : Option ℕ) (i j : ℕ) → is_below w i j ≡ false → lesser w last (Some j) i ≡ Some j
   stays last i j e = go (is_above w last i) (is_below w i j) e
     where
-      go : (x y : Bool) → y ≡ false → cond x (cond y (Entry i) (Entry j)) (Entry j) ≡ Entry j
+      go : (x y : Bool) → y ≡ false → cond x (cond y (Some i) (Some j)) (Some j) ≡ Some j
       go false y q = refl
       go true false q = refl
       go true true q = absurd (let z : ◌≡◌ {A = ℕ} 0 1 = cc in omega arith)
 
-  past : (last least : Method) (i : ℕ) → is_above w last i ≡ false → lesser w last least i ≡ least
-  past last least i e = ap (λ (t : Bool). cond t (cond (is_less w least i) (Entry i) least) least) e
+  past : (last least : Option ℕ) (i : ℕ) → is_above w last i ≡ false → lesser w last least i ≡ least
+  past last least i e = ap (λ (t : Bool). cond t (cond (is_less w least i) (Some i) least) least) e
 
-  first_insert : (last : Method) (i : ℕ) (js : List ℕ) → Rising js → lesser w last (first_above last js) i ≡ first_above last (insert_method w i js)
+  first_insert : (last : Option ℕ) (i : ℕ) (js : List ℕ) → Rising js → lesser w last (first_above last js) i ≡ first_above last (insert_method w i js)
   unfolding insert_method
   first_insert last i [] flat = refl
   first_insert last i (j ∷ js) (more a r) = go (is_below w i j) (is_below w j i) refl refl (first_insert last i js r)
     where
-      F : Method
+      F : Option ℕ
       F = first_above last (j ∷ js)
 
       second : (x : Bool) → is_above w last j ≡ x → is_below w i j ≡ false → lesser w last (first_above last js) i ≡ first_above last (insert_method w i js)
-          → lesser w last (cond x (Entry j) (first_above last js)) i ≡ cond x (Entry j) (first_above last (insert_method w i js))
+          → lesser w last (cond x (Some j) (first_above last js)) i ≡ cond x (Some j) (first_above last (insert_method w i js))
       second true e p s = stays last i j p
       second false e p s = s
 
       third : (x : Bool) → is_above w last j ≡ x → is_below w i j ≡ false → is_below w j i ≡ false
-          → lesser w last (cond x (Entry j) (first_above last js)) i ≡ cond x (Entry j) (first_above last js)
+          → lesser w last (cond x (Some j) (first_above last js)) i ≡ cond x (Some j) (first_above last js)
       third true e p q = stays last i j p
       third false e p q = past last (first_above last js) i (same_above i j p q last ∙ e)
 
       go : (x y : Bool) → is_below w i j ≡ x → is_below w j i ≡ y → lesser w last (first_above last js) i ≡ first_above last (insert_method w i js)
           → lesser w last F i ≡ first_above last (cond x (i ∷ j ∷ js) (cond y (j ∷ insert_method w i js) (j ∷ js)))
       go true y p q s =
-          ap (λ (t : Bool). cond (is_above w last i) (cond t (Entry i) F) F) (first_less last i (j ∷ js) (p & above_trans i j js p a))
+          ap (λ (t : Bool). cond (is_above w last i) (cond t (Some i) F) F) (first_less last i (j ∷ js) (p & above_trans i j js p a))
       go false true p q s = second (is_above w last j) refl p s
       go false false p q s = third (is_above w last j) refl p q
 
   -- the least above the last one, of the first n entries
-  least_last : (last least : Method) (i n : ℕ) → least_from w last least i (suc n) ≡ lesser w last (least_from w last least i n) (i + n)
+  least_last : (last least : Option ℕ) (i n : ℕ) → least_from w last least i (suc n) ≡ lesser w last (least_from w last least i n) (i + n)
   unfolding least_from
   least_last last least i zero = ap (lesser w last least) (omega arith)
   least_last last least i (suc n) =
       least_last last (lesser w last least i) (suc i) n
       ∙ ap (lesser w last (least_from w last (lesser w last least i) (suc i) n)) (omega arith)
 
-  least_first : (last : Method) (n : ℕ) → least_from w last Over 0 n ≡ first_above last (method_order w n)
+  least_first : (last : Option ℕ) (n : ℕ) → least_from w last None 0 n ≡ first_above last (method_order w n)
   unfolding least_from method_order
   least_first last zero = refl
   least_first last (suc n) =
-      least_last last Over 0 n ∙ (ap (lesser w last (least_from w last Over 0 n)) (omega arith)
-      ∙ (ap (λ (x : Method). lesser w last x n) (least_first last n) ∙ first_insert last n (method_order w n) (rising_order n)))
+      least_last last None 0 n ∙ (ap (lesser w last (least_from w last None 0 n)) (omega arith)
+      ∙ (ap (λ (x : Option ℕ). lesser w last x n) (least_first last n) ∙ first_insert last n (method_order w n) (rising_order n)))
 
   -- the entry at a place of a list, and the one after it
-  abbrev nth : List ℕ → ℕ → Method
-  nth [] k = Over
-  nth (j ∷ js) zero = Entry j
+  abbrev nth : List ℕ → ℕ → Option ℕ
+  nth [] k = None
+  nth (j ∷ js) zero = Some j
   nth (j ∷ js) (suc k) = nth js k
 
-  abbrev next_in : List ℕ → Method → Method
-  next_in js Over = Over
-  next_in js (Entry j) = first_above (Entry j) js
+  abbrev next_in : List ℕ → Option ℕ → Option ℕ
+  next_in js None = None
+  next_in js (Some j) = first_above (Some j) js
 
   nth_less : (j : ℕ) (js : List ℕ) → Above j js → (k : ℕ) → is_less w (nth js k) j ≡ true
   nth_less j [] nil k = refl
   nth_less j (x ∷ js) (p & ps) zero = p
   nth_less j (x ∷ js) (p & ps) (suc k) = nth_less j js ps k
 
-  skip_head : (j : ℕ) (js : List ℕ) (m : Method) → is_less w m j ≡ true → next_in (j ∷ js) m ≡ next_in js m
-  skip_head j js Over h = refl
-  skip_head j js (Entry x) h = ap (λ (t : Bool). cond t (Entry j) (first_above (Entry x) js)) (below_back j x h)
+  skip_head : (j : ℕ) (js : List ℕ) (m : Option ℕ) → is_less w m j ≡ true → next_in (j ∷ js) m ≡ next_in js m
+  skip_head j js None h = refl
+  skip_head j js (Some x) h = ap (λ (t : Bool). cond t (Some j) (first_above (Some x) js)) (below_back j x h)
 
   next_nth : (js : List ℕ) → Rising js → (k : ℕ) → next_in js (nth js k) ≡ nth js (suc k)
   next_nth [] flat k = refl
-  next_nth (j ∷ js) (more a r) zero = ap (λ (t : Bool). cond t (Entry j) (first_above (Entry j) js)) (below_self j) ∙ head js a
+  next_nth (j ∷ js) (more a r) zero = ap (λ (t : Bool). cond t (Some j) (first_above (Some j) js)) (below_self j) ∙ head js a
     where
-      head : (js : List ℕ) → Above j js → first_above (Entry j) js ≡ nth js zero
+      head : (js : List ℕ) → Above j js → first_above (Some j) js ≡ nth js zero
       head [] nil = refl
-      head (x ∷ js) (p & ps) = ap (λ (t : Bool). cond t (Entry x) (first_above (Entry j) js)) p
+      head (x ∷ js) (p & ps) = ap (λ (t : Bool). cond t (Some x) (first_above (Some j) js)) p
   next_nth (j ∷ js) (more a r) (suc k) = skip_head j js (nth js k) (nth_less j js a k) ∙ next_nth js r k
 
-  after_next : (n : ℕ) (m : Method) → method_after w n m ≡ next_in (method_order w n) m
+  after_next : (n : ℕ) (m : Option ℕ) → method_after w n m ≡ next_in (method_order w n) m
   unfolding method_after
-  after_next n Over = refl
-  after_next n (Entry j) = least_first (Entry j) n
+  after_next n None = refl
+  after_next n (Some j) = least_first (Some j) n
 
   at_nth : (n k : ℕ) → method_at w n k ≡ nth (method_order w n) k
   unfolding method_at
-  at_nth n zero = least_first Over n ∙ head (method_order w n)
+  at_nth n zero = least_first None n ∙ head (method_order w n)
     where
-      head : (js : List ℕ) → first_above Over js ≡ nth js zero
+      head : (js : List ℕ) → first_above None js ≡ nth js zero
       head [] = refl
       head (j ∷ js) = refl
   at_nth n (suc k) =
@@ -284,4 +284,4 @@ module _ (w : List ℕ) where
   pub selected_sorted : (n : ℕ) → selected w n ≡ methods w n
   selected_sorted n =
       each_nth (λ k. method_lines w (method_at w n k)) (method_order w n) 0 n
-      (λ k. ap (λ (m : Method). method_lines w m) (ap (method_at w n) (omega arith) ∙ at_nth n k)) (order_length n)
+      (λ k. ap (λ (m : Option ℕ). method_lines w m) (ap (method_at w n) (omega arith) ∙ at_nth n k)) (order_length n)

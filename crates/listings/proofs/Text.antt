@@ -8,9 +8,9 @@ use mathlib.Core.List.{List, [], ◌∷◌, ◌++◌, append_assoc, append-nil}
 use lib.ListN.{length, take, drop, replicate, length-append}
 use lib.Dec.{leb}
 use borrow.Author.Tests.{leb-true, leb-false}
+use Rattle.std.specs.Prelude.{Ok}
 use Rattle.words.specs.Areas.{cleared_from}
 use Rattle.tree.proofs.Spans.{and_left, and_right}
-use Rattle.tree.specs.declared.Shape.TheVariants.{Fine}
 use Rattle.column_lines.specs.Form.{newline}
 use Rattle.column_lines.specs.Numeral.{numeral_fits}
 use Rattle.column_lines.proofs.Lines.{numeral_length, Begun, begun, begun_more, begun_length}
@@ -254,7 +254,7 @@ module _ (ls : List Fields) (out : List ℕ) (m : Placed) (after : List ℕ) (r 
       F.output ∙ (ap (λ (t : Bool). cleared_from (cond t m.offset 0) m.bytes) f ∙ (ap (λ (n : ℕ). cleared_from n m.bytes) at ∙ cleared)) in
       let reply : r ≡ success (length text) =
       F.reply ∙ (ap (λ (t : Bool). cond t (success m.offset) (refusal 9 0)) f ∙ ap success at) in
-      rw (told.0, reply) (answer_done Fine text (length text) (length out) refl (omega (arith, room)) output)
+      rw (told.0, reply) (answer_done (Ok tt) text (length text) (length out) refl (omega (arith, room)) output)
 
   wide : m.fits ≡ false → length m.bytes ≡ length out → Converts (printed ls (length out)) after r
   unfolding printed short_reply
@@ -267,9 +267,9 @@ module _ (ls : List Fields) (out : List ℕ) (m : Placed) (after : List ℕ) (r 
       reply = F.reply ∙ ap (λ (t : Bool). cond t (success m.offset) (refusal 9 0)) f
 
       by : (a b : Bool) → all_fit ls ≡ a → leb (length (text_of ls)) (length out) ≡ b
-          → Converts (cond a (answer_by Fine (text_of ls) (length (text_of ls)) (length out)) (refuse 9 0 (length out))) after r
+          → Converts (cond a (answer_by (Ok tt) (text_of ls) (length (text_of ls)) (length out)) (refuse 9 0 (length out))) after r
       by false b A B = record { reply = reply; output = output }
-      by true false A B = answer_short Fine (text_of ls) (length (text_of ls)) (length out) (leb-false _ _ B) output reply
+      by true false A B = answer_short (Ok tt) (text_of ls) (length (text_of ls)) (length out) (leb-false _ _ B) output reply
       by true true A B =
           let room = leb-true (length (text_of ls)) (length out) B in
           let whole = lines_whole ls [] out out 0 (begun out) A (omega (arith, room)) m e in

@@ -10,14 +10,15 @@ use Rattle.words.specs.Program.{function_at, code_of}
 use Rattle.words.specs.declared.program.FunctionRecord.{FunctionRecord}
 use Rattle.line_writer.specs.Placed.{Placed, placed, number_at, byte_at}
 use Rattle.line_writer.specs.Written.{start_at, line_at}
-use Rattle.line_writer.specs.declared.place.Place.{Place}
+use Rattle.std.specs.Prelude.{Result, Ok, Err}
+use Rattle.line_writer.specs.declared.place.Refused.{Refused}
 use Rattle.line_writer.specs.declared.writer.Fields.{Fields}
 use Rattle.listings.specs.Lines.{lines_at}
 use Rattle.listings.specs.Sections.{entry_line, is_listed, entry_lines, each_from, each, section, function_code}
 use Rattle.listings.specs.Selecting.{method_lines}
 use Rattle.listings.specs.declared.lines.Section.{Section}
 use Rattle.listings.specs.declared.lines.Section.TheVariants.{Instructions}
-use Rattle.listings.specs.declared.methods.Method.{Method}
+use Rattle.std.specs.Prelude.{Option}
 
 -- what was refused stays as it is
 abbrev stopped : ℕ → List ℕ → Placed
@@ -44,27 +45,37 @@ unfolding lines_at
 lines_append [] b m = refl
 lines_append (l ∷ a) b m = lines_append a b (line_at l m)
 
--- one entry
-module _ (s : Section) (w : List ℕ) (i : ℕ) (p : Place) (bs : List ℕ) where
-  pub entry_written : {l : Fields} {r : Place} {after : List ℕ} {t : Bool} → p.fits ≡ true → t ≡ is_listed s w i → t ≡ true → l ≡ entry_line s w i
-      → placed r after ≡ line_at l (start_at p.offset bs) → placed r after ≡ lines_at (entry_lines s w i) (placed p bs)
-  unfolding lines_at
-  entry_written {l} {r} {after} {t} f d e q h =
-      h ∙ (ap (λ (x : Fields). line_at x (start_at p.offset bs)) q
-      ∙ (ap (λ (b : Bool). line_at (entry_line s w i) (record { offset = p.offset; fits = b; bytes = bs })) (sym f)
-      ∙ ap (λ (b : Bool). lines_at (cond b (entry_line s w i ∷ []) []) (placed p bs)) (sym e ∙ d)))
+-- a place that was refused before
+pub place_refused : (ls : List Fields) (p r : Result ℕ Refused) {x : Refused} (bs : List ℕ) → p ≡ Err x → r ≡ Err x → placed r bs ≡ lines_at ls (placed p bs)
+place_refused ls p r {x} bs e f =
+    ap (λ (o : Result ℕ Refused). placed o bs) f ∙ (sym (lines_stopped ls x.offset bs) ∙ ap (λ (o : Result ℕ Refused). lines_at ls (placed o bs)) (sym e))
 
-  pub entry_unlisted : {t : Bool} → t ≡ is_listed s w i → t ≡ false → placed p bs ≡ lines_at (entry_lines s w i) (placed p bs)
+-- one entry
+module _ (s : Section) (w : List ℕ) (i : ℕ) (p : Result ℕ Refused) (at : ℕ) (bs : List ℕ) (P : p ≡ Ok at) where
+  from_place : lines_at (entry_lines s w i) (start_at at bs) ≡ lines_at (entry_lines s w i) (placed p bs)
+  from_place = ap (λ (o : Result ℕ Refused). lines_at (entry_lines s w i) (placed o bs)) (sym P)
+
+  pub entry_written : {l : Fields} {r : Placed} {t : Bool} → t ≡ is_listed s w i → t ≡ true → l ≡ entry_line s w i → r ≡ line_at l (start_at at bs)
+      → r ≡ lines_at (entry_lines s w i) (placed p bs)
   unfolding lines_at
-  entry_unlisted d e = ap (λ (b : Bool). lines_at (cond b (entry_line s w i ∷ []) []) (placed p bs)) (sym e ∙ d)
+  entry_written {l} {r} {t} d e q h =
+      h ∙ (ap (λ (x : Fields). line_at x (start_at at bs)) q
+      ∙ (ap (λ (b : Bool). lines_at (cond b (entry_line s w i ∷ []) []) (start_at at bs)) (sym e ∙ d) ∙ from_place))
+
+  pub entry_unlisted : {t : Bool} → t ≡ is_listed s w i → t ≡ false → start_at at bs ≡ lines_at (entry_lines s w i) (placed p bs)
+  unfolding lines_at
+  entry_unlisted d e = ap (λ (b : Bool). lines_at (cond b (entry_line s w i ∷ []) []) (start_at at bs)) (sym e ∙ d) ∙ from_place
 
 -- all that n numbers give from the place m₀ on is what those from i on give from m
 pub record Left (f : ℕ → List Fields) (n : ℕ) (m₀ m : Placed) (i : ℕ) : Type 0 where
   pub whole : lines_at (each f n) m₀ ≡ lines_at (each_from f i (n - i)) m
 
 module _ (f : ℕ → List Fields) (n : ℕ) where
-  pub left_begin : (m : Placed) → Left f n m m 0
+  left_begin : (m : Placed) → Left f n m m 0
   left_begin m = record { whole = ap (λ (k : ℕ). lines_at (each_from f 0 k) m) (omega arith) }
+
+  pub left_from : (p : Result ℕ Refused) {at : ℕ} (out : List ℕ) → p ≡ Ok at → Left f n (placed p out) (start_at at out) 0
+  left_from p out e = rw e (left_begin _)
 
   one_more : (i k : ℕ) (m : Placed) → lines_at (each_from f i (suc k)) m ≡ lines_at (each_from f (i + 1) k) (lines_at (f i) m)
   unfolding each_from
@@ -85,8 +96,18 @@ module _ (f : ℕ → List Fields) (n : ℕ) where
       let none : n - i ≡ 0 = omega (arith, l) in
       sym (h.whole ∙ ap (λ (k : ℕ). lines_at (each_from f i k) m) none)
 
-  pub left_refused : {m₀ m : Placed} {i : ℕ} → Left f n m₀ m i → m.fits ≡ false → m ≡ lines_at (each f n) m₀
+  left_refused : {m₀ m : Placed} {i : ℕ} → Left f n m₀ m i → m.fits ≡ false → m ≡ lines_at (each f n) m₀
   left_refused {m₀} {m} {i} h e = lines_refused (each_from f i (n - i)) m e ∙ sym h.whole
+
+  -- a turn of the loop, after which the next byte goes to a place or nothing more is written
+  pub left_on : {m₀ m : Placed} {i : ℕ} (r : Result ℕ Refused) {at : ℕ} {out : List ℕ} → Left f n m₀ m i → i < n → placed r out ≡ lines_at (f i) m
+      → r ≡ Ok at → Left f n m₀ (start_at at out) (i + 1)
+  left_on r {out = out} h l e q = left_more h l (ap (λ (o : Result ℕ Refused). placed o out) (sym q) ∙ e)
+
+  pub left_stopped : {m₀ m : Placed} {i : ℕ} (r s : Result ℕ Refused) {x : Refused} (out : List ℕ) → Left f n m₀ m i → i < n
+      → placed r out ≡ lines_at (f i) m → r ≡ Err x → s ≡ Err x → placed s out ≡ lines_at (each f n) m₀
+  left_stopped r s out h l e q t =
+      ap (λ (o : Result ℕ Refused). placed o out) t ∙ left_refused (left_more h l (ap (λ (o : Result ℕ Refused). placed o out) (sym q) ∙ e)) refl
 
 -- a function's instructions, by the part of the code area that they occupy
 pub code_written : (functions code : List ℕ) (i : ℕ) (m : Placed) {f : FunctionRecord} {part : List ℕ} {m' : Placed} → f ≡ function_at functions i
@@ -94,5 +115,5 @@ pub code_written : (functions code : List ℕ) (i : ℕ) (m : Placed) {f : Funct
 code_written functions code i m {f} {part} {m'} F P h =
     h ∙ ap (λ (p : List ℕ). lines_at (section (Instructions i) p (length p / 2)) m) (P ∙ ap (code_of code) F)
 
-pub method_written : (w : List ℕ) (m : Placed) {x y : Method} {m' : Placed} → x ≡ y → m' ≡ lines_at (method_lines w x) m → m' ≡ lines_at (method_lines w y) m
-method_written w m {x} {y} {m'} e h = h ∙ ap (λ (z : Method). lines_at (method_lines w z) m) e
+pub method_written : (w : List ℕ) (m : Placed) {x y : Option ℕ} {m' : Placed} → x ≡ y → m' ≡ lines_at (method_lines w x) m → m' ≡ lines_at (method_lines w y) m
+method_written w m {x} {y} {m'} e h = h ∙ ap (λ (z : Option ℕ). lines_at (method_lines w z) m) e

@@ -1,18 +1,18 @@
 -- Sections one after the other are the lines of a delivery or of a refusal, and the listing is what the end makes of them. Assumes nothing.
 use Prim.Native.Nat.{ℕ}
-use mathlib.Core.Path.{◌≡◌, sym, ap, ◌∙◌}
+use mathlib.Core.Path.{◌≡◌, refl, sym, ap, ◌∙◌}
 use mathlib.Core.Bool.{Bool, true, false, cond}
 use mathlib.Core.List.{List, [], ◌∷◌, ◌++◌}
 use lib.ListN.{length}
 use borrow.Author.Tests.{eq-eqb, ne_eqb}
-use Rattle.words.specs.Areas.{cleared_from}
 use Rattle.words.specs.declared.reply.Reply.{Reply}
 use Rattle.words.specs.declared.reply.Totals.{Totals}
-use Rattle.column_files.specs.Convert.{Converts, success, refusal}
+use Rattle.column_files.specs.Convert.{Converts}
 use Rattle.column_files.specs.declared.Converted.{Converted}
 use Rattle.line_writer.specs.Placed.{Placed, placed}
 use Rattle.line_writer.specs.Written.{start_at, line_at}
-use Rattle.line_writer.specs.declared.place.Place.{Place}
+use Rattle.std.specs.Prelude.{Result, Ok, Err}
+use Rattle.line_writer.specs.declared.place.Refused.{Refused}
 use Rattle.line_writer.specs.declared.writer.Fields.{Fields}
 use Rattle.listings.specs.Lines.{lines_at}
 use Rattle.listings.specs.Sections.{totals_line, refusal_line, section, each, function_code, methods, errors_in, lists_errors}
@@ -23,19 +23,9 @@ use Rattle.listings.specs.declared.lines.Section.TheVariants.{Functions, Constan
 use Rattle.listings.proofs.Walking.{lines_append}
 use Rattle.listings.proofs.Text.{finished}
 
--- the end
-pub finish_done : (p : Place) (bs : List ℕ) {after : List ℕ} → p.fits ≡ true → after ≡ cleared_from p.offset bs
-    → Finishes (placed p bs) after (success p.offset)
-finish_done p bs f e = record {
-  reply = ap (λ (t : Bool). cond t (success p.offset) (refusal 9 0)) (sym f);
-  output = e ∙ ap (λ (t : Bool). cleared_from (cond t p.offset 0) bs) (sym f);
-}
-
-pub finish_wide : (p : Place) (bs : List ℕ) {after : List ℕ} → p.fits ≡ false → after ≡ cleared_from 0 bs → Finishes (placed p bs) after (refusal 9 0)
-finish_wide p bs f e = record {
-  reply = ap (λ (t : Bool). cond t (success p.offset) (refusal 9 0)) (sym f);
-  output = e ∙ ap (λ (t : Bool). cleared_from (cond t p.offset 0) bs) (sym f);
-}
+pub placed_long : (p : Result ℕ Refused) (bs : List ℕ) → length (placed p bs).bytes ≡ length bs
+placed_long (Ok at) bs = refl
+placed_long (Err r) bs = refl
 
 -- one part, and what follows it
 follows : (m : Placed) (a b : List Fields) {m' r : Placed} → m' ≡ lines_at a m → r ≡ lines_at b m' → r ≡ lines_at (a ++ b) m

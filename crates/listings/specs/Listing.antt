@@ -1,16 +1,17 @@
 -- 01's listing of a reply and the areas: its lines, its text, and what `write` answers. 'An output too short for .. the listing, or a number wider than its
 -- listing field, then gives 9, place 0, output all zero'
+use Rattle.std.specs.Prelude.{Ok}
 use Rattle.std.specs.Prelude.{ℕ, cond, ◌≡◌, List, [], ◌∷◌, ◌++◌, length, eqb}
 use Rattle.words.specs.Areas.{cleared_from}
 use Rattle.words.specs.declared.reply.Reply.{Reply}
 use Rattle.words.specs.declared.reply.Totals.{Totals}
-use Rattle.tree.specs.declared.Shape.TheVariants.{Fine}
 use Rattle.column_files.specs.Convert.{Conversion, answer_by, refuse, success, refusal}
 use Rattle.column_files.specs.declared.Converted.{Converted}
 use Rattle.line_writer.specs.Placed.{Placed}
 use Rattle.line_writer.specs.declared.writer.Fields.{Fields}
 use Rattle.listings.specs.Lines.{text_of, all_fit}
 use Rattle.listings.specs.Sections.{refusal_line, totals_line, section, each, function_code, methods, errors_in, lists_errors}
+use Rattle.listings.specs.declared.LentAreas.{LentAreas}
 use Rattle.listings.specs.declared.lines.Section.TheVariants.{Functions, Constants, Models, Properties, ContextValues, Globals, Files, Errors}
 
 -- the words of a program's areas that are listed
@@ -36,6 +37,10 @@ areas c k f m p t l o = record {
   books = o;
 }
 
+-- those of areas that are lent
+abbrev pub areas_of : LentAreas → Areas
+areas_of a = areas a.code.now a.constants.now a.functions.now a.models.now a.properties.now a.methods.now a.locals.now a.books.now
+
 -- a delivery: sections 1 to 10
 unfoldable pub delivery_lines : Totals → Areas → List Fields
 delivery_lines t a =
@@ -54,7 +59,7 @@ listing_lines r a errors = cond (eqb r.number 0) (delivery_lines r.totals a) (re
 
 -- lines in an output of `room` bytes: their text, zeros after it, and how many bytes; or 9, place 0, and zeros
 unfoldable pub printed : List Fields → ℕ → Conversion
-printed ls room = cond (all_fit ls) (answer_by Fine (text_of ls) (length (text_of ls)) room) (refuse 9 0 room)
+printed ls room = cond (all_fit ls) (answer_by (Ok tt) (text_of ls) (length (text_of ls)) room) (refuse 9 0 room)
 
 unfoldable pub listing : Reply → Areas → (errors : List ℕ) → (room : ℕ) → Conversion
 listing r a errors room = printed (listing_lines r a errors) room

@@ -25,6 +25,19 @@ use Rattle.listings.specs.declared.lines.Section.TheVariants.{
   Errors,
 }
 
+-- 01's numbers of the sections that list an area; 0 and 1 are the refusal and the totals
+abbrev pub number_of : Section → ℕ
+number_of Functions = 2
+number_of (Instructions function) = 3
+number_of Constants = 4
+number_of Models = 5
+number_of Properties = 6
+number_of Methods = 7
+number_of ContextValues = 8
+number_of Globals = 9
+number_of Files = 10
+number_of Errors = 11
+
 -- a line; only the last number may be signed
 abbrev pub line : (section a b c d e f last : ℕ) → Bool → Fields
 line section a b c d e f last signed = record {

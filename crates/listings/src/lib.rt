@@ -10,7 +10,7 @@ ghost use Rattle.column_files.specs.Convert.{Converts};
 ghost use Rattle.line_writer.specs.Placed.{placed};
 ghost use Rattle.line_writer.specs.Written.{start_at};
 ghost use Rattle.listings.specs.Lines.{lines_at};
-ghost use Rattle.listings.specs.Listing.{areas, delivery_lines, refusal_lines, listing, Finishes};
+ghost use Rattle.listings.specs.Listing.{areas_of, delivery_lines, refusal_lines, listing, Finishes};
 ghost use Rattle.listings.specs.Sections.{totals_line, refusal_line};
 
 use crate::lines::{REFUSAL, Section, TOTALS};
@@ -20,6 +20,20 @@ use column_files::file::clear_bytes;
 use line_writer::place::Place;
 use line_writer::writer::{Fields, write_line};
 use words::reply::{AREA_FULL, Reply, Totals};
+
+// The areas that a listing shows, as they are lent.
+#[derive(Clone, Copy)]
+pub struct LentAreas<'a> {
+    pub code: &'a [u64],
+    pub constants: &'a [u64],
+    pub functions: &'a [u64],
+    pub models: &'a [u64],
+    pub properties: &'a [u64],
+    pub methods: &'a [u64],
+    pub locals: &'a [u64],
+    pub errors: &'a [u64],
+    pub books: &'a [u64],
+}
 
 fn totals_line(totals: Totals) -> Fields
     ensures { result ≡ totals_line totals }
@@ -44,49 +58,42 @@ fn refusal_line(reply: Reply) -> Fields
         section: REFUSAL,
         first: reply.number,
         second: reply.place,
-        third: 0,
-        fourth: 0,
-        fifth: 0,
-        sixth: 0,
-        last: 0,
-        signed: false,
+        ..Fields::default()
     }
 }
 
 // A delivery: sections 1 to 10.
-fn write_delivery(
-    totals: Totals,
-    code: &[u64],
-    constants: &[u64],
-    functions: &[u64],
-    models: &[u64],
-    properties: &[u64],
-    methods: &[u64],
-    locals: &[u64],
-    books: &[u64],
-    out: &mut [u8],
-) -> Place
-    ensures { placed result out.new ≡ lines_at
-        (delivery_lines totals (areas code.now constants.now functions.now models.now properties.now
-        methods.now locals.now books.now)) (start_at 0 out.old) }
+fn write_delivery(totals: Totals, lent: LentAreas<'_>, out: &mut [u8]) -> Place
+    ensures { placed result out.new ≡ lines_at (delivery_lines totals (areas_of lent.entry)) (start_at 0 out.old) }
 {
+    let LentAreas {
+        code,
+        constants,
+        functions,
+        models,
+        properties,
+        methods,
+        locals,
+        errors: _,
+        books,
+    } = lent;
     let first = totals_line(totals);
-    let a = write_line(out, 0, first);
-    let b = write_section(Section::Functions, functions, totals.functions, out, a);
-    let c = write_code(functions, code, totals.functions, out, b);
-    let d = write_section(Section::Constants, constants, totals.constants, out, c);
-    let e = write_section(Section::Models, models, totals.models, out, d);
-    let f = write_section(Section::Properties, properties, totals.properties, out, e);
-    let g = write_methods(methods, totals.methods, out, f);
-    let h = write_section(
+    let at = write_line(out, 0, first);
+    let at = write_section(Section::Functions, functions, totals.functions, out, at);
+    let at = write_code(functions, code, totals.functions, out, at);
+    let at = write_section(Section::Constants, constants, totals.constants, out, at);
+    let at = write_section(Section::Models, models, totals.models, out, at);
+    let at = write_section(Section::Properties, properties, totals.properties, out, at);
+    let at = write_methods(methods, totals.methods, out, at);
+    let at = write_section(
         Section::ContextValues,
         locals,
         totals.context_locals,
         out,
-        g,
+        at,
     );
-    let i = write_section(Section::Globals, constants, totals.constants, out, h);
-    write_section(Section::Files, books, totals.books, out, i)
+    let at = write_section(Section::Globals, constants, totals.constants, out, at);
+    write_section(Section::Files, books, totals.books, out, at)
 }
 
 // A refusal: section 0, then the errors, after rows 7 and 8.
@@ -106,56 +113,35 @@ fn write_refusal(reply: Reply, errors: &[u64], out: &mut [u8]) -> Place
 fn finish(out: &mut [u8], place: Place) -> Converted
     ensures { Finishes (placed place out.old) out.new result }
 {
-    if place.fits {
-        clear_bytes(out, place.offset);
-        return Converted {
-            number: 0,
-            place: 0,
-            total: place.offset,
-        };
-    }
-    clear_bytes(out, 0);
-    Converted {
-        number: AREA_FULL,
-        place: 0,
-        total: 0,
+    match place {
+        Ok(end) => {
+            clear_bytes(out, end);
+            Converted {
+                number: 0,
+                place: 0,
+                total: end,
+            }
+        }
+        Err(_) => {
+            clear_bytes(out, 0);
+            Converted {
+                number: AREA_FULL,
+                place: 0,
+                total: 0,
+            }
+        }
     }
 }
 
 // Writes the listing of a reply and the areas: its bytes, zeros after them, and how many bytes. A number wider than its field or an output that is too short
 // answers row 9, place 0, and leaves zeros.
-pub fn write(
-    reply: Reply,
-    code: &[u64],
-    constants: &[u64],
-    functions: &[u64],
-    models: &[u64],
-    properties: &[u64],
-    methods: &[u64],
-    locals: &[u64],
-    errors: &[u64],
-    books: &[u64],
-    out: &mut [u8],
-) -> Converted
-    ensures { Converts (listing reply
-        (areas code.now constants.now functions.now models.now properties.now methods.now
-        locals.now books.now) errors.now (length out.old)) out.new result }
+pub fn write(reply: Reply, lent: LentAreas<'_>, out: &mut [u8]) -> Converted
+    ensures { Converts (listing reply (areas_of lent.entry) lent.entry.errors.now (length out.old)) out.new result }
 {
-    if reply.number == 0 {
-        let place = write_delivery(
-            reply.totals,
-            code,
-            constants,
-            functions,
-            models,
-            properties,
-            methods,
-            locals,
-            books,
-            out,
-        );
-        return finish(out, place);
-    }
-    let place = write_refusal(reply, errors, out);
+    let place = if reply.number == 0 {
+        write_delivery(reply.totals, lent, out)
+    } else {
+        write_refusal(reply, lent.errors, out)
+    };
     finish(out, place)
 }

@@ -5,7 +5,8 @@ ghost use Rattle.words.specs.Opcode.{unword};
 ghost use Rattle.line_writer.specs.Placed.{placed};
 ghost use Rattle.listings.specs.Cases.{case_line};
 ghost use Rattle.listings.specs.Lines.{lines_at};
-ghost use Rattle.listings.specs.Sections.{line, function_line, instruction_line, constant_line, model_line, property_index, property_line, method_line};
+ghost use Rattle.listings.specs.Sections.{number_of, line, function_line, instruction_line, constant_line, model_line, property_index, property_line};
+ghost use Rattle.listings.specs.Sections.{method_line};
 ghost use Rattle.listings.specs.Sections.{context_value_line, file_line, error_line, entry_line, is_listed, entry_lines};
 
 use line_writer::place::Place;
@@ -14,41 +15,50 @@ use words::areas::{
     BOOK_WORDS, CODE_WORDS, CONSTANT_WORDS, CONTEXT_LOCAL_WORDS, ERROR_WORDS, METHOD_WORDS,
     MODEL_WORDS, PROPERTY_WORDS, entry_word,
 };
-use words::object::{CONSTANT_KIND, CONSTANT_VALUE, Constant, Decoded, constant_at};
+use words::object::{CONSTANT_KIND, CONSTANT_VALUE, Constant, constant_at};
 use words::opcode::{OPCODE_UNIT, OpCode};
 use words::program::{function_record, instruction_at, position_at};
 use words::record::{column_of, line_of};
 use words::{program, record};
 
-// The numbers of 01's sections.
+// The words of an entry that `words` has no name for.
+const GLOBAL_MARK: usize = 2;
+
+const MODEL_FILE: usize = 0;
+
+const MODEL_NAME: usize = 1;
+
+const PROPERTY_MODEL: usize = 0;
+
+const PROPERTY_NAME: usize = 1;
+
+pub(crate) const METHOD_MODEL: usize = 0;
+
+pub(crate) const METHOD_NAME: usize = 1;
+
+const METHOD_FUNCTION: usize = 2;
+
+const LOCAL_MARK: usize = 2;
+
+const LOCAL_CONSTANT: usize = 3;
+
+const BOOK_NUMBER: usize = 0;
+
+pub(crate) const ERROR_NUMBER: usize = 0;
+
+const ERROR_POSITION: usize = 1;
+
+const ERROR_KIND: usize = 2;
+
+const ERROR_VALUE: usize = 3;
+
+// The numbers of the two sections that list no area: `entry_line` and `is_listed` of `Sections.antt` have no case for them.
 pub const REFUSAL: u64 = 0;
 
 pub const TOTALS: u64 = 1;
 
-pub const FUNCTION: u64 = 2;
-
-pub const INSTRUCTION: u64 = 3;
-
-pub const CONSTANT: u64 = 4;
-
-pub const MODEL: u64 = 5;
-
-pub const PROPERTY: u64 = 6;
-
-pub const METHOD: u64 = 7;
-
-pub const CONTEXT_VALUE: u64 = 8;
-
-pub const GLOBAL: u64 = 9;
-
-pub const FILE: u64 = 10;
-
-pub const ERROR: u64 = 11;
-
-// The number of `OpCode::Unknown`.
-const UNKNOWN: u64 = 0xFF;
-
-// The sections that list the entries of one area; of instructions, those of one function.
+// The sections that list the entries of one area; of instructions, those of one function. No closure stands for one, since the promise of `write_section`
+// names the section.
 #[derive(Clone, Copy)]
 pub enum Section {
     Functions,
@@ -63,29 +73,47 @@ pub enum Section {
     Errors,
 }
 
-// A line of a section, two numbers and a last one.
-fn short_line(section: u64, first: u64, second: u64, last: u64, signed: bool) -> Fields
-    ensures { result ≡ line section first second 0 0 0 0 last signed }
-{
-    Fields {
-        section,
-        first,
-        second,
-        third: 0,
-        fourth: 0,
-        fifth: 0,
-        sixth: 0,
-        last,
-        signed,
+impl Section {
+    // The number of 01.
+    pub fn number(self) -> u64
+        ensures { result ≡ number_of self }
+    {
+        match self {
+            Section::Functions => 2,
+            Section::Instructions(_) => 3,
+            Section::Constants => 4,
+            Section::Models => 5,
+            Section::Properties => 6,
+            Section::Methods => 7,
+            Section::ContextValues => 8,
+            Section::Globals => 9,
+            Section::Files => 10,
+            Section::Errors => 11,
+        }
     }
 }
 
+// A line of a section, two numbers and a last one.
+fn short_line(section: Section, first: u64, second: u64, last: u64, signed: bool) -> Fields
+    ensures { result ≡ line (number_of section) first second 0 0 0 0 last signed }
+{
+    Fields {
+        section: section.number(),
+        first,
+        second,
+        last,
+        signed,
+        ..Fields::default()
+    }
+}
+
+#[tactic(auto, unfolding(words::specs::Areas::entry_field))]
 fn function_line(functions: &[u64], i: usize) -> Fields
     ensures { result ≡ function_line functions.now i }
 {
     let f = function_record(functions, i);
     Fields {
-        section: FUNCTION,
+        section: Section::Functions.number(),
         first: i as u64,
         second: f.parameters,
         third: f.locals,
@@ -98,15 +126,15 @@ fn function_line(functions: &[u64], i: usize) -> Fields
 }
 
 // The number of a word's opcode; of one that is none of `opcode.rs`, as it stands in the word.
+#[tactic(auto, unfolding(words::specs::Opcode::unword), using(words::proofs::Codes::number_back))]
 fn opcode_number(opcode: OpCode, word: u64) -> u64
     requires { opcode ≡ opcode_of (unword word).opcode }
     ensures { result ≡ (unword word).opcode }
 {
-    let number = opcode.number();
-    if number == UNKNOWN {
-        return word / OPCODE_UNIT;
+    match opcode {
+        OpCode::Unknown => word / OPCODE_UNIT,
+        _ => opcode.number(),
     }
-    number
 }
 
 fn instruction_line(function: u64, part: &[u64], i: usize) -> Fields
@@ -117,33 +145,29 @@ fn instruction_line(function: u64, part: &[u64], i: usize) -> Fields
     let position = position_at(part, i);
     let opcode = instruction.opcode();
     Fields {
-        section: INSTRUCTION,
+        section: Section::Instructions(function).number(),
         first: function,
         second: i as u64,
         third: line_of(position),
         fourth: column_of(position),
         fifth: opcode_number(opcode, word),
-        sixth: 0,
         last: instruction.operand(),
-        signed: false,
+        ..Fields::default()
     }
 }
 
 // A constant by its case: integers are signed. A float's bits stay as they stand in the pool, since a NaN has lost its own (docs/DECISIONS.md, 10).
+#[tactic(auto, unfolding(crate::specs::Cases::case_line))]
 fn case_line(i: u64, constant: Constant, bits: u64) -> Fields
     ensures { result ≡ case_line i constant bits }
 {
-    let kind = constant.kind();
-    let value = constant.value();
-    match constant {
-        Constant::Null => short_line(CONSTANT, i, kind, value, false),
-        Constant::Boolean(_) => short_line(CONSTANT, i, kind, value, false),
-        Constant::Integer(_) => short_line(CONSTANT, i, kind, value, true),
-        Constant::Float(_) => short_line(CONSTANT, i, kind, bits, false),
-        Constant::Text(_) => short_line(CONSTANT, i, kind, value, false),
-        Constant::Model(_) => short_line(CONSTANT, i, kind, value, false),
-        Constant::Function(_) => short_line(CONSTANT, i, kind, value, false),
-    }
+    let value = match constant {
+        Constant::Float(_) => bits,
+        _ => constant.value(),
+    };
+    let signed = matches!(constant, Constant::Integer(_));
+    let kind = constant.kind().number();
+    short_line(Section::Constants, i, kind, value, signed)
 }
 
 // Words that are no constant are listed as they stand.
@@ -152,90 +176,95 @@ fn constant_line(constants: &[u64], i: usize) -> Fields
 {
     let kind = entry_word(constants, CONSTANT_WORDS, i, CONSTANT_KIND);
     let value = entry_word(constants, CONSTANT_WORDS, i, CONSTANT_VALUE);
-    let decoded = constant_at(constants, i);
-    match decoded {
-        Decoded::Is(constant) => case_line(i as u64, constant, value),
-        Decoded::NoConstant => short_line(CONSTANT, i as u64, kind, value, false),
+    match constant_at(constants, i) {
+        Some(constant) => case_line(i as u64, constant, value),
+        None => short_line(Section::Constants, i as u64, kind, value, false),
     }
 }
 
+#[tactic(auto, unfolding(words::specs::Areas::entry_field))]
 fn model_line(models: &[u64], i: usize) -> Fields
     ensures { result ≡ model_line models.now i }
 {
-    let file = entry_word(models, MODEL_WORDS, i, 0);
-    let name = entry_word(models, MODEL_WORDS, i, 1);
-    short_line(MODEL, i as u64, file, name, false)
+    let file = entry_word(models, MODEL_WORDS, i, MODEL_FILE);
+    let name = entry_word(models, MODEL_WORDS, i, MODEL_NAME);
+    short_line(Section::Models, i as u64, file, name, false)
 }
 
 // A property's index in its model: the earlier entries of the model, which need not stand together.
 fn property_index(properties: &[u64], i: usize) -> u64
     ensures { result ≡ property_index properties.now i }
 {
-    let model = entry_word(properties, PROPERTY_WORDS, i, 0);
+    let model = entry_word(properties, PROPERTY_WORDS, i, PROPERTY_MODEL);
     let mut index: u64 = 0;
-    let mut j: usize = 0;
-    while j < i {
-        if entry_word(properties, PROPERTY_WORDS, j, 0) == model {
+    for j in 0..i {
+        if entry_word(properties, PROPERTY_WORDS, j, PROPERTY_MODEL) == model {
             index += 1;
         }
-        j += 1;
     }
     index
 }
 
+#[tactic(auto, unfolding(words::specs::Areas::entry_field))]
 fn property_line(properties: &[u64], i: usize) -> Fields
     ensures { result ≡ property_line properties.now i }
 {
-    let model = entry_word(properties, PROPERTY_WORDS, i, 0);
+    let model = entry_word(properties, PROPERTY_WORDS, i, PROPERTY_MODEL);
     let index = property_index(properties, i);
-    let name = entry_word(properties, PROPERTY_WORDS, i, 1);
-    short_line(PROPERTY, model, index, name, false)
+    let name = entry_word(properties, PROPERTY_WORDS, i, PROPERTY_NAME);
+    short_line(Section::Properties, model, index, name, false)
 }
 
+#[tactic(auto, unfolding(words::specs::Areas::entry_field))]
 fn method_line(methods: &[u64], i: usize) -> Fields
     ensures { result ≡ method_line methods.now i }
 {
-    let model = entry_word(methods, METHOD_WORDS, i, 0);
-    let name = entry_word(methods, METHOD_WORDS, i, 1);
-    let function = entry_word(methods, METHOD_WORDS, i, 2);
-    short_line(METHOD, model, function, name, false)
+    let model = entry_word(methods, METHOD_WORDS, i, METHOD_MODEL);
+    let name = entry_word(methods, METHOD_WORDS, i, METHOD_NAME);
+    let function = entry_word(methods, METHOD_WORDS, i, METHOD_FUNCTION);
+    short_line(Section::Methods, model, function, name, false)
 }
 
+// Not one function with `file_line`: the word that is listed stands in another of the line's fields.
+#[tactic(auto, unfolding(words::specs::Areas::entry_field))]
 fn context_value_line(locals: &[u64], i: usize) -> Fields
     ensures { result ≡ context_value_line locals.now i }
 {
-    let constant = entry_word(locals, CONTEXT_LOCAL_WORDS, i, 3);
-    short_line(CONTEXT_VALUE, i as u64, constant, 0, false)
+    let constant = entry_word(locals, CONTEXT_LOCAL_WORDS, i, LOCAL_CONSTANT);
+    short_line(Section::ContextValues, i as u64, constant, 0, false)
 }
 
+#[tactic(auto, unfolding(words::specs::Areas::entry_field))]
 fn file_line(books: &[u64], i: usize) -> Fields
     ensures { result ≡ file_line books.now i }
 {
-    let number = entry_word(books, BOOK_WORDS, i, 0);
-    short_line(FILE, i as u64, 0, number, false)
+    let number = entry_word(books, BOOK_WORDS, i, BOOK_NUMBER);
+    short_line(Section::Files, i as u64, 0, number, false)
 }
 
+#[tactic(auto, unfolding(words::specs::Areas::entry_field))]
 fn error_line(errors: &[u64], i: usize) -> Fields
     ensures { result ≡ error_line errors.now i }
 {
-    let number = entry_word(errors, ERROR_WORDS, i, 0);
-    let position = entry_word(errors, ERROR_WORDS, i, 1);
-    let kind = entry_word(errors, ERROR_WORDS, i, 2);
-    let value = entry_word(errors, ERROR_WORDS, i, 3);
+    let number = entry_word(errors, ERROR_WORDS, i, ERROR_NUMBER);
+    let position = entry_word(errors, ERROR_WORDS, i, ERROR_POSITION);
+    let kind = entry_word(errors, ERROR_WORDS, i, ERROR_KIND);
+    let value = entry_word(errors, ERROR_WORDS, i, ERROR_VALUE);
     Fields {
-        section: ERROR,
+        section: Section::Errors.number(),
         first: i as u64,
         second: number,
         third: line_of(position),
         fourth: column_of(position),
         fifth: kind,
-        sixth: 0,
         last: value,
         signed: kind == record::INTEGER,
+        ..Fields::default()
     }
 }
 
 // The line of entry i of a section's area.
+#[tactic(auto, unfolding(crate::specs::Sections::entry_line))]
 fn entry_line(section: Section, area: &[u64], i: usize) -> Fields
     ensures { result ≡ entry_line section area.now i }
 {
@@ -247,27 +276,21 @@ fn entry_line(section: Section, area: &[u64], i: usize) -> Fields
         Section::Properties => property_line(area, i),
         Section::Methods => method_line(area, i),
         Section::ContextValues => context_value_line(area, i),
-        Section::Globals => short_line(GLOBAL, i as u64, 0, 0, false),
+        Section::Globals => short_line(Section::Globals, i as u64, 0, 0, false),
         Section::Files => file_line(area, i),
         Section::Errors => error_line(area, i),
     }
 }
 
 // A context local without a value and a constant that is no global have no line.
+#[tactic(auto, unfolding(words::specs::Areas::entry_field, crate::specs::Sections::is_listed))]
 fn is_listed(section: Section, area: &[u64], i: usize) -> bool
     ensures { result ≡ is_listed section area.now i }
 {
     match section {
-        Section::Functions => true,
-        Section::Instructions(_) => true,
-        Section::Constants => true,
-        Section::Models => true,
-        Section::Properties => true,
-        Section::Methods => true,
-        Section::ContextValues => entry_word(area, CONTEXT_LOCAL_WORDS, i, 2) == 1,
-        Section::Globals => entry_word(area, CONSTANT_WORDS, i, 2) == 1,
-        Section::Files => true,
-        Section::Errors => true,
+        Section::ContextValues => entry_word(area, CONTEXT_LOCAL_WORDS, i, LOCAL_MARK) == 1,
+        Section::Globals => entry_word(area, CONSTANT_WORDS, i, GLOBAL_MARK) == 1,
+        _ => true,
     }
 }
 
@@ -275,11 +298,10 @@ fn is_listed(section: Section, area: &[u64], i: usize) -> bool
 pub fn write_entry(section: Section, area: &[u64], i: usize, out: &mut [u8], place: Place) -> Place
     ensures { placed result out.new ≡ lines_at (entry_lines section area.now i) (placed place out.old) }
 {
-    if place.fits {
-        if is_listed(section, area, i) {
-            let line = entry_line(section, area, i);
-            return write_line(out, place.offset, line);
-        }
+    let at = place?;
+    if is_listed(section, area, i) {
+        let line = entry_line(section, area, i);
+        return write_line(out, at, line);
     }
-    place
+    Ok(at)
 }

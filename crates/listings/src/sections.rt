@@ -5,8 +5,8 @@ ghost use Rattle.listings.specs.Lines.{lines_at};
 ghost use Rattle.listings.specs.Sections.{section, each, function_code, errors_in, lists_errors};
 ghost use Rattle.listings.specs.Selecting.{method_lines, selected};
 
-use crate::lines::{Section, write_entry};
-use crate::methods::{Method, least_above, method_after};
+use crate::lines::{ERROR_NUMBER, Section, write_entry};
+use crate::methods::{least_above, method_after};
 use line_writer::place::Place;
 use words::areas::{CODE_WORDS, ERROR_WORDS, entry_word};
 use words::program::{code_of, function_record};
@@ -16,17 +16,11 @@ use words::reply::{BOOK_FAULTY, RING};
 pub fn write_section(kind: Section, area: &[u64], n: u64, out: &mut [u8], place: Place) -> Place
     ensures { placed result out.new ≡ lines_at (section kind area.now n) (placed place out.old) }
 {
-    let count = n as usize;
-    let mut p = place;
-    let mut i: usize = 0;
-    while i < count {
-        if !p.fits {
-            return p;
-        }
-        p = write_entry(kind, area, i, out, p);
-        i += 1;
+    let mut at = place?;
+    for i in 0..n as usize {
+        at = write_entry(kind, area, i, out, Ok(at))?;
     }
-    p
+    Ok(at)
 }
 
 // Each function's instructions.
@@ -34,28 +28,29 @@ pub fn write_code(functions: &[u64], code: &[u64], n: u64, out: &mut [u8], place
     ensures { placed result out.new
         ≡ lines_at (each (λ i. function_code functions.now code.now i) n) (placed place out.old) }
 {
-    let count = n as usize;
-    let mut p = place;
-    let mut i: usize = 0;
-    while i < count {
-        if !p.fits {
-            return p;
-        }
+    let mut at = place?;
+    for i in 0..n as usize {
         let f = function_record(functions, i);
         let part = code_of(code, f);
         let length = part.len() / CODE_WORDS;
-        p = write_section(Section::Instructions(i as u64), part, length as u64, out, p);
-        i += 1;
+        at = write_section(
+            Section::Instructions(i as u64),
+            part,
+            length as u64,
+            out,
+            Ok(at),
+        )?;
     }
-    p
+    Ok(at)
 }
 
-fn write_method(area: &[u64], method: Method, out: &mut [u8], place: Place) -> Place
+#[tactic(auto, unfolding(crate::specs::Lines::lines_at))]
+fn write_method(area: &[u64], method: Option<usize>, out: &mut [u8], place: Place) -> Place
     ensures { placed result out.new ≡ lines_at (method_lines area.now method) (placed place out.old) }
 {
     match method {
-        Method::Entry(i) => write_entry(Section::Methods, area, i, out, place),
-        Method::Over => place,
+        Some(i) => write_entry(Section::Methods, area, i, out, place),
+        None => place,
     }
 }
 
@@ -64,18 +59,13 @@ pub fn write_methods(area: &[u64], n: u64, out: &mut [u8], place: Place) -> Plac
     ensures { placed result out.new ≡ lines_at (selected area.now n) (placed place out.old) }
 {
     let count = n as usize;
-    let mut p = place;
-    let mut method = least_above(area, count, Method::Over);
-    let mut i: usize = 0;
-    while i < count {
-        if !p.fits {
-            return p;
-        }
-        p = write_method(area, method, out, p);
+    let mut at = place?;
+    let mut method = least_above(area, count, None);
+    for i in 0..count {
+        at = write_method(area, method, out, Ok(at))?;
         method = method_after(area, count, method);
-        i += 1;
     }
-    p
+    Ok(at)
 }
 
 // How many errors a refusal has: the entries ahead of the first without a number.
@@ -83,22 +73,13 @@ pub fn errors_in(errors: &[u64]) -> u64
     ensures { result ≡ errors_in errors.now }
 {
     let n = errors.len() / ERROR_WORDS;
-    let mut i: usize = 0;
-    while i < n {
-        if entry_word(errors, ERROR_WORDS, i, 0) == 0 {
-            return i as u64;
-        }
-        i += 1;
-    }
-    n as u64
+    let first = (0..n).position(|i| entry_word(errors, ERROR_WORDS, i, ERROR_NUMBER) == 0);
+    first.unwrap_or(n) as u64
 }
 
 // Whether a refusal lists errors: after the program check's row 3 area 11 is as lent, and what it has are no errors of this call.
 pub fn lists_errors(row: u64) -> bool
     ensures { result ≡ lists_errors row }
 {
-    if row == BOOK_FAULTY {
-        return true;
-    }
-    row == RING
+    row == BOOK_FAULTY || row == RING
 }

@@ -1,37 +1,76 @@
 -- The table of starts: step by step as `starts_of` makes it; it suits its memory; and the parts that it gives are the areas. Assumes nothing.
-use mathlib.Core.Path.{◌≡◌, refl, sym, ap, ◌∙◌}
+use mathlib.Core.Path.{◌≡◌, refl, sym, ap, subst, ◌∙◌}
 use mathlib.Core.List.{List, [], ◌∷◌}
 use mathlib.Core.Bool.{Bool, true, false}
 use Prim.Native.Nat.{ℕ, zero, suc, ◌+◌, ◌-◌, ◌≤◌, ◌<◌, min}
 use native.Mathlib.Omega.{arith}
-use lib.ListN.{length, take, drop, get_or, length-drop, drop_of_length-le}
-use lib.Seq.{take_all, drop-cons, drop-drop}
+use lib.ListN.{length, take, drop, get_or, set, length-drop, length-set, drop_of_length-le}
+use native.Mathlib.Decide.{dec_lt}
+use lib.Seq.{take_all, drop-drop, get_or-set_same, get_or-set_other}
+use Rattle.std.proofs.lemmas.Grind.{same_number_lists}
 use lib.Dec.{leb}
 use borrow.Author.Tests.{leb-true, leb-false}
 use Rattle.memory.specs.Layout.{areas_of, starts_from, starts_of, part, Fits}
 
--- one start more, and the end
-start : (l : List ℕ) (size i : ℕ) {at end : ℕ} {xs : List ℕ} → i < length l → end ≡ min size (at + get_or l i 0)
-    → xs ≡ starts_from size end (drop (suc i) l) → at ∷ xs ≡ starts_from size at (drop i l)
+-- the table's numbers: there is no area 0, the first part starts at 0, each further one where the one before it ends, and the memory's end is the last
+pub starts_length : (size at : ℕ) (ns : List ℕ) → length (starts_from size at ns) ≡ length ns + 2
 unfolding starts_from
-start l size i {at} h e q = rw (drop-cons l i 0 h) (ap (λ (t : List ℕ). at ∷ t) (q ∙ ap (λ n. starts_from size n (drop (suc i) l)) e))
+starts_length size at [] = refl
+starts_length size at (n ∷ ns) = omega (arith, starts_length size (min size (at + n)) ns)
 
-last : (l : List ℕ) (size n : ℕ) {at : ℕ} → length l ≡ n → at ∷ size ∷ [] ≡ starts_from size at (drop n l)
+pub next_start : (size at : ℕ) (ns : List ℕ) (i : ℕ) → i < length ns
+    → get_or (starts_from size at ns) (suc i) 0 ≡ min size (get_or (starts_from size at ns) i 0 + get_or ns i 0)
 unfolding starts_from
-last l size n h = rw (drop_of_length-le l {i = n} (omega (arith, h))) refl
+next_start size at [] i h = absurd (omega arith)
+next_start size at (n ∷ []) zero h = refl
+next_start size at (n ∷ (m ∷ ns)) zero h = refl
+next_start size at (n ∷ ns) (suc i) h = next_start size (min size (at + n)) ns i (omega arith)
 
--- twelve starts, each the end of the part before it
-pub starts_are : (l : List ℕ) (size : ℕ) → length l ≡ 12 → {b c d e f g h i j k m n : ℕ}
-    → b ≡ min size (0 + get_or l 0 0) → c ≡ min size (b + get_or l 1 0) → d ≡ min size (c + get_or l 2 0) → e ≡ min size (d + get_or l 3 0)
-    → f ≡ min size (e + get_or l 4 0) → g ≡ min size (f + get_or l 5 0) → h ≡ min size (g + get_or l 6 0) → i ≡ min size (h + get_or l 7 0)
-    → j ≡ min size (i + get_or l 8 0) → k ≡ min size (j + get_or l 9 0) → m ≡ min size (k + get_or l 10 0) → n ≡ min size (m + get_or l 11 0)
-    → ◌≡◌ {A = List ℕ} (0 ∷ 0 ∷ b ∷ c ∷ d ∷ e ∷ f ∷ g ∷ h ∷ i ∷ j ∷ k ∷ m ∷ n ∷ size ∷ []) (starts_of l size)
-starts_are l size q b c d e f g h i j k m n =
-    ap (λ (t : List ℕ). 0 ∷ t)
-    (start l size 0 (omega (arith, q)) b (start l size 1 (omega (arith, q)) c (start l size 2 (omega (arith, q)) d (start l size 3 (omega (arith, q)) e
-    (start l size 4 (omega (arith, q)) f (start l size 5 (omega (arith, q)) g (start l size 6 (omega (arith, q)) h (start l size 7 (omega (arith, q)) i
-    (start l size 8 (omega (arith, q)) j (start l size 9 (omega (arith, q)) k (start l size 10 (omega (arith, q)) m (start l size 11 (omega (arith, q)) n
-    (last l size 12 q)))))))))))))
+first_start : (size at : ℕ) (ns : List ℕ) → get_or (starts_from size at ns) 0 0 ≡ at
+unfolding starts_from
+first_start size at [] = refl
+first_start size at (n ∷ ns) = refl
+
+pub from_ends : (size at : ℕ) (ns : List ℕ) → get_or (starts_from size at ns) (suc (length ns)) 0 ≡ size
+unfolding starts_from
+from_ends size at [] = refl
+from_ends size at (n ∷ ns) = from_ends size (min size (at + n)) ns
+
+pub starts_begin : (l s : List ℕ) (size k : ℕ) → k < 2 → get_or (0 ∷ 0 ∷ s) k 0 ≡ get_or (starts_of l size) k 0
+starts_begin l s size zero h = refl
+starts_begin l s size (suc zero) h = sym (first_start size 0 l)
+starts_begin l s size (suc (suc k)) h = absurd (omega arith)
+
+pub starts_turn : (l s : List ℕ) (size i : ℕ) {v : ℕ} → i < length l → i + 2 < length s
+    → ((k : ℕ) → k < i + 2 → get_or s k 0 ≡ get_or (starts_of l size) k 0) → v ≡ min size (get_or s (i + 1) 0 + get_or l i 0)
+    → (k : ℕ) → k < i + 1 + 2 → get_or (set s (i + 2) v) k 0 ≡ get_or (starts_of l size) k 0
+starts_turn l s size i {v} h inside same e k below = go (dec_lt k (i + 2))
+  where
+    there : get_or s (i + 1) 0 ≡ get_or (starts_from size 0 l) i 0
+    there = let next : i + 1 ≡ suc i = omega arith in same (i + 1) (omega arith) ∙ ap (λ n. get_or (starts_of l size) n 0) next
+
+    go : Dec (k < i + 2) → get_or (set s (i + 2) v) k 0 ≡ get_or (starts_of l size) k 0
+    go (yes b) = get_or-set_other s (i + 2) k v 0 (λ q. omega arith) ∙ same k b
+    go (no n) =
+        let here : i + 2 ≡ k = omega arith in
+        let next : suc (suc i) ≡ k = omega arith in
+        subst (λ n. get_or (set s (i + 2) v) n 0 ≡ get_or (starts_of l size) k 0) here
+        (get_or-set_same s (i + 2) v 0 inside ∙ e ∙ ap (λ n. min size (n + get_or l i 0)) there ∙ sym (next_start size 0 l i h)
+        ∙ ap (λ n. get_or (starts_of l size) n 0) next)
+
+pub starts_end : (l s : List ℕ) (size : ℕ) → length l ≡ 12 → length s ≡ 15
+    → ((k : ℕ) → k < 14 → get_or s k 0 ≡ get_or (starts_of l size) k 0) → set s 14 size ≡ starts_of l size
+starts_end l s size h long same =
+    same_number_lists (set s 14 size) (starts_of l size) (length-set s 14 size ∙ omega (arith, starts_length size 0 l))
+    (λ k b. go k (omega (arith, length-set s 14 size)) (dec_lt k 14))
+  where
+    go : (k : ℕ) → k < 15 → Dec (k < 14) → get_or (set s 14 size) k 0 ≡ get_or (starts_of l size) k 0
+    go k b (yes below) = get_or-set_other s 14 k size 0 (λ q. omega arith) ∙ same k below
+    go k b (no n) =
+        let here : 14 ≡ k = omega arith in
+        let end : suc (suc (length l)) ≡ k = omega arith in
+        subst (λ n. get_or (set s 14 size) n 0 ≡ get_or (starts_of l size) k 0) here
+        (get_or-set_same s 14 size 0 (omega arith) ∙ sym (from_ends size 0 l) ∙ ap (λ n. get_or (starts_of l size) n 0) end)
 
 -- a table of starts as long as its lengths suits the memory: the starts ascend, and the last part ends at the memory's end
 pub from_ascend : (size at : ℕ) (ns : List ℕ) → at ≤ size → (i : ℕ) → i < suc (length ns)
@@ -42,11 +81,6 @@ from_ascend size at [] h (suc i) g = absurd (omega arith)
 from_ascend size at (n ∷ []) h zero g = omega arith
 from_ascend size at (n ∷ m ∷ ns) h zero g = omega arith
 from_ascend size at (n ∷ ns) h (suc i) g = from_ascend size (min size (at + n)) ns (omega arith) i (omega arith)
-
-pub from_ends : (size at : ℕ) (ns : List ℕ) → get_or (starts_from size at ns) (suc (length ns)) 0 ≡ size
-unfolding starts_from
-from_ends size at [] = refl
-from_ends size at (n ∷ ns) = from_ends size (min size (at + n)) ns
 
 pub starts_fit : (lengths : List ℕ) (size : ℕ) → length lengths ≡ 12 → Fits (starts_of lengths size) size
 starts_fit lengths size h = record {
@@ -81,11 +115,6 @@ drop_cut l at n size h q = go (leb (at + n) size) refl
         let e = leb-false (at + n) size e in
         drop_of_length-le l {i = min size (at + n)} (omega (arith, e, q)) ∙ sym (drop_of_length-le l {i = at + n} (omega (arith, e, q)))
         ∙ sym (drop-drop n at l)
-
-first_start : (size at : ℕ) (ns : List ℕ) → get_or (starts_from size at ns) 0 0 ≡ at
-unfolding starts_from
-first_start size at [] = refl
-first_start size at (n ∷ ns) = refl
 
 from_areas : (m : List ℕ) (size at : ℕ) (ns : List ℕ) → length m ≡ size → at ≤ size → (i : ℕ) → i ≤ length ns
     → part (starts_from size at ns) i m ≡ get_or (areas_of ns (drop at m)) i []

@@ -1,15 +1,16 @@
 -- The entries of an area one after the other, and the zeros behind them. Assumes nothing.
-use Prim.Native.Nat.{ℕ, suc, ◌+◌, ◌*◌, ◌/◌, ◌≤◌, ◌<◌}
+use Prim.Native.Nat.{ℕ, suc, ◌+◌, ◌-◌, ◌*◌, ◌/◌, ◌≤◌, ◌<◌}
 use native.Mathlib.Omega.{arith}
 use native.Mathlib.Nat.{mul-le-mul_right, div-mul-le_self}
-use native.Mathlib.Numerals.{add-one}
-use mathlib.Core.Path.{◌≡◌, sym, ap, subst, ◌∙◌}
-use mathlib.Core.Bool.{Bool, true, false, not, ◌&&◌}
-use mathlib.Core.List.{List, []}
-use lib.ListN.{length, get_or, drop, replicate, length-replicate, drop_of_length-le}
-use lib.Seq.{drop-cons, get_or_at}
-use lib.Dec.{T, leb}
-use borrow.Author.Tests.{ne_eqb, le-leb, lt-leb, not-true, not-false}
+use Rattle.std.specs.Prelude.{nat_eq}
+use Rattle.std.specs.List.{list_all}
+use mathlib.Core.Path.{◌≡◌, refl, sym, ap, subst, ◌∙◌}
+use mathlib.Core.Bool.{Bool, true, false, cond, not, ◌&&◌}
+use mathlib.Core.List.{List, [], ◌∷◌}
+use lib.ListN.{length, get_or, take, drop, replicate, length-drop, length-replicate, drop_of_length-le}
+use lib.Seq.{get_or_at, take_all}
+use lib.Dec.{T, eqb, leb}
+use borrow.Author.Tests.{le-leb, lt-leb, not-true, not-false}
 use Rattle.words.specs.Areas.{width_of, entries_in}
 use Rattle.words.specs.Reply.{total_of}
 use Rattle.words.specs.declared.reply.Totals.{Totals}
@@ -22,21 +23,24 @@ use Rattle.program_check.specs.Parts.{alone, entry_fine, entries_fine}
 
 -- zeros
 
-pub zeros_turn : (w : List ℕ) (from i : ℕ) → zeros (drop i w) ≡ zeros (drop from w) → i < length w → get_or w i 0 ≡ 0
-    → zeros (drop (i + 1) w) ≡ zeros (drop from w)
-zeros_turn w from i e h z =
-    let s : zeros (drop i w) ≡ zeros (drop (i + 1) w) = rw (drop-cons w i 0 h, add-one, z) in
-    sym s ∙ e
+zeros_are : (w : List ℕ) → list_all (λ x. nat_eq x 0) w ≡ zeros w
+zeros_are [] = refl
+zeros_are (x ∷ xs) = ap (λ (b : Bool). eqb x 0 && b) (zeros_are xs) ∙ both (eqb x 0) (zeros xs)
+  where
+    both : (a b : Bool) → (a && b) ≡ cond a b false
+    both true b = refl
+    both false b = refl
 
-pub zeros_no : (w : List ℕ) (from i : ℕ) → zeros (drop i w) ≡ zeros (drop from w) → i < length w → (get_or w i 0 ≡ 0 → ⊥) → false ≡ zeros (drop from w)
-zeros_no w from i e h z =
-    let s : zeros (drop i w) ≡ false = rw (drop-cons w i 0 h, ne_eqb (get_or w i 0) 0 z) in
-    sym s ∙ e
+pub zeros_all : (w : List ℕ) {r : Bool} → r ≡ list_all (λ x. eqb x 0) w → r ≡ zeros w
+zeros_all w e = e ∙ zeros_are w
 
-pub zeros_end : (w : List ℕ) (from i : ℕ) → zeros (drop i w) ≡ zeros (drop from w) → length w ≤ i → true ≡ zeros (drop from w)
-zeros_end w from i e h =
-    let s : zeros (drop i w) ≡ true = rw (drop_of_length-le w h) in
-    sym s ∙ e
+pub zeros_past : (w : List ℕ) (from : ℕ) → length w < from → true ≡ zeros (drop from w)
+zeros_past w from h =
+    let s : zeros (drop from w) ≡ true = rw (drop_of_length-le w {i = from} (omega (arith, h))) in
+    sym s
+
+pub rest_all : (w : List ℕ) (from : ℕ) → take (length w - from) (drop from w) ≡ drop from w
+rest_all w from = take_all (length w - from) (drop from w) (let e = length-drop from w in omega (arith, e))
 
 -- entries that an area has room for
 pub room : (n width total : ℕ) → total ≤ entries_in width n → total * width ≤ n

@@ -2,25 +2,28 @@
 use Prim.Native.Nat.{ℕ, zero, suc, ◌+◌, ◌*◌, ◌≤◌, ◌<◌}
 use native.Mathlib.Omega.{arith}
 use mathlib.Core.Path.{◌≡◌, refl, sym, ap, subst, ◌∙◌}
-use mathlib.Core.Bool.{Bool, true, false, cond, not, ◌&&◌}
-use mathlib.Core.Option.{some}
+use mathlib.Core.Bool.{Bool, true, false, cond, ◌&&◌}
+use mathlib.Core.Logic.{◌⊎◌, inl, inr}
+use native.Mathlib.Decide.{ℕ_discrete}
 use mathlib.Core.List.{List, [], ◌∷◌}
 use lib.ListN.{length, get_or, drop}
 use lib.Dec.{T, eqb, leb, leb→le, eqb→eq}
-use borrow.Author.Tests.{not-true, not-false}
+use Rattle.memory.specs.Layout.{part}
+use Rattle.words.specs.Reply.{total_of}
 use Rattle.words.specs.Areas.{width_of, entries_in, code_area, entry_field, entry_word}
 use Rattle.words.specs.declared.reply.Totals.{Totals}
-use Rattle.tree.specs.declared.Shape.TheVariants.{Fine, Refused}
 use Rattle.definition.specs.Promise.{areas}
 use Rattle.definition.specs.Within.{Areas, Program, Class, Position, Slot, Read, Pool}
 use Rattle.definition.specs.Within.{ContextSlot, Other, class_of, total, present, cell, instruction_at, has_instruction}
-use Rattle.definition.specs.Within.{all_below, where', marked, bound_by_totals, bound_by_function, area_bound, entry_bound}
-use Rattle.definition.specs.ProgramCheck.{entry_known, whole_known, zeros, area_fine, first_fault, program_fault, same_key, begins_well}
+use Rattle.definition.specs.Within.{all_below, where', marked, bound_by_function, area_bound, entry_bound}
+use Rattle.definition.specs.ProgramCheck.{entry_known, whole_known, zeros, area_fine, same_key, begins_well}
 use Rattle.definition_laws.proofs.Tests.{first_of, second_of, below_at}
 use Rattle.program_check.specs.Parts.{lent, alone, by_totals, entry_fine, entries_fine}
 use Rattle.program_check.specs.Keys.{differs_from, fresh_by, keys_by}
 use Rattle.program_check.specs.Functions.{code_and, keeps_in, function_keeps, functions_keep}
-use Rattle.program_check.specs.Answer.{answer_of}
+use Rattle.program_check.specs.HasEntries.{IsChecked}
+use Rattle.program_check.specs.OneMemory.{parts_of}
+use Rattle.program_check.proofs.InstructionTests.{totals_same}
 use Rattle.program_check.proofs.Below.{holds, and_holds, and_true, same_truth, min_is, every, below_same}
 
 five : (a b c d e : Bool) → T (a && b && c && d && e) → T a × T b × T c × T d × T e
@@ -87,15 +90,18 @@ module _ (p : Program) (a : ℕ) where
           second_of (cond (eqb a code_area) (by_totals p (instruction_at p.areas i)) (entry_bound p a i)) (entry_known p a i) (g i l)))
           (second_of (room && tail && fine) (whole_known p a) t) (second_of room tail v)
 
-  pub area_no : eqb a code_area ≡ false → {r : Bool} → r ≡ entries_fine p a → not r ≡ true → false ≡ area_fine p a
-  area_no e {r} h n =
-      let z : entries_fine p a ≡ false = sym h ∙ not-true r n in
-      sym (area_is e ∙ simp z)
+  pub area_no : eqb a code_area ≡ false → entries_fine p a ≡ false → false ≡ area_fine p a
+  area_no e h = sym (area_is e ∙ simp h)
 
-  pub area_by : eqb a code_area ≡ false → {r s : Bool} → r ≡ entries_fine p a → not r ≡ false → s ≡ whole_known p a → s ≡ area_fine p a
-  area_by e {r} {s} h n k =
-      let z : entries_fine p a ≡ true = sym h ∙ not-false r n in
-      k ∙ sym (area_is e ∙ simp z)
+  pub area_yes : eqb a code_area ≡ false → entries_fine p a ≡ true → {s : Bool} → s ≡ whole_known p a → s ≡ area_fine p a
+  area_yes e h k = k ∙ sym (area_is e ∙ simp h)
+
+  pub area_by : eqb a code_area ≡ false → {r s : Bool} → r ≡ entries_fine p a && s → (entries_fine p a ≡ true → s ≡ whole_known p a) → r ≡ area_fine p a
+  area_by e {r} {s} h k = h ∙ go (entries_fine p a) k ∙ sym (area_is e)
+    where
+      go : (x : Bool) → (x ≡ true → s ≡ whole_known p a) → x && s ≡ x && whole_known p a
+      go true f = f refl
+      go false f = refl
 
 -- area 1
 code_is : (p : Program) → area_fine p 1 ≡ entries_fine p 1 && functions_keep p
@@ -139,14 +145,6 @@ code_is p = same_truth (area_fine p 1) (entries_fine p 1 && functions_keep p) th
 
 -- what is read of a program
 
-totals_same : (k : Class) (x y : Areas) (t : Totals) (n : ℕ) → bound_by_totals k (lent x t) n ≡ bound_by_totals k (lent y t) n
-totals_same Pool x y t n = refl
-totals_same ContextSlot x y t n = refl
-totals_same Position x y t n = refl
-totals_same Slot x y t n = refl
-totals_same Read x y t n = refl
-totals_same Other x y t n = refl
-
 entries_same : (c : List ℕ) (x y : Areas) (t : Totals) → entries_fine (lent ([] ∷ c ∷ x) t) 1 ≡ entries_fine (lent ([] ∷ c ∷ y) t) 1
 unfolding entries_fine
 entries_same c x y t =
@@ -178,42 +176,42 @@ marked_same x y (suc n) e =
     ap (λ (m : ℕ). m + cell x 2 n 2) (marked_same x y n e) ∙ ap (λ (w : List ℕ). marked y n + entry_word 3 n 2 w) e
 
 module _ (code functions : List ℕ) (t : Totals) where
-  pub code_no : {r : Bool} → r ≡ entries_fine (alone 1 code t) 1 → not r ≡ true → false ≡ area_fine (code_and code functions t) 1
-  code_no {r} h n =
-      let z : entries_fine (code_and code functions t) 1 ≡ false = sym (entries_same code [] ([] ∷ functions ∷ []) t) ∙ (sym h ∙ not-true r n) in
-      sym (code_is (code_and code functions t) ∙ simp z)
+  code_both : area_fine (code_and code functions t) 1 ≡ entries_fine (alone 1 code t) 1 && functions_keep (code_and code functions t)
+  code_both =
+      code_is (code_and code functions t)
+      ∙ ap (λ (x : Bool). x && functions_keep (code_and code functions t)) (sym (entries_same code [] ([] ∷ functions ∷ []) t))
 
-  pub code_by : {r s : Bool} → r ≡ entries_fine (alone 1 code t) 1 → not r ≡ false → s ≡ functions_keep (code_and code functions t)
-      → s ≡ area_fine (code_and code functions t) 1
-  code_by {r} {s} h n k =
-      let z : entries_fine (code_and code functions t) 1 ≡ true = sym (entries_same code [] ([] ∷ functions ∷ []) t) ∙ (sym h ∙ not-false r n) in
-      k ∙ sym (code_is (code_and code functions t) ∙ simp z)
+  pub code_no : entries_fine (alone 1 code t) 1 ≡ false → false ≡ area_fine (code_and code functions t) 1
+  code_no h = sym (code_both ∙ simp h)
 
-  pub code_room : {r : Bool} → r ≡ entries_fine (alone 1 code t) 1 → not r ≡ false → t.code ≤ entries_in 2 (length code)
-  code_room {r} h n = leb→le t.code (entries_in 2 (length code)) (room_of (alone 1 code t) 1 (sym h ∙ not-false r n))
+  pub code_yes : entries_fine (alone 1 code t) 1 ≡ true → functions_keep (code_and code functions t) ≡ area_fine (code_and code functions t) 1
+  code_yes h = sym (code_both ∙ simp h)
+
+  pub code_room : entries_fine (alone 1 code t) 1 ≡ true → t.code ≤ entries_in 2 (length code)
+  code_room e = leb→le t.code (entries_in 2 (length code)) (room_of (alone 1 code t) 1 e)
 
 -- keys
 module _ (w : List ℕ) (t : Totals) where
-  pub method_keys : {r : Bool} → r ≡ entries_fine (alone 6 w t) 6 → not r ≡ false → keys_by 3 0 1 w t.methods ≡ whole_known (alone 6 w t) 6
+  pub method_keys : entries_fine (alone 6 w t) 6 ≡ true → keys_by 3 0 1 w t.methods ≡ whole_known (alone 6 w t) 6
   unfolding keys_by fresh_by entry_field
-  method_keys {r} h n =
+  method_keys h =
       ap (λ (x : ℕ). all_below x (λ i. all_below i (λ j. cond (same_key (alone 6 w t) 6 i j) false true)))
-      (sym (present_is (alone 6 w t) 6 (room_of (alone 6 w t) 6 (sym h ∙ not-false r n))))
+      (sym (present_is (alone 6 w t) 6 (room_of (alone 6 w t) 6 h)))
 
-  pub public_keys : {r : Bool} → r ≡ entries_fine (alone 8 w t) 8 → not r ≡ false → keys_by 3 0 1 w t.public_names ≡ whole_known (alone 8 w t) 8
+  pub public_keys : entries_fine (alone 8 w t) 8 ≡ true → keys_by 3 0 1 w t.public_names ≡ whole_known (alone 8 w t) 8
   unfolding keys_by fresh_by entry_field
-  public_keys {r} h n =
+  public_keys h =
       ap (λ (x : ℕ). all_below x (λ i. all_below i (λ j. cond (same_key (alone 8 w t) 8 i j) false true)))
-      (sym (present_is (alone 8 w t) 8 (room_of (alone 8 w t) 8 (sym h ∙ not-false r n))))
+      (sym (present_is (alone 8 w t) 8 (room_of (alone 8 w t) 8 h)))
 
-  pub book_keys : {r : Bool} → r ≡ entries_fine (alone 12 w t) 12 → not r ≡ false → keys_by 1 1 0 w t.books ≡ whole_known (alone 12 w t) 12
+  pub book_keys : entries_fine (alone 12 w t) 12 ≡ true → keys_by 1 1 0 w t.books ≡ whole_known (alone 12 w t) 12
   unfolding keys_by fresh_by entry_field
-  book_keys {r} h n =
+  book_keys h =
       below_same t.books (fresh_by 1 1 0 w) (λ i. all_below i (λ j. cond (same_key (alone 12 w t) 12 i j) false true)) (λ i.
       below_same i (differs_from 1 1 0 w i) (λ j. cond (same_key (alone 12 w t) 12 i j) false true) (λ j.
       ap (λ (x : Bool). cond x false true) (sym (and_true (eqb (entry_field 1 i 0 w) (entry_field 1 j 0 w))))))
       ∙ ap (λ (x : ℕ). all_below x (λ i. all_below i (λ j. cond (same_key (alone 12 w t) 12 i j) false true)))
-      (sym (present_is (alone 12 w t) 12 (room_of (alone 12 w t) 12 (sym h ∙ not-false r n))))
+      (sym (present_is (alone 12 w t) 12 (room_of (alone 12 w t) 12 h)))
 
 -- an area that has no entries
 empty_is : (p : Program) (a : ℕ) → whole_known p a ≡ eqb (total p a) 0 → room p a && tail p a && eqb (total p a) 0 ≡ area_fine p a
@@ -233,18 +231,6 @@ empty_is p a e = same_truth (room p a && tail p a && eqb (total p a) 0) (area_fi
     back t =
         let s = five (room p a) (bounds p a) (known p a) (whole_known p a) (tail p a) t in
         and_holds (room p a && tail p a) (eqb (total p a) 0) (and_holds (room p a) (tail p a) s.0 s.4) (subst T e s.3)
-
--- the areas in their order
-
-pass : (p : Program) (a : ℕ) (as' : List ℕ) {r : Bool} → r ≡ area_fine p a → not r ≡ false → first_fault p (a ∷ as') ≡ first_fault p as'
-pass p a as' {r} e n =
-    let z : area_fine p a ≡ true = sym e ∙ not-false r n in
-    simp z
-
-stop : (p : Program) (a : ℕ) (as' : List ℕ) {r : Bool} → r ≡ area_fine p a → not r ≡ true → first_fault p (a ∷ as') ≡ some a
-stop p a as' {r} e n =
-    let z : area_fine p a ≡ false = sym e ∙ not-true r n in
-    simp z
 
 module _ (c k f m p q l u n b e o : List ℕ) (t : Totals) where
   abbrev program : Program
@@ -297,220 +283,108 @@ module _ (c k f m p q l u n b e o : List ℕ) (t : Totals) where
   unfolding area_fine area_bound
   in-12 = refl
 
-  pub fault_1 : {r1 : Bool}
-      → r1 ≡ area_fine (code_and c f t) 1 → not r1 ≡ true
-      → Refused 3 (1048576 + 1) ≡ answer_of (program_fault program)
-  unfolding answer_of program_fault
-  fault_1 e1 n1 =
-      sym (ap answer_of (stop program 1 (2 ∷ 3 ∷ 4 ∷ 5 ∷ 6 ∷ 7 ∷ 8 ∷ 9 ∷ 10 ∷ 12 ∷ []) (e1 ∙ in-1) n1))
+more : (a n : ℕ) → n ≤ a → (a ≡ n → ⊥) → suc n ≤ a
+more a n l d = omega (arith, d)
 
-  pub fault_2 : {r1 r2 : Bool}
-      → r1 ≡ area_fine (code_and c f t) 1 → not r1 ≡ false
-      → r2 ≡ area_fine (alone 2 k t) 2 → not r2 ≡ true
-      → Refused 3 (1048576 + 2) ≡ answer_of (program_fault program)
-  unfolding answer_of program_fault
-  fault_2 e1 n1 e2 n2 =
-      sym (ap answer_of (pass program 1 (2 ∷ 3 ∷ 4 ∷ 5 ∷ 6 ∷ 7 ∷ 8 ∷ 9 ∷ 10 ∷ 12 ∷ []) (e1 ∙ in-1) n1
-      ∙ (stop program 2 (3 ∷ 4 ∷ 5 ∷ 6 ∷ 7 ∷ 8 ∷ 9 ∷ 10 ∷ 12 ∷ []) (e2 ∙ in-2) n2)))
+pub three_left : (a : ℕ) → IsChecked a → (a ≡ 1 → ⊥) → (a ≡ 2 → ⊥) → (a ≡ 3 → ⊥) → (a ≡ 6 → ⊥) → (a ≡ 8 → ⊥) → (a ≡ 9 → ⊥) → (a ≡ 10 → ⊥) → (a ≡ 12 → ⊥)
+    → (a ≡ 4) ⊎ ((a ≡ 5) ⊎ (a ≡ 7))
+three_left a h n1 n2 n3 n6 n8 n9 n10 n12 = go (ℕ_discrete a 4) (ℕ_discrete a 5) (ℕ_discrete a 7)
+  where
+    go : Dec (a ≡ 4) → Dec (a ≡ 5) → Dec (a ≡ 7) → (a ≡ 4) ⊎ ((a ≡ 5) ⊎ (a ≡ 7))
+    go (yes q) y z = inl q
+    go (no q) (yes r) z = inr (inl r)
+    go (no q) (no r) (yes s) = inr (inr s)
+    go (no q) (no r) (no s) =
+        let four = more a 3 (more a 2 (more a 1 h.from_code n1) n2) n3 in
+        let eight = more a 7 (more a 6 (more a 5 (more a 4 four q) r) n6) s in
+        let twelve = more a 11 (more a 10 (more a 9 (more a 8 eight n8) n9) n10) h.no_errors in
+        absurd (let past : 13 ≤ a = more a 12 twelve n12 in omega (arith, past, h.to_books))
 
-  pub fault_3 : {r1 r2 r3 : Bool}
-      → r1 ≡ area_fine (code_and c f t) 1 → not r1 ≡ false
-      → r2 ≡ area_fine (alone 2 k t) 2 → not r2 ≡ false
-      → r3 ≡ area_fine (alone 3 f t) 3 → not r3 ≡ true
-      → Refused 3 (1048576 + 3) ≡ answer_of (program_fault program)
-  unfolding answer_of program_fault
-  fault_3 e1 n1 e2 n2 e3 n3 =
-      sym (ap answer_of (pass program 1 (2 ∷ 3 ∷ 4 ∷ 5 ∷ 6 ∷ 7 ∷ 8 ∷ 9 ∷ 10 ∷ 12 ∷ []) (e1 ∙ in-1) n1
-      ∙ (pass program 2 (3 ∷ 4 ∷ 5 ∷ 6 ∷ 7 ∷ 8 ∷ 9 ∷ 10 ∷ 12 ∷ []) (e2 ∙ in-2) n2
-      ∙ (stop program 3 (4 ∷ 5 ∷ 6 ∷ 7 ∷ 8 ∷ 9 ∷ 10 ∷ 12 ∷ []) (e3 ∙ in-3) n3))))
+-- the parts of a memory
+abbrev pub laid : List ℕ → List ℕ → Totals → Program
+laid s m t = lent (parts_of s m) t
 
-  pub fault_4 : {r1 r2 r3 r4 : Bool}
-      → r1 ≡ area_fine (code_and c f t) 1 → not r1 ≡ false
-      → r2 ≡ area_fine (alone 2 k t) 2 → not r2 ≡ false
-      → r3 ≡ area_fine (alone 3 f t) 3 → not r3 ≡ false
-      → r4 ≡ entries_fine (alone 4 m t) 4 → not r4 ≡ true
-      → Refused 3 (1048576 + 4) ≡ answer_of (program_fault program)
-  unfolding answer_of program_fault
-  fault_4 e1 n1 e2 n2 e3 n3 e4 n4 =
-      sym (ap answer_of (pass program 1 (2 ∷ 3 ∷ 4 ∷ 5 ∷ 6 ∷ 7 ∷ 8 ∷ 9 ∷ 10 ∷ 12 ∷ []) (e1 ∙ in-1) n1
-      ∙ (pass program 2 (3 ∷ 4 ∷ 5 ∷ 6 ∷ 7 ∷ 8 ∷ 9 ∷ 10 ∷ 12 ∷ []) (e2 ∙ in-2) n2
-      ∙ (pass program 3 (4 ∷ 5 ∷ 6 ∷ 7 ∷ 8 ∷ 9 ∷ 10 ∷ 12 ∷ []) (e3 ∙ in-3) n3
-      ∙ (stop program 4 (5 ∷ 6 ∷ 7 ∷ 8 ∷ 9 ∷ 10 ∷ 12 ∷ []) (e4 ∙ in-4) n4)))))
+module _ (s m : List ℕ) (t : Totals) {area : ℕ} {x : List ℕ} (is : x ≡ part s area m) where
+  here : (i : ℕ) → area ≡ i → x ≡ part s i m
+  here i a = is ∙ ap (λ (k : ℕ). part s k m) a
 
-  pub fault_5 : {r1 r2 r3 r4 r5 : Bool}
-      → r1 ≡ area_fine (code_and c f t) 1 → not r1 ≡ false
-      → r2 ≡ area_fine (alone 2 k t) 2 → not r2 ≡ false
-      → r3 ≡ area_fine (alone 3 f t) 3 → not r3 ≡ false
-      → r4 ≡ entries_fine (alone 4 m t) 4 → not r4 ≡ false
-      → r5 ≡ entries_fine (alone 5 p t) 5 → not r5 ≡ true
-      → Refused 3 (1048576 + 5) ≡ answer_of (program_fault program)
-  unfolding answer_of program_fault
-  fault_5 e1 n1 e2 n2 e3 n3 e4 n4 e5 n5 =
-      sym (ap answer_of (pass program 1 (2 ∷ 3 ∷ 4 ∷ 5 ∷ 6 ∷ 7 ∷ 8 ∷ 9 ∷ 10 ∷ 12 ∷ []) (e1 ∙ in-1) n1
-      ∙ (pass program 2 (3 ∷ 4 ∷ 5 ∷ 6 ∷ 7 ∷ 8 ∷ 9 ∷ 10 ∷ 12 ∷ []) (e2 ∙ in-2) n2
-      ∙ (pass program 3 (4 ∷ 5 ∷ 6 ∷ 7 ∷ 8 ∷ 9 ∷ 10 ∷ 12 ∷ []) (e3 ∙ in-3) n3
-      ∙ (pass program 4 (5 ∷ 6 ∷ 7 ∷ 8 ∷ 9 ∷ 10 ∷ 12 ∷ []) (e4 ∙ in-4) n4
-      ∙ (stop program 5 (6 ∷ 7 ∷ 8 ∷ 9 ∷ 10 ∷ 12 ∷ []) (e5 ∙ in-5) n5))))))
+  pub passes_1 : area ≡ 1 → {y : List ℕ} → y ≡ part s 3 m → {r : Bool} → r ≡ area_fine (code_and x y t) 1 → r ≡ area_fine (laid s m t) area
+  passes_1 a f e =
+      rw a ((rw (here 1 a, f) at e)
+      ∙ in-1 (part s 1 m) (part s 2 m) (part s 3 m) (part s 4 m) (part s 5 m) (part s 6 m) (part s 7 m) (part s 8 m)
+      (part s 9 m) (part s 10 m) (part s 11 m) (part s 12 m) t)
 
-  pub fault_6 : {r1 r2 r3 r4 r5 r6 : Bool}
-      → r1 ≡ area_fine (code_and c f t) 1 → not r1 ≡ false
-      → r2 ≡ area_fine (alone 2 k t) 2 → not r2 ≡ false
-      → r3 ≡ area_fine (alone 3 f t) 3 → not r3 ≡ false
-      → r4 ≡ entries_fine (alone 4 m t) 4 → not r4 ≡ false
-      → r5 ≡ entries_fine (alone 5 p t) 5 → not r5 ≡ false
-      → r6 ≡ area_fine (alone 6 q t) 6 → not r6 ≡ true
-      → Refused 3 (1048576 + 6) ≡ answer_of (program_fault program)
-  unfolding answer_of program_fault
-  fault_6 e1 n1 e2 n2 e3 n3 e4 n4 e5 n5 e6 n6 =
-      sym (ap answer_of (pass program 1 (2 ∷ 3 ∷ 4 ∷ 5 ∷ 6 ∷ 7 ∷ 8 ∷ 9 ∷ 10 ∷ 12 ∷ []) (e1 ∙ in-1) n1
-      ∙ (pass program 2 (3 ∷ 4 ∷ 5 ∷ 6 ∷ 7 ∷ 8 ∷ 9 ∷ 10 ∷ 12 ∷ []) (e2 ∙ in-2) n2
-      ∙ (pass program 3 (4 ∷ 5 ∷ 6 ∷ 7 ∷ 8 ∷ 9 ∷ 10 ∷ 12 ∷ []) (e3 ∙ in-3) n3
-      ∙ (pass program 4 (5 ∷ 6 ∷ 7 ∷ 8 ∷ 9 ∷ 10 ∷ 12 ∷ []) (e4 ∙ in-4) n4
-      ∙ (pass program 5 (6 ∷ 7 ∷ 8 ∷ 9 ∷ 10 ∷ 12 ∷ []) (e5 ∙ in-5) n5
-      ∙ (stop program 6 (7 ∷ 8 ∷ 9 ∷ 10 ∷ 12 ∷ []) (e6 ∙ in-6) n6)))))))
+  pub passes_2 : area ≡ 2 → {r : Bool} → r ≡ area_fine (alone 2 x t) 2 → r ≡ area_fine (laid s m t) area
+  passes_2 a e =
+      rw a ((rw (here 2 a) at e)
+      ∙ in-2 (part s 1 m) (part s 2 m) (part s 3 m) (part s 4 m) (part s 5 m) (part s 6 m) (part s 7 m) (part s 8 m)
+      (part s 9 m) (part s 10 m) (part s 11 m) (part s 12 m) t)
 
-  pub fault_7 : {r1 r2 r3 r4 r5 r6 r7 : Bool}
-      → r1 ≡ area_fine (code_and c f t) 1 → not r1 ≡ false
-      → r2 ≡ area_fine (alone 2 k t) 2 → not r2 ≡ false
-      → r3 ≡ area_fine (alone 3 f t) 3 → not r3 ≡ false
-      → r4 ≡ entries_fine (alone 4 m t) 4 → not r4 ≡ false
-      → r5 ≡ entries_fine (alone 5 p t) 5 → not r5 ≡ false
-      → r6 ≡ area_fine (alone 6 q t) 6 → not r6 ≡ false
-      → r7 ≡ entries_fine (alone 7 l t) 7 → not r7 ≡ true
-      → Refused 3 (1048576 + 7) ≡ answer_of (program_fault program)
-  unfolding answer_of program_fault
-  fault_7 e1 n1 e2 n2 e3 n3 e4 n4 e5 n5 e6 n6 e7 n7 =
-      sym (ap answer_of (pass program 1 (2 ∷ 3 ∷ 4 ∷ 5 ∷ 6 ∷ 7 ∷ 8 ∷ 9 ∷ 10 ∷ 12 ∷ []) (e1 ∙ in-1) n1
-      ∙ (pass program 2 (3 ∷ 4 ∷ 5 ∷ 6 ∷ 7 ∷ 8 ∷ 9 ∷ 10 ∷ 12 ∷ []) (e2 ∙ in-2) n2
-      ∙ (pass program 3 (4 ∷ 5 ∷ 6 ∷ 7 ∷ 8 ∷ 9 ∷ 10 ∷ 12 ∷ []) (e3 ∙ in-3) n3
-      ∙ (pass program 4 (5 ∷ 6 ∷ 7 ∷ 8 ∷ 9 ∷ 10 ∷ 12 ∷ []) (e4 ∙ in-4) n4
-      ∙ (pass program 5 (6 ∷ 7 ∷ 8 ∷ 9 ∷ 10 ∷ 12 ∷ []) (e5 ∙ in-5) n5
-      ∙ (pass program 6 (7 ∷ 8 ∷ 9 ∷ 10 ∷ 12 ∷ []) (e6 ∙ in-6) n6
-      ∙ (stop program 7 (8 ∷ 9 ∷ 10 ∷ 12 ∷ []) (e7 ∙ in-7) n7))))))))
+  pub passes_3 : area ≡ 3 → {r : Bool} → r ≡ area_fine (alone 3 x t) 3 → r ≡ area_fine (laid s m t) area
+  passes_3 a e =
+      rw a ((rw (here 3 a) at e)
+      ∙ in-3 (part s 1 m) (part s 2 m) (part s 3 m) (part s 4 m) (part s 5 m) (part s 6 m) (part s 7 m) (part s 8 m)
+      (part s 9 m) (part s 10 m) (part s 11 m) (part s 12 m) t)
 
-  pub fault_8 : {r1 r2 r3 r4 r5 r6 r7 r8 : Bool}
-      → r1 ≡ area_fine (code_and c f t) 1 → not r1 ≡ false
-      → r2 ≡ area_fine (alone 2 k t) 2 → not r2 ≡ false
-      → r3 ≡ area_fine (alone 3 f t) 3 → not r3 ≡ false
-      → r4 ≡ entries_fine (alone 4 m t) 4 → not r4 ≡ false
-      → r5 ≡ entries_fine (alone 5 p t) 5 → not r5 ≡ false
-      → r6 ≡ area_fine (alone 6 q t) 6 → not r6 ≡ false
-      → r7 ≡ entries_fine (alone 7 l t) 7 → not r7 ≡ false
-      → r8 ≡ area_fine (alone 8 u t) 8 → not r8 ≡ true
-      → Refused 3 (1048576 + 8) ≡ answer_of (program_fault program)
-  unfolding answer_of program_fault
-  fault_8 e1 n1 e2 n2 e3 n3 e4 n4 e5 n5 e6 n6 e7 n7 e8 n8 =
-      sym (ap answer_of (pass program 1 (2 ∷ 3 ∷ 4 ∷ 5 ∷ 6 ∷ 7 ∷ 8 ∷ 9 ∷ 10 ∷ 12 ∷ []) (e1 ∙ in-1) n1
-      ∙ (pass program 2 (3 ∷ 4 ∷ 5 ∷ 6 ∷ 7 ∷ 8 ∷ 9 ∷ 10 ∷ 12 ∷ []) (e2 ∙ in-2) n2
-      ∙ (pass program 3 (4 ∷ 5 ∷ 6 ∷ 7 ∷ 8 ∷ 9 ∷ 10 ∷ 12 ∷ []) (e3 ∙ in-3) n3
-      ∙ (pass program 4 (5 ∷ 6 ∷ 7 ∷ 8 ∷ 9 ∷ 10 ∷ 12 ∷ []) (e4 ∙ in-4) n4
-      ∙ (pass program 5 (6 ∷ 7 ∷ 8 ∷ 9 ∷ 10 ∷ 12 ∷ []) (e5 ∙ in-5) n5
-      ∙ (pass program 6 (7 ∷ 8 ∷ 9 ∷ 10 ∷ 12 ∷ []) (e6 ∙ in-6) n6
-      ∙ (pass program 7 (8 ∷ 9 ∷ 10 ∷ 12 ∷ []) (e7 ∙ in-7) n7
-      ∙ (stop program 8 (9 ∷ 10 ∷ 12 ∷ []) (e8 ∙ in-8) n8)))))))))
+  pub passes_9 : area ≡ 9 → {r : Bool}
+      → r ≡ leb t.scope_names (entries_in (width_of 9) (length x)) && zeros (drop (t.scope_names * width_of 9) x) && eqb t.scope_names 0
+      → r ≡ area_fine (laid s m t) area
+  passes_9 a e =
+      rw a ((rw (here 9 a) at e)
+      ∙ in-9 (part s 1 m) (part s 2 m) (part s 3 m) (part s 4 m) (part s 5 m) (part s 6 m) (part s 7 m) (part s 8 m)
+      (part s 9 m) (part s 10 m) (part s 11 m) (part s 12 m) t)
 
-  pub fault_9 : {r1 r2 r3 r4 r5 r6 r7 r8 r9 : Bool}
-      → r1 ≡ area_fine (code_and c f t) 1 → not r1 ≡ false
-      → r2 ≡ area_fine (alone 2 k t) 2 → not r2 ≡ false
-      → r3 ≡ area_fine (alone 3 f t) 3 → not r3 ≡ false
-      → r4 ≡ entries_fine (alone 4 m t) 4 → not r4 ≡ false
-      → r5 ≡ entries_fine (alone 5 p t) 5 → not r5 ≡ false
-      → r6 ≡ area_fine (alone 6 q t) 6 → not r6 ≡ false
-      → r7 ≡ entries_fine (alone 7 l t) 7 → not r7 ≡ false
-      → r8 ≡ area_fine (alone 8 u t) 8 → not r8 ≡ false
-      → r9 ≡ leb t.scope_names (entries_in (width_of 9) (length n)) && zeros (drop (t.scope_names * width_of 9) n) && eqb t.scope_names 0 → not
-      r9 ≡ true
-      → Refused 3 (1048576 + 9) ≡ answer_of (program_fault program)
-  unfolding answer_of program_fault
-  fault_9 e1 n1 e2 n2 e3 n3 e4 n4 e5 n5 e6 n6 e7 n7 e8 n8 e9 n9 =
-      sym (ap answer_of (pass program 1 (2 ∷ 3 ∷ 4 ∷ 5 ∷ 6 ∷ 7 ∷ 8 ∷ 9 ∷ 10 ∷ 12 ∷ []) (e1 ∙ in-1) n1
-      ∙ (pass program 2 (3 ∷ 4 ∷ 5 ∷ 6 ∷ 7 ∷ 8 ∷ 9 ∷ 10 ∷ 12 ∷ []) (e2 ∙ in-2) n2
-      ∙ (pass program 3 (4 ∷ 5 ∷ 6 ∷ 7 ∷ 8 ∷ 9 ∷ 10 ∷ 12 ∷ []) (e3 ∙ in-3) n3
-      ∙ (pass program 4 (5 ∷ 6 ∷ 7 ∷ 8 ∷ 9 ∷ 10 ∷ 12 ∷ []) (e4 ∙ in-4) n4
-      ∙ (pass program 5 (6 ∷ 7 ∷ 8 ∷ 9 ∷ 10 ∷ 12 ∷ []) (e5 ∙ in-5) n5
-      ∙ (pass program 6 (7 ∷ 8 ∷ 9 ∷ 10 ∷ 12 ∷ []) (e6 ∙ in-6) n6
-      ∙ (pass program 7 (8 ∷ 9 ∷ 10 ∷ 12 ∷ []) (e7 ∙ in-7) n7
-      ∙ (pass program 8 (9 ∷ 10 ∷ 12 ∷ []) (e8 ∙ in-8) n8
-      ∙ (stop program 9 (10 ∷ 12 ∷ []) (e9 ∙ in-9) n9))))))))))
+  pub passes_10 : area ≡ 10 → {r : Bool} → r ≡ leb t.breaks (entries_in (width_of 10) (length x)) && zeros (drop (t.breaks * width_of 10) x) && eqb t.breaks 0
+      → r ≡ area_fine (laid s m t) area
+  passes_10 a e =
+      rw a ((rw (here 10 a) at e)
+      ∙ in-10 (part s 1 m) (part s 2 m) (part s 3 m) (part s 4 m) (part s 5 m) (part s 6 m) (part s 7 m) (part s 8 m)
+      (part s 9 m) (part s 10 m) (part s 11 m) (part s 12 m) t)
 
-  pub fault_10 : {r1 r2 r3 r4 r5 r6 r7 r8 r9 r10 : Bool}
-      → r1 ≡ area_fine (code_and c f t) 1 → not r1 ≡ false
-      → r2 ≡ area_fine (alone 2 k t) 2 → not r2 ≡ false
-      → r3 ≡ area_fine (alone 3 f t) 3 → not r3 ≡ false
-      → r4 ≡ entries_fine (alone 4 m t) 4 → not r4 ≡ false
-      → r5 ≡ entries_fine (alone 5 p t) 5 → not r5 ≡ false
-      → r6 ≡ area_fine (alone 6 q t) 6 → not r6 ≡ false
-      → r7 ≡ entries_fine (alone 7 l t) 7 → not r7 ≡ false
-      → r8 ≡ area_fine (alone 8 u t) 8 → not r8 ≡ false
-      → r9 ≡ leb t.scope_names (entries_in (width_of 9) (length n)) && zeros (drop (t.scope_names * width_of 9) n) && eqb t.scope_names 0 → not
-      r9 ≡ false
-      → r10 ≡ leb t.breaks (entries_in (width_of 10) (length b)) && zeros (drop (t.breaks * width_of 10) b) && eqb t.breaks 0 → not r10 ≡ true
-      → Refused 3 (1048576 + 10) ≡ answer_of (program_fault program)
-  unfolding answer_of program_fault
-  fault_10 e1 n1 e2 n2 e3 n3 e4 n4 e5 n5 e6 n6 e7 n7 e8 n8 e9 n9 e10 n10 =
-      sym (ap answer_of (pass program 1 (2 ∷ 3 ∷ 4 ∷ 5 ∷ 6 ∷ 7 ∷ 8 ∷ 9 ∷ 10 ∷ 12 ∷ []) (e1 ∙ in-1) n1
-      ∙ (pass program 2 (3 ∷ 4 ∷ 5 ∷ 6 ∷ 7 ∷ 8 ∷ 9 ∷ 10 ∷ 12 ∷ []) (e2 ∙ in-2) n2
-      ∙ (pass program 3 (4 ∷ 5 ∷ 6 ∷ 7 ∷ 8 ∷ 9 ∷ 10 ∷ 12 ∷ []) (e3 ∙ in-3) n3
-      ∙ (pass program 4 (5 ∷ 6 ∷ 7 ∷ 8 ∷ 9 ∷ 10 ∷ 12 ∷ []) (e4 ∙ in-4) n4
-      ∙ (pass program 5 (6 ∷ 7 ∷ 8 ∷ 9 ∷ 10 ∷ 12 ∷ []) (e5 ∙ in-5) n5
-      ∙ (pass program 6 (7 ∷ 8 ∷ 9 ∷ 10 ∷ 12 ∷ []) (e6 ∙ in-6) n6
-      ∙ (pass program 7 (8 ∷ 9 ∷ 10 ∷ 12 ∷ []) (e7 ∙ in-7) n7
-      ∙ (pass program 8 (9 ∷ 10 ∷ 12 ∷ []) (e8 ∙ in-8) n8
-      ∙ (pass program 9 (10 ∷ 12 ∷ []) (e9 ∙ in-9) n9
-      ∙ (stop program 10 (12 ∷ []) (e10 ∙ in-10) n10)))))))))))
+  pub passes_6 : area ≡ 6 → {r : Bool}
+      → r ≡ entries_fine (alone area x t) area && keys_by 3 0 1 x (total_of t area) → r ≡ area_fine (laid s m t) area
+  passes_6 a e =
+      rw a (area_by (alone 6 (part s 6 m) t) 6 refl (rw (a, here 6 a) at e) (λ h. method_keys (part s 6 m) t h)
+      ∙ in-6 (part s 1 m) (part s 2 m) (part s 3 m) (part s 4 m) (part s 5 m) (part s 6 m) (part s 7 m) (part s 8 m)
+      (part s 9 m) (part s 10 m) (part s 11 m) (part s 12 m) t)
 
-  pub fault_12 : {r1 r2 r3 r4 r5 r6 r7 r8 r9 r10 r11 : Bool}
-      → r1 ≡ area_fine (code_and c f t) 1 → not r1 ≡ false
-      → r2 ≡ area_fine (alone 2 k t) 2 → not r2 ≡ false
-      → r3 ≡ area_fine (alone 3 f t) 3 → not r3 ≡ false
-      → r4 ≡ entries_fine (alone 4 m t) 4 → not r4 ≡ false
-      → r5 ≡ entries_fine (alone 5 p t) 5 → not r5 ≡ false
-      → r6 ≡ area_fine (alone 6 q t) 6 → not r6 ≡ false
-      → r7 ≡ entries_fine (alone 7 l t) 7 → not r7 ≡ false
-      → r8 ≡ area_fine (alone 8 u t) 8 → not r8 ≡ false
-      → r9 ≡ leb t.scope_names (entries_in (width_of 9) (length n)) && zeros (drop (t.scope_names * width_of 9) n) && eqb t.scope_names 0 → not
-      r9 ≡ false
-      → r10 ≡ leb t.breaks (entries_in (width_of 10) (length b)) && zeros (drop (t.breaks * width_of 10) b) && eqb t.breaks 0 → not r10 ≡ false
-      → r11 ≡ area_fine (alone 12 o t) 12 → not r11 ≡ true
-      → Refused 3 (1048576 + 12) ≡ answer_of (program_fault program)
-  unfolding answer_of program_fault
-  fault_12 e1 n1 e2 n2 e3 n3 e4 n4 e5 n5 e6 n6 e7 n7 e8 n8 e9 n9 e10 n10 e11 n11 =
-      sym (ap answer_of (pass program 1 (2 ∷ 3 ∷ 4 ∷ 5 ∷ 6 ∷ 7 ∷ 8 ∷ 9 ∷ 10 ∷ 12 ∷ []) (e1 ∙ in-1) n1
-      ∙ (pass program 2 (3 ∷ 4 ∷ 5 ∷ 6 ∷ 7 ∷ 8 ∷ 9 ∷ 10 ∷ 12 ∷ []) (e2 ∙ in-2) n2
-      ∙ (pass program 3 (4 ∷ 5 ∷ 6 ∷ 7 ∷ 8 ∷ 9 ∷ 10 ∷ 12 ∷ []) (e3 ∙ in-3) n3
-      ∙ (pass program 4 (5 ∷ 6 ∷ 7 ∷ 8 ∷ 9 ∷ 10 ∷ 12 ∷ []) (e4 ∙ in-4) n4
-      ∙ (pass program 5 (6 ∷ 7 ∷ 8 ∷ 9 ∷ 10 ∷ 12 ∷ []) (e5 ∙ in-5) n5
-      ∙ (pass program 6 (7 ∷ 8 ∷ 9 ∷ 10 ∷ 12 ∷ []) (e6 ∙ in-6) n6
-      ∙ (pass program 7 (8 ∷ 9 ∷ 10 ∷ 12 ∷ []) (e7 ∙ in-7) n7
-      ∙ (pass program 8 (9 ∷ 10 ∷ 12 ∷ []) (e8 ∙ in-8) n8
-      ∙ (pass program 9 (10 ∷ 12 ∷ []) (e9 ∙ in-9) n9
-      ∙ (pass program 10 (12 ∷ []) (e10 ∙ in-10) n10
-      ∙ (stop program 12 ([]) (e11 ∙ in-12) n11))))))))))))
+  pub passes_8 : area ≡ 8 → {r : Bool}
+      → r ≡ entries_fine (alone area x t) area && keys_by 3 0 1 x (total_of t area) → r ≡ area_fine (laid s m t) area
+  passes_8 a e =
+      rw a (area_by (alone 8 (part s 8 m) t) 8 refl (rw (a, here 8 a) at e) (λ h. public_keys (part s 8 m) t h)
+      ∙ in-8 (part s 1 m) (part s 2 m) (part s 3 m) (part s 4 m) (part s 5 m) (part s 6 m) (part s 7 m) (part s 8 m)
+      (part s 9 m) (part s 10 m) (part s 11 m) (part s 12 m) t)
 
-  pub fault_none : {r1 r2 r3 r4 r5 r6 r7 r8 r9 r10 r11 : Bool}
-      → r1 ≡ area_fine (code_and c f t) 1 → not r1 ≡ false
-      → r2 ≡ area_fine (alone 2 k t) 2 → not r2 ≡ false
-      → r3 ≡ area_fine (alone 3 f t) 3 → not r3 ≡ false
-      → r4 ≡ entries_fine (alone 4 m t) 4 → not r4 ≡ false
-      → r5 ≡ entries_fine (alone 5 p t) 5 → not r5 ≡ false
-      → r6 ≡ area_fine (alone 6 q t) 6 → not r6 ≡ false
-      → r7 ≡ entries_fine (alone 7 l t) 7 → not r7 ≡ false
-      → r8 ≡ area_fine (alone 8 u t) 8 → not r8 ≡ false
-      → r9 ≡ leb t.scope_names (entries_in (width_of 9) (length n)) && zeros (drop (t.scope_names * width_of 9) n) && eqb t.scope_names 0 → not
-      r9 ≡ false
-      → r10 ≡ leb t.breaks (entries_in (width_of 10) (length b)) && zeros (drop (t.breaks * width_of 10) b) && eqb t.breaks 0 → not r10 ≡ false
-      → r11 ≡ area_fine (alone 12 o t) 12 → not r11 ≡ false
-      → Fine ≡ answer_of (program_fault program)
-  unfolding answer_of program_fault
-  fault_none e1 n1 e2 n2 e3 n3 e4 n4 e5 n5 e6 n6 e7 n7 e8 n8 e9 n9 e10 n10 e11 n11 =
-      sym (ap answer_of (pass program 1 (2 ∷ 3 ∷ 4 ∷ 5 ∷ 6 ∷ 7 ∷ 8 ∷ 9 ∷ 10 ∷ 12 ∷ []) (e1 ∙ in-1) n1
-      ∙ (pass program 2 (3 ∷ 4 ∷ 5 ∷ 6 ∷ 7 ∷ 8 ∷ 9 ∷ 10 ∷ 12 ∷ []) (e2 ∙ in-2) n2
-      ∙ (pass program 3 (4 ∷ 5 ∷ 6 ∷ 7 ∷ 8 ∷ 9 ∷ 10 ∷ 12 ∷ []) (e3 ∙ in-3) n3
-      ∙ (pass program 4 (5 ∷ 6 ∷ 7 ∷ 8 ∷ 9 ∷ 10 ∷ 12 ∷ []) (e4 ∙ in-4) n4
-      ∙ (pass program 5 (6 ∷ 7 ∷ 8 ∷ 9 ∷ 10 ∷ 12 ∷ []) (e5 ∙ in-5) n5
-      ∙ (pass program 6 (7 ∷ 8 ∷ 9 ∷ 10 ∷ 12 ∷ []) (e6 ∙ in-6) n6
-      ∙ (pass program 7 (8 ∷ 9 ∷ 10 ∷ 12 ∷ []) (e7 ∙ in-7) n7
-      ∙ (pass program 8 (9 ∷ 10 ∷ 12 ∷ []) (e8 ∙ in-8) n8
-      ∙ (pass program 9 (10 ∷ 12 ∷ []) (e9 ∙ in-9) n9
-      ∙ (pass program 10 (12 ∷ []) (e10 ∙ in-10) n10
-      ∙ (pass program 12 ([]) (e11 ∙ in-12) n11))))))))))))
+  pub passes_12 : area ≡ 12 → {r : Bool} → r ≡ entries_fine (alone 12 x t) 12 && keys_by 1 1 0 x t.books → r ≡ area_fine (laid s m t) area
+  passes_12 a e =
+      rw a (area_by (alone 12 (part s 12 m) t) 12 refl (rw (here 12 a) at e) (λ h. book_keys (part s 12 m) t h)
+      ∙ in-12 (part s 1 m) (part s 2 m) (part s 3 m) (part s 4 m) (part s 5 m) (part s 6 m) (part s 7 m) (part s 8 m)
+      (part s 9 m) (part s 10 m) (part s 11 m) (part s 12 m) t)
+
+  passes_4 : area ≡ 4 → {r : Bool} → r ≡ entries_fine (alone area x t) area → r ≡ area_fine (laid s m t) area
+  passes_4 a e =
+      rw a ((rw (a, here 4 a) at e)
+      ∙ in-4 (part s 1 m) (part s 2 m) (part s 3 m) (part s 4 m) (part s 5 m) (part s 6 m) (part s 7 m) (part s 8 m)
+      (part s 9 m) (part s 10 m) (part s 11 m) (part s 12 m) t)
+
+  passes_5 : area ≡ 5 → {r : Bool} → r ≡ entries_fine (alone area x t) area → r ≡ area_fine (laid s m t) area
+  passes_5 a e =
+      rw a ((rw (a, here 5 a) at e)
+      ∙ in-5 (part s 1 m) (part s 2 m) (part s 3 m) (part s 4 m) (part s 5 m) (part s 6 m) (part s 7 m) (part s 8 m)
+      (part s 9 m) (part s 10 m) (part s 11 m) (part s 12 m) t)
+
+  passes_7 : area ≡ 7 → {r : Bool} → r ≡ entries_fine (alone area x t) area → r ≡ area_fine (laid s m t) area
+  passes_7 a e =
+      rw a ((rw (a, here 7 a) at e)
+      ∙ in-7 (part s 1 m) (part s 2 m) (part s 3 m) (part s 4 m) (part s 5 m) (part s 6 m) (part s 7 m) (part s 8 m)
+      (part s 9 m) (part s 10 m) (part s 11 m) (part s 12 m) t)
+
+  -- the areas of which nothing is asked but for their entries
+  pub passes_by_entries : IsChecked area → (area ≡ 1 → ⊥) → (area ≡ 2 → ⊥) → (area ≡ 3 → ⊥) → (area ≡ 6 → ⊥) → (area ≡ 8 → ⊥) → (area ≡ 9 → ⊥)
+      → (area ≡ 10 → ⊥) → (area ≡ 12 → ⊥) → {r : Bool} → r ≡ entries_fine (alone area x t) area → r ≡ area_fine (laid s m t) area
+  passes_by_entries h n1 n2 n3 n6 n8 n9 n10 n12 {r} e = go (three_left area h n1 n2 n3 n6 n8 n9 n10 n12)
+    where
+      go : (area ≡ 4) ⊎ ((area ≡ 5) ⊎ (area ≡ 7)) → r ≡ area_fine (laid s m t) area
+      go (inl a) = passes_4 a e
+      go (inr (inl a)) = passes_5 a e
+      go (inr (inr a)) = passes_7 a e

@@ -1,7 +1,9 @@
--- What an instruction asks of each function that has it, as two numbers: the length that its jump needs and the locals that it needs. Also the tables by
--- which the code knows opcodes
+-- What an instruction asks of each function that has it, as two numbers: the length that its jump needs and the locals that it needs. Also the classes
+-- of operands as the code has them
 use Rattle.std.specs.Prelude.{ℕ, ◌+◌, cond, eqb}
 use Rattle.words.specs.Opcode.{unword}
+use Rattle.program_check.specs.declared.instructions.Class as code
+use Rattle.program_check.specs.declared.instructions.Class.TheVariants as kinds
 use Rattle.definition.specs.Within.{Class, Position, Slot, Read, Pool, ContextSlot, Other, class_of}
 
 -- "every jump lands in its function or just behind it"
@@ -30,11 +32,11 @@ unfoldable pub locals_needed : ℕ → ℕ
 unfolding unword
 locals_needed w = locals_by (class_of (unword w).opcode) (unword w).operand
 
--- the classes by number
-abbrev pub class_number : Class → ℕ
-class_number Other = 0
-class_number Position = 1
-class_number Slot = 2
-class_number Read = 3
-class_number Pool = 4
-class_number ContextSlot = 5
+-- the classes as the code has them
+abbrev pub class_in : Class → code.Class
+class_in Position = kinds.Position
+class_in Slot = kinds.Slot
+class_in Read = kinds.Read
+class_in Pool = kinds.Pool
+class_in ContextSlot = kinds.ContextSlot
+class_in Other = kinds.Other

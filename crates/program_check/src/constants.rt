@@ -5,37 +5,32 @@ ghost use Rattle.definition.specs.Within.{marked};
 ghost use Rattle.definition.specs.ProgramCheck.{whole_known};
 ghost use Rattle.program_check.specs.Parts.{alone, entries_fine};
 
-use crate::entries::{BOOLEAN, NULL};
 use words::areas::{CONSTANT_WORDS, entry_word};
+use words::object::{BOOLEAN, CONSTANT_KIND, CONSTANT_VALUE, NULL};
 use words::reply::Totals;
 
-// The words of a constant's entry.
-const KIND: usize = 0;
-
-const VALUE: usize = 1;
-
+// The word of a constant's entry that is its mark.
 const MARK: usize = 2;
 
+#[tactic(auto, using(crate::proofs::ConstantTests::constant_is))]
 fn is_constant(constants: &[u64], i: usize, kind: u64, value: u64) -> bool
     ensures { result ≡ (eqb (entry_field 3 i 0 constants.now) kind && eqb (entry_field 3 i 1 constants.now) value) }
 {
-    let its_kind = entry_word(constants, CONSTANT_WORDS, i, KIND);
-    let its_value = entry_word(constants, CONSTANT_WORDS, i, VALUE);
+    let its_kind = entry_word(constants, CONSTANT_WORDS, i, CONSTANT_KIND);
+    let its_value = entry_word(constants, CONSTANT_WORDS, i, CONSTANT_VALUE);
     (its_kind == kind) & (its_value == value)
 }
 
 // The marks up to a total, each 0 or 1.
+#[tactic(auto, using(crate::proofs::ConstantTests::marked_turn, crate::proofs::ConstantTests::marked_done))]
 fn count_marked(constants: &[u64], total: u64) -> u64
     requires { (i : ℕ) → i < total → entry_field 3 i 2 constants.now < 2 }
     ensures { result ≡ marked ([] ∷ [] ∷ constants.now ∷ []) total }
 {
     let mut count: u64 = 0;
-    let mut i: u64 = 0;
-    while i < total {
-        let at = i as usize;
-        let mark = entry_word(constants, CONSTANT_WORDS, at, MARK);
+    for i in 0..total as usize {
+        let mark = entry_word(constants, CONSTANT_WORDS, i, MARK);
         count += mark;
-        i += 1;
     }
     count
 }

@@ -1,117 +1,102 @@
 // An instruction by itself: its opcode, its operand against the totals, and what it asks of each function that has it.
-ghost use Rattle.std.specs.Prelude.{◌≡◌, eqb};
+ghost use Rattle.std.specs.Prelude.{◌≡◌, []};
 ghost use Rattle.words.specs.Areas.{code_area};
 ghost use Rattle.definition.specs.Book.{has_text};
-ghost use Rattle.definition.specs.Within.{class_of};
+ghost use Rattle.definition.specs.Within.{class_of, bound_by_totals};
 ghost use Rattle.definition.specs.ProgramCheck.{opcodes, is_operation};
-ghost use Rattle.program_check.specs.Instructions.{class_number, jump_of, locals_needed};
-ghost use Rattle.program_check.specs.Parts.{alone, entry_fine};
+ghost use Rattle.program_check.specs.Instructions.{class_in, jump_of, locals_needed};
+ghost use Rattle.program_check.specs.Parts.{lent, alone, entry_fine};
 
 use crate::entries::implies;
 use words::areas::{CODE_WORDS, entry_word};
-use words::opcode::OPCODE_UNIT;
+use words::opcode::{OPCODE_UNIT, OPERATION_AND, OPERATION_LESS_EQUAL, OPERATION_OR, OpCode};
+use words::program::{INSTRUCTION, POSITION};
 use words::record::in_place;
 use words::reply::Totals;
 
 // What an operand is.
-const OTHER: u64 = 0;
-
-const POSITION: u64 = 1;
-
-const SLOT: u64 = 2;
-
-const READ: u64 = 3;
-
-const POOL: u64 = 4;
-
-const CONTEXT_SLOT: u64 = 5;
-
-// `OpCode::Operation`.
-const OPERATION: u64 = 0x21;
-
-// No opcode of `opcode.rs` is as large.
-const OPCODES: usize = 88;
-
-// What the operand is, by opcode, sixteen in a line; opcodes that are none are among the others.
-const CLASSES: [u64; 88] = [
-    0, 0, 4, 0, 0, 0, 2, 3, 2, 0, 0, 0, 5, 5, 0, 0, 0, 4, 4, 0, 0, 0, 0, 0, 0, 0, 0, 0, 0, 0, 0, 0,
-    0, 0, 0, 0, 0, 0, 0, 0, 0, 0, 0, 0, 0, 0, 0, 0, 0, 0, 0, 0, 0, 0, 0, 0, 0, 0, 0, 0, 0, 0, 0, 0,
-    0, 0, 0, 0, 0, 0, 0, 0, 0, 0, 0, 0, 0, 0, 0, 0, 0, 1, 1, 0, 0, 0, 2, 2,
-];
-
-// Whether an opcode is one, sixteen in a line.
-const KNOWN: [u64; 88] = [
-    0, 1, 1, 0, 0, 1, 1, 1, 1, 0, 0, 0, 1, 1, 0, 0, 0, 1, 1, 1, 1, 1, 1, 0, 0, 0, 0, 0, 0, 0, 0, 0,
-    0, 1, 1, 1, 0, 0, 0, 0, 0, 0, 0, 0, 0, 0, 0, 0, 0, 1, 1, 0, 0, 0, 1, 0, 0, 0, 0, 0, 0, 0, 0, 0,
-    0, 1, 0, 0, 0, 0, 0, 0, 0, 0, 0, 0, 0, 0, 0, 0, 0, 1, 1, 0, 0, 0, 1, 1,
-];
-
-fn class_of(opcode: u64) -> u64
-    ensures { result ≡ class_number (class_of opcode) }
-{
-    let o = opcode as usize;
-    if o < OPCODES {
-        return CLASSES[o];
-    }
-    OTHER
+#[derive(Clone, Copy, PartialEq, Eq)]
+enum Class {
+    Position,
+    Slot,
+    Read,
+    Pool,
+    ContextSlot,
+    Other,
 }
 
+// What the operand is, by opcode; opcodes that are none are among the others.
+fn class_of(opcode: u64) -> Class
+    ensures { result ≡ class_in (class_of opcode) }
+{
+    match OpCode::from(opcode) {
+        OpCode::Jump | OpCode::JumpIf => Class::Position,
+        OpCode::LocalSet | OpCode::LocalInit | OpCode::ForNext | OpCode::Iterate => Class::Slot,
+        OpCode::LocalGet => Class::Read,
+        OpCode::PushConstant | OpCode::GlobalSet | OpCode::GlobalGet => Class::Pool,
+        OpCode::ContextSet | OpCode::ContextGet => Class::ContextSlot,
+        _ => Class::Other,
+    }
+}
+
+#[tactic(auto, using(crate::proofs::InstructionTests::unknown_is, crate::proofs::InstructionTests::known_is))]
 fn is_opcode(opcode: u64) -> bool
     ensures { result ≡ has_text opcode opcodes }
 {
-    let o = opcode as usize;
-    if o < OPCODES {
-        return KNOWN[o] == 1;
-    }
-    false
+    !matches!(OpCode::from(opcode), OpCode::Unknown)
 }
 
 // `operations.rs`: add to less or equal, and, or.
 fn is_operation(n: u64) -> bool
     ensures { result ≡ is_operation n }
 {
-    (n < 10) | (n == 257) | (n == 258)
+    (n <= OPERATION_LESS_EQUAL) | (n == OPERATION_AND) | (n == OPERATION_OR)
+}
+
+// Whether the constant or the context local that an operand names is there.
+#[tactic(auto, using(crate::proofs::InstructionTests::pool_bound, crate::proofs::InstructionTests::context_bound, crate::proofs::InstructionTests::no_bound))]
+fn operand_fine(opcode: u64, operand: u64, totals: Totals) -> bool
+    ensures { result ≡ bound_by_totals (class_of opcode) (lent [] totals) operand }
+{
+    match class_of(opcode) {
+        Class::Pool => operand < totals.constants,
+        Class::ContextSlot => operand < totals.context_locals,
+        _ => true,
+    }
 }
 
 pub(crate) fn code_fine(code: &[u64], i: usize, totals: Totals) -> bool
     ensures { result ≡ entry_fine (alone code_area code.now totals) code_area i }
 {
-    let word = entry_word(code, CODE_WORDS, i, 0);
-    let position = entry_word(code, CODE_WORDS, i, 1);
+    let word = entry_word(code, CODE_WORDS, i, INSTRUCTION);
+    let position = entry_word(code, CODE_WORDS, i, POSITION);
     let opcode = word / OPCODE_UNIT;
     let operand = word % OPCODE_UNIT;
-    let class = class_of(opcode);
-    let pool = implies(class == POOL, operand < totals.constants);
-    let context = implies(class == CONTEXT_SLOT, operand < totals.context_locals);
-    let operation = implies(opcode == OPERATION, is_operation(operand));
-    (pool & context) & ((is_opcode(opcode) & operation) & in_place(position))
+    let within = operand_fine(opcode, operand, totals);
+    let operation = implies(opcode == OpCode::Operation as u64, is_operation(operand));
+    within & ((is_opcode(opcode) & operation) & in_place(position))
 }
 
 // The length that an instruction's jump needs.
+#[tactic(auto, using(crate::proofs::InstructionTests::jump_is, crate::proofs::InstructionTests::jump_none))]
 pub(crate) fn jump_of(word: u64) -> u64
     ensures { result ≡ jump_of word }
 {
-    let class = class_of(word / OPCODE_UNIT);
-    if class == POSITION {
-        return word % OPCODE_UNIT;
+    match class_of(word / OPCODE_UNIT) {
+        Class::Position => word % OPCODE_UNIT,
+        _ => 0,
     }
-    0
 }
 
 // The locals that an instruction needs. A read of local 0 needs none.
+#[tactic(auto, using(crate::proofs::InstructionTests::slot_needs, crate::proofs::InstructionTests::read_needs, crate::proofs::InstructionTests::none_needs))]
 pub(crate) fn locals_needed(word: u64) -> u64
     ensures { result ≡ locals_needed word }
 {
-    let class = class_of(word / OPCODE_UNIT);
     let operand = word % OPCODE_UNIT;
-    if class == SLOT {
-        return operand + 1;
+    match class_of(word / OPCODE_UNIT) {
+        Class::Slot => operand + 1,
+        Class::Read if operand != 0 => operand + 1,
+        _ => 0,
     }
-    if class == READ {
-        if operand == 0 {
-            return 0;
-        }
-        return operand + 1;
-    }
-    0
 }

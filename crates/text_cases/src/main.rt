@@ -7,7 +7,6 @@ ghost use Rattle.std.specs.Prelude.{◌≤◌, length, IfOk};
 
 mod columns;
 mod files;
-mod output;
 mod records;
 
 use case_numbers::{find, parse, same};
@@ -21,82 +20,69 @@ enum Part {
     Files,
     Records,
     Columns,
-    Unknown,
 }
 
-fn part_named(rt: &impl Print, line: &[u8]) -> io::Result<Part> {
-    if same(line, b"part files") {
-        return Ok(Part::Files);
+impl Part {
+    // The part that a line names.
+    fn named(line: &[u8]) -> Option<Part> {
+        if same(line, b"part files") {
+            return Some(Part::Files);
+        }
+        if same(line, b"part records") {
+            return Some(Part::Records);
+        }
+        if same(line, b"part columns") {
+            return Some(Part::Columns);
+        }
+        None
     }
-    if same(line, b"part records") {
-        return Ok(Part::Records);
-    }
-    if same(line, b"part columns") {
-        return Ok(Part::Columns);
-    }
-    output::say(rt, b"unknown ")?;
-    Ok(Part::Unknown)
-}
-
-fn answer(rt: &impl Print, part: Part, text: &[u8], room: usize) -> io::Result<()> {
-    match part {
-        Part::Files => files::case(rt, text, room)?,
-        Part::Records => records::case(rt, text)?,
-        Part::Columns => columns::case(rt, text)?,
-        Part::Unknown => output::say(rt, b" no part\n")?,
-    }
-    Ok(())
 }
 
 // A case, given its sizes and the text behind its line, and how much of that text it takes.
-fn case(rt: &impl Print, part: Part, sizes: &[u8], text: &[u8]) -> io::Result<usize>
+fn case(rt: &impl Print, part: Option<Part>, sizes: &[u8], text: &[u8]) -> io::Result<usize>
     ensures { IfOk result (λ n. n ≤ length text.now) }
 {
     let mut numbers = [0; 2];
     parse(sizes, &mut numbers);
-    let size = numbers[0] as usize;
+    let [size, room] = numbers.map(|number| number as usize);
     if size >= text.len() {
-        output::say(rt, b" too short\n")?;
+        print!(rt; " too short\n")?;
         return Ok(text.len());
     }
-    answer(rt, part, &text[0..size], numbers[1] as usize)?;
+    let bytes = &text[..size];
+    match part {
+        Some(Part::Files) => files::case(rt, bytes, room)?,
+        Some(Part::Records) => records::case(rt, bytes)?,
+        Some(Part::Columns) => columns::case(rt, bytes)?,
+        None => print!(rt; " no part\n")?,
+    }
     Ok(size + 1)
 }
 
-// The part that the lines behind this one are of.
-fn part_after(rt: &impl Print, part: Part, line: &[u8]) -> io::Result<Part> {
-    if find(line, 0, b':') == line.len() {
-        return part_named(rt, line);
-    }
-    Ok(part)
-}
-
-// How much of the text behind this line belongs to it.
-fn read(rt: &impl Print, part: Part, line: &[u8], text: &[u8]) -> io::Result<usize>
-    ensures { IfOk result (λ n. n ≤ length text.now) }
-{
-    let colon = find(line, 0, b':');
-    output::say(rt, &line[0..colon])?;
-    if colon == line.len() {
-        output::say(rt, b"\n")?;
-        return Ok(0);
-    }
-    output::say(rt, b":")?;
-    case(rt, part, &line[colon..], text)
-}
-
 fn cases(rt: &impl Print, text: &[u8]) -> io::Result<()> {
-    let mut part = Part::Unknown;
+    let mut part = None;
     let mut at: usize = 0;
+    // No `for` over lines: how much of the text behind a line is its case's, `case` answers.
     while at < text.len() {
         let end = find(text, at, b'\n');
         if end >= text.len() {
             return Ok(());
         }
-        part = part_after(rt, part, &text[at..end])?;
-        let body = end + 1;
-        let size = read(rt, part, &text[at..end], &text[body..])?;
-        at = body + size;
+        let line = &text[at..end];
+        let colon = find(line, 0, b':');
+        at = end + 1;
+        if colon < line.len() {
+            rt.write_all(&line[..colon])?;
+            print!(rt; ":")?;
+            at += case(rt, part, &line[colon..], &text[at..])?;
+        } else {
+            part = Part::named(line);
+            if part.is_none() {
+                print!(rt; "unknown ")?;
+            }
+            rt.write_all(line)?;
+            println!(rt; "")?;
+        }
     }
     Ok(())
 }

@@ -8,12 +8,11 @@ use native.Mathlib.Omega.{arith}
 use native.Mathlib.Decide.{dec_lt, ℕ_discrete}
 use lib.ListN.{length}
 use borrow.Author.Tests.{lt-ltb, le-ltb, eq-eqb, ne_eqb}
+use Rattle.std.specs.Prelude.{Result, Ok, Err}
+use Rattle.words.specs.declared.row.Refused.{Refused}
 use Rattle.tree.specs.Rules.{goes_on, slot_after, is_due, first_slot, in_range}
 use Rattle.words.specs.Record.{kind_at, span_at, position_at, value_at, most_records}
 use Rattle.tree.specs.Check.{within_of, lacks_of, walk_of, shape_of, shape_by, records_of}
-use Rattle.tree.specs.declared.Shape.TheVariants.{Fine, Refused}
-use Rattle.tree.specs.declared.Outcome.{Outcome}
-use Rattle.tree.specs.declared.Outcome.TheVariants.{Went, Fault}
 use Rattle.tree.specs.At.{size_doc, DocumentAt, depth_doc}
 use Rattle.tree.specs.Spelled.{Spelled}
 use Rattle.tree.specs.Reading.{document_of, documents_of}
@@ -40,29 +39,29 @@ in-range w (suc n) s l i e k b j a h = go (child k (omega arith)) (ℕ_discrete 
         by (yes x) = let y = c.fits in r (first_slot (kind_at w i)) (l + 1) (i + 1) (i + span_at w i) c.inner (omega arith) j (omega arith) x
         by (no x) = let y = c.some in r (slot_after s (kind_at w i)) l (i + span_at w i) e c.rest (omega arith) j (omega arith) h
 
-fine_walk : (o : Outcome) → shape_by o ≡ Fine → (u : ℕ) × (o ≡ Went u)
-fine_walk (Went u) h = (u, refl)
-fine_walk (Fault r p) h = let z : ◌≡◌ {A = ℕ} 0 1 = cc in absurd (omega arith)
+fine_walk : (o : Result ℕ Refused) → shape_by o ≡ Ok tt → (u : ℕ) × (o ≡ Ok u)
+fine_walk (Ok u) h = (u, refl)
+fine_walk (Err found) h = let z : ◌≡◌ {A = ℕ} 0 1 = cc in absurd (omega arith)
 
 pub record Passed (w : List ℕ) : Type 0 where
   pub whole : length w % 4 ≡ 0
   pub limit : records_of w ≤ most_records
-  pub went : (u : ℕ) × (walk_of w 1 1 0 0 (records_of w) ≡ Went u)
+  pub went : (u : ℕ) × (walk_of w 1 1 0 0 (records_of w) ≡ Ok u)
 
-refused : {A : Type 0} {r p : ℕ} → Refused r p ≡ Fine → A
-refused h = let z : ◌≡◌ {A = ℕ} 0 1 = cc in absurd (omega arith)
+not_fine : {A : Type 0} {found : Refused} → ◌≡◌ {A = Result (Unit {0}) Refused} (Err found) (Ok tt) → A
+not_fine h = let z : ◌≡◌ {A = ℕ} 0 1 = cc in absurd (omega arith)
 
-pub fine_passed : (w : List ℕ) → shape_of w ≡ Fine → Passed w
+pub fine_passed : (w : List ℕ) → shape_of w ≡ Ok tt → Passed w
 unfolding shape_of
 fine_passed w h = go (ℕ_discrete (length w % 4) 0) (dec_lt most_records (records_of w)) (ℕ_discrete (records_of w) 0)
   where
     go : Dec (length w % 4 ≡ 0) → Dec (most_records < records_of w) → Dec (records_of w ≡ 0) → Passed w
-    go (no a) b c = refused (simp (ne_eqb (length w % 4) 0 a) at h)
-    go (yes a) (yes b) c = refused (simp (eq-eqb (length w % 4) 0 a, lt-ltb most_records (records_of w) b) at h)
+    go (no a) b c = not_fine (simp (ne_eqb (length w % 4) 0 a) at h)
+    go (yes a) (yes b) c = not_fine (simp (eq-eqb (length w % 4) 0 a, lt-ltb most_records (records_of w) b) at h)
     go (yes a) (no b) (yes c) =
-        refused (simp (eq-eqb (length w % 4) 0 a, le-ltb most_records (records_of w) (omega arith), eq-eqb (records_of w) 0 c) at h)
+        not_fine (simp (eq-eqb (length w % 4) 0 a, le-ltb most_records (records_of w) (omega arith), eq-eqb (records_of w) 0 c) at h)
     go (yes a) (no b) (no c) =
-        let g : shape_by (walk_of w 1 1 0 0 (records_of w)) ≡ Fine
+        let g : shape_by (walk_of w 1 1 0 0 (records_of w)) ≡ Ok tt
         = simp (eq-eqb (length w % 4) 0 a, le-ltb most_records (records_of w) (omega arith), ne_eqb (records_of w) 0 c) at h in
         record { whole = a; limit = omega arith; went = fine_walk (walk_of w 1 1 0 0 (records_of w)) g }
 
@@ -94,7 +93,7 @@ documents {w} p = record {
 }
 
 -- the law
-pub fine_spells : (w : List ℕ) → shape_of w ≡ Fine → Spelled w (documents_of w)
+pub fine_spells : (w : List ℕ) → shape_of w ≡ Ok tt → Spelled w (documents_of w)
 unfolding documents_of is_due
 fine_spells w h =
     let p = fine_passed w h in

@@ -6,11 +6,11 @@ use Prim.Native.Nat.{ℕ, ◌+◌, ◌≤◌, ◌<◌}
 use native.Mathlib.Omega.{arith}
 use native.Mathlib.Decide.{dec_lt, ℕ_discrete}
 use borrow.Author.Tests.{ne_eqb, not-true}
+use Rattle.std.specs.Prelude.{Result, Ok, Err}
+use Rattle.words.specs.declared.row.Refused.{Refused}
 use Rattle.tree.specs.Rules.{has, may_stand, slot_after, is_due, first_slot, in_range, slot_of, goes_on}
 use Rattle.words.specs.Record.{kind_at, span_at, position_at, value_at, most_levels, token_at}
 use Rattle.tree.specs.Check.{within_of, lacks_of, same_this, sound_at, head_at, then_on, walk_of}
-use Rattle.tree.specs.declared.Outcome.{Outcome}
-use Rattle.tree.specs.declared.Outcome.TheVariants.{Went, Fault}
 use Rattle.tree.proofs.Spans.{and_left, and_right, within_true}
 use Rattle.tree.proofs.Walks.{lacks_done, lacks_on, head_went, walk_on}
 use lib.Dec.{eqb}
@@ -21,7 +21,7 @@ use Rattle.tree.specs.Reading.{next}
 pub record Children (w : List ℕ) (s l i e : ℕ) : Type 0 where
   pub before : ℕ
   pub after : ℕ
-  pub went : walk_of w s l before i e ≡ Went after
+  pub went : walk_of w s l before i e ≡ Ok after
   pub full : lacks_of w s i e ≡ false
   pub ordered : i ≤ e
 
@@ -52,9 +52,9 @@ sound_parts w s t i e h =
     let d = and_right (same_this (kind_at w i) (value_at w i) t) _ c in
     record { may = and_left _ _ h; within = and_left _ _ a; range = and_left _ _ b; this = and_left _ _ c; full = not-true _ d }
 
-pub then_went : (o : Outcome) (f : ℕ → Outcome) (u : ℕ) → then_on o f ≡ Went u → (t : ℕ) × (o ≡ Went t) × (f t ≡ Went u)
-then_went (Went t) f u h = (t, refl, h)
-then_went (Fault r p) f u h = let z : ◌≡◌ {A = ℕ} 0 1 = cc in absurd (omega arith)
+pub then_went : (o : Result ℕ Refused) (f : ℕ → Result ℕ Refused) (u : ℕ) → then_on o f ≡ Ok u → (t : ℕ) × (o ≡ Ok t) × (f t ≡ Ok u)
+then_went (Ok t) f u h = (t, refl, h)
+then_went (Err found) f u h = let z : ◌≡◌ {A = ℕ} 0 1 = cc in absurd (omega arith)
 
 pub child : {w : List ℕ} {s l i e : ℕ} → Children w s l i e → i < e → Child w s l i e
 child {w} {s} {l} {i} {e} k h =

@@ -10,11 +10,11 @@ use native.Mathlib.Decide.{dec_lt, ℕ_discrete}
 use lib.ListN.{length}
 use lib.Dec.{eqb}
 use borrow.Author.Tests.{lt-ltb, le-ltb, eq-eqb, ne_eqb}
+use Rattle.std.specs.Prelude.{Ok}
 use Rattle.words.specs.Ast.{Token, Definition}
 use Rattle.tree.specs.Rules.{definitions, constants, has, statements, may_stand, goes_on, slot_after, is_due, first_slot}
 use Rattle.words.specs.Record.{kind_at, span_at, value_at, token_at, most_levels}
 use Rattle.tree.specs.Check.{lacks_of, this_after, sound_at, walk_of}
-use Rattle.tree.specs.declared.Outcome.TheVariants.{Went}
 use Rattle.tree.specs.At.{is_parameter, Head, Leaf, run_size, run_depth, NameAt, single, double, ParametersAt, ValueAt, BindingAt, AliasAt, size_f}
 use Rattle.tree.specs.At.{FunctionAt, size_d, DefinitionAt, size_doc, DocumentAt, depth_f, depth_d, depth_doc}
 use Rattle.tree.specs.Reading.{next, list_of, pairs_of, binding_of, alias_of, parameters_of, function_of, part_of, definition_by, definition_of}
@@ -90,12 +90,12 @@ as_statements {w} {l} {i} {e} k h m =
     let p = sound_parts w 8 t i e g.sound in
     let f = sound_from w 9 t i e (record { may = may_9 (kind_at w i) m; within = p.within; range = p.range; this = p.this; full = p.full }) in
     let q = after_8 (kind_at w i) m in
-    let o : walk_of w (first_slot (kind_at w i)) (l + 1) (this_after (kind_at w i) (value_at w i) t) (i + 1) (i + span_at w i) ≡ Went b.0
-    = subst (λ u. walk_of w (first_slot (kind_at w i)) (l + 1) u (i + 1) (i + span_at w i) ≡ Went b.0) g.this b.1 in
+    let o : walk_of w (first_slot (kind_at w i)) (l + 1) (this_after (kind_at w i) (value_at w i) t) (i + 1) (i + span_at w i) ≡ Ok b.0
+    = subst (λ u. walk_of w (first_slot (kind_at w i)) (l + 1) u (i + 1) (i + span_at w i) ≡ Ok b.0) g.this b.1 in
     record {
       before = t;
       after = k.after;
-      went = walk_next w 9 l t i e b.0 h f g.level o ∙ subst (λ s. walk_of w s l b.0 (i + span_at w i) e ≡ Went k.after) q b.2;
+      went = walk_next w 9 l t i e b.0 h f g.level o ∙ subst (λ s. walk_of w s l b.0 (i + span_at w i) e ≡ Ok k.after) q b.2;
       full = lacks_on w 9 i e h p.within ∙ subst (λ s. lacks_of w s (i + span_at w i) e ≡ false) q (sym (lacks_on w 8 i e h p.within) ∙ k.full);
       ordered = k.ordered;
     }

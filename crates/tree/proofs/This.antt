@@ -7,10 +7,10 @@ use native.Mathlib.Omega.{arith}
 use native.Mathlib.Decide.{dec_lt, ℕ_discrete}
 use lib.Dec.{eqb}
 use borrow.Author.Tests.{eq-eqb, ne_eqb, leb-true}
+use Rattle.std.specs.Prelude.{Ok}
 use Rattle.tree.specs.Rules.{slot_after, first_slot, rule_of, may_be_at, in_range}
 use Rattle.words.specs.Record.{kind_at, span_at, position_at, value_at}
 use Rattle.tree.specs.Check.{same_this, this_after, head_at, walk_of}
-use Rattle.tree.specs.declared.Outcome.TheVariants.{Went}
 use Rattle.tree.proofs.Spans.{and_left, and_right, within_true}
 use Rattle.tree.proofs.Walks.{head_went, went_inj, walk_done, walk_on}
 use Rattle.tree.proofs.Children.{Sound, sound_parts, then_went}
@@ -19,10 +19,10 @@ use Rattle.tree.proofs.Children.{Sound, sound_parts, then_went}
 record Step (w : List ℕ) (s l t i e u : ℕ) : Type 0 where
   middle : ℕ
   sound : Sound w s t i e
-  inner : walk_of w (first_slot (kind_at w i)) (l + 1) (this_after (kind_at w i) (value_at w i) t) (i + 1) (i + span_at w i) ≡ Went middle
-  rest : walk_of w (slot_after s (kind_at w i)) l middle (i + span_at w i) e ≡ Went u
+  inner : walk_of w (first_slot (kind_at w i)) (l + 1) (this_after (kind_at w i) (value_at w i) t) (i + 1) (i + span_at w i) ≡ Ok middle
+  rest : walk_of w (slot_after s (kind_at w i)) l middle (i + span_at w i) e ≡ Ok u
 
-step : {w : List ℕ} {s l t i e u : ℕ} → walk_of w s l t i e ≡ Went u → i < e → Step w s l t i e u
+step : {w : List ℕ} {s l t i e u : ℕ} → walk_of w s l t i e ≡ Ok u → i < e → Step w s l t i e u
 step {w} {s} {l} {t} {i} {e} {u} k h =
     let a = then_went (head_at w s l t i e) _ u (sym (walk_on w s l t i e h) ∙ k) in
     let b = then_went (walk_of w (first_slot (kind_at w i)) (l + 1) a.0 (i + 1) (i + span_at w i)) _ u a.2 in
@@ -30,7 +30,7 @@ step {w} {s} {l} {t} {i} {e} {u} k h =
     record {
       middle = b.0;
       sound = sound_parts w s t i e g.sound;
-      inner = subst (λ x. walk_of w (first_slot (kind_at w i)) (l + 1) x (i + 1) (i + span_at w i) ≡ Went b.0) g.this b.1;
+      inner = subst (λ x. walk_of w (first_slot (kind_at w i)) (l + 1) x (i + 1) (i + span_at w i) ≡ Ok b.0) g.this b.1;
       rest = b.2;
     }
 
@@ -58,13 +58,13 @@ record Threads (w : List ℕ) (t u i e : ℕ) : Type 0 where
   kept : (t ≡ 0 → ⊥) → u ≡ t
   each : (j : ℕ) → i ≤ j → j < e → kind_at w j ≡ 41 → (value_at w j ≡ u) × (0 < u)
 
-threads : (w : List ℕ) (n s l t i e u : ℕ) → walk_of w s l t i e ≡ Went u → e - i ≤ n → Threads w t u i e
+threads : (w : List ℕ) (n s l t i e u : ℕ) → walk_of w s l t i e ≡ Ok u → e - i ≤ n → Threads w t u i e
 threads w zero s l t i e u k b =
     let q : t ≡ u = went_inj (sym (walk_done w s l t i e (omega arith)) ∙ k) in
     record { kept = λ z. sym q; each = λ j a h c. absurd (omega arith) }
 threads w (suc n) s l t i e u k b = go (dec_lt i e) (λ s l t i e u. threads w n s l t i e u)
   where
-    go : Dec (i < e) → ((s l t i e u : ℕ) → walk_of w s l t i e ≡ Went u → e - i ≤ n → Threads w t u i e) → Threads w t u i e
+    go : Dec (i < e) → ((s l t i e u : ℕ) → walk_of w s l t i e ≡ Ok u → e - i ≤ n → Threads w t u i e) → Threads w t u i e
     go (no h) r =
         let q : t ≡ u = went_inj (sym (walk_done w s l t i e (omega arith)) ∙ k) in
         record { kept = λ z. sym q; each = λ j a g c. absurd (omega arith) }
@@ -106,5 +106,5 @@ threads w (suc n) s l t i e u k b = go (dec_lt i e) (λ s l t i e u. threads w n
                 (r₁.0 ∙ sym o, omega arith)
             by (no d) (no f) = q.each j (omega arith) g c
 
-pub same_number : (w : List ℕ) (s l t i e u : ℕ) → walk_of w s l t i e ≡ Went u → (j : ℕ) → i ≤ j → j < e → kind_at w j ≡ 41 → value_at w j ≡ u
+pub same_number : (w : List ℕ) (s l t i e u : ℕ) → walk_of w s l t i e ≡ Ok u → (j : ℕ) → i ≤ j → j < e → kind_at w j ≡ 41 → value_at w j ≡ u
 same_number w s l t i e u k j a h c = ((threads w (e - i) s l t i e u k (omega arith)).each j a h c).0

@@ -6,12 +6,13 @@ use Prim.Native.Nat.{ℕ, zero, suc, ◌+◌, ◌-◌, ◌≤◌, ◌<◌}
 use native.Mathlib.Omega.{arith}
 use native.Mathlib.Decide.{dec_lt, dec_le}
 use borrow.Author.Tests.{lt-ltb, le-ltb, le-leb, lt-leb}
+use Rattle.std.specs.Prelude.{Result, Ok, Err}
+use Rattle.words.specs.declared.row.Row.TheVariants.{BadShape, TooDeep}
+use Rattle.words.specs.declared.row.Refused.{Refused}
 use Rattle.tree.specs.Rules.{may_stand, slot_after, is_due, first_slot}
 use Rattle.words.specs.Record.{kind_at, span_at, value_at, most_levels}
-use Rattle.tree.specs.Check.{within_of, lacks_by, lacks_of, this_after, sound_at, head_at, then_on, walk_by, walk_of}
+use Rattle.tree.specs.Check.{within_of, lacks_by, lacks_of, this_after, sound_at, head_at, then_on, walk_by, walk_of, refused}
 use Rattle.tree.proofs.Spans.{and_left, and_right, within_true}
-use Rattle.tree.specs.declared.Outcome.{Outcome}
-use Rattle.tree.specs.declared.Outcome.TheVariants.{Went, Fault}
 
 -- children, span after span
 
@@ -64,15 +65,15 @@ pub sound_within : (w : List ℕ) (s t i e : ℕ) → sound_at w s t i e ≡ tru
 unfolding sound_at
 sound_within w s t i e h = and_left _ _ (and_right (may_stand s (kind_at w i)) _ h)
 
-pub head_unsound : (w : List ℕ) (s l t i e : ℕ) → sound_at w s t i e ≡ false → head_at w s l t i e ≡ Fault 3 i
+pub head_unsound : (w : List ℕ) (s l t i e : ℕ) → sound_at w s t i e ≡ false → head_at w s l t i e ≡ refused BadShape i
 unfolding head_at
 head_unsound w s l t i e h = simp h
 
-pub head_deep : (w : List ℕ) (s l t i e : ℕ) → sound_at w s t i e ≡ true → most_levels < l → head_at w s l t i e ≡ Fault 4 i
+pub head_deep : (w : List ℕ) (s l t i e : ℕ) → sound_at w s t i e ≡ true → most_levels < l → head_at w s l t i e ≡ refused TooDeep i
 unfolding head_at
 head_deep w s l t i e h d = simp (h, lt-leb l most_levels d)
 
-pub head_fine : (w : List ℕ) (s l t i e : ℕ) → sound_at w s t i e ≡ true → l ≤ most_levels → head_at w s l t i e ≡ Went
+pub head_fine : (w : List ℕ) (s l t i e : ℕ) → sound_at w s t i e ≡ true → l ≤ most_levels → head_at w s l t i e ≡ Ok
     (this_after (kind_at w i) (value_at w i) t)
 unfolding head_at
 head_fine w s l t i e h d = simp (h, le-leb l most_levels d)
@@ -83,29 +84,29 @@ pub record Stands (w : List ℕ) (s l t i e u : ℕ) : Type 0 where
   pub level : l ≤ most_levels
   pub this : u ≡ this_after (kind_at w i) (value_at w i) t
 
-pub went_inj : {a b : ℕ} → ◌≡◌ {A = Outcome} (Went a) (Went b) → a ≡ b
+pub went_inj : {a b : ℕ} → ◌≡◌ {A = Result ℕ Refused} (Ok a) (Ok b) → a ≡ b
 went_inj e = cc
 
-pub head_went : (w : List ℕ) (s l t i e u : ℕ) → head_at w s l t i e ≡ Went u → Stands w s l t i e u
+pub head_went : (w : List ℕ) (s l t i e u : ℕ) → head_at w s l t i e ≡ Ok u → Stands w s l t i e u
 head_went w s l t i e u h = go (sound_at w s t i e) refl (dec_le l most_levels)
   where
     go : (b : Bool) → sound_at w s t i e ≡ b → Dec (l ≤ most_levels) → Stands w s l t i e u
-    go false f d = let g : head_at w s l t i e ≡ Fault 3 i = head_unsound w s l t i e f in let z : ◌≡◌ {A = ℕ} 0 1 = cc in absurd (omega arith)
-    go true f (no d) = let g : head_at w s l t i e ≡ Fault 4 i = head_deep w s l t i e f (omega arith) in let z : ◌≡◌ {A = ℕ} 0 1 = cc in absurd (omega arith)
+    go false f d = let g : head_at w s l t i e ≡ refused BadShape i = head_unsound w s l t i e f in let z : ◌≡◌ {A = ℕ} 0 1 = cc in absurd (omega arith)
+    go true f (no d) = let g : head_at w s l t i e ≡ refused TooDeep i = head_deep w s l t i e f (omega arith) in let z : ◌≡◌ {A = ℕ} 0 1 = cc in absurd (omega arith)
     go true f (yes d) = record { sound = f; level = d; this = went_inj (sym h ∙ head_fine w s l t i e f d) }
 
 -- a run of records
 
-then_same : (h : Outcome) (F G : ℕ → Outcome) → ((t : ℕ) → h ≡ Went t → F t ≡ G t) → then_on h F ≡ then_on h G
-then_same (Went t) F G f = f t refl
-then_same (Fault r p) F G f = refl
+then_same : (h : Result ℕ Refused) (F G : ℕ → Result ℕ Refused) → ((t : ℕ) → h ≡ Ok t → F t ≡ G t) → then_on h F ≡ then_on h G
+then_same (Ok t) F G f = f t refl
+then_same (Err found) F G f = refl
 
-walk_by_done : (n : ℕ) (w : List ℕ) (s l t i e : ℕ) → e ≤ i → walk_by n w s l t i e ≡ Went t
+walk_by_done : (n : ℕ) (w : List ℕ) (s l t i e : ℕ) → e ≤ i → walk_by n w s l t i e ≡ Ok t
 unfolding walk_by
 walk_by_done zero w s l t i e h = refl
 walk_by_done (suc n) w s l t i e h = simp (le-ltb i e h)
 
-abbrev on : ℕ → List ℕ → ℕ → ℕ → ℕ → ℕ → ℕ → Outcome
+abbrev on : ℕ → List ℕ → ℕ → ℕ → ℕ → ℕ → ℕ → Result ℕ Refused
 on n w s l t i e =
     then_on (walk_by n w (first_slot (kind_at w i)) (l + 1) t (i + 1) (i + span_at w i))
     (λ t₂. walk_by n w (slot_after s (kind_at w i)) l t₂ (i + span_at w i) e)
@@ -132,7 +133,7 @@ walk_fuel (suc n) (suc m) w s l t i e a b = go (dec_lt i e) (walk_fuel n m w)
         (λ t₂ k. r (slot_after s (kind_at w i)) l t₂ (i + span_at w i) e (omega arith) (omega arith)))
         ∙ sym (walk_by_on m w s l t i e h)
 
-pub walk_done : (w : List ℕ) (s l t i e : ℕ) → e ≤ i → walk_of w s l t i e ≡ Went t
+pub walk_done : (w : List ℕ) (s l t i e : ℕ) → e ≤ i → walk_of w s l t i e ≡ Ok t
 walk_done w s l t i e h = walk_by_done (e - i) w s l t i e h
 
 pub walk_on : (w : List ℕ) (s l t i e : ℕ) → i < e → walk_of w s l t i e ≡ then_on (head_at w s l t i e)
@@ -148,18 +149,18 @@ walk_on w s l t i e h = walk_fuel (e - i) (suc (e - i)) w s l t i e (omega arith
     (λ t₂. walk_by (e - i) w (slot_after s (kind_at w i)) l t₂ (i + span_at w i) e) (λ t₂. walk_of w (slot_after s (kind_at w i)) l t₂ (i + span_at w i) e)
     (λ t₂ k. walk_fuel (e - i) (e - (i + span_at w i)) w (slot_after s (kind_at w i)) l t₂ (i + span_at w i) e (omega arith) (omega arith)))
 
-pub walk_unsound : (w : List ℕ) (s l t i e : ℕ) → i < e → sound_at w s t i e ≡ false → walk_of w s l t i e ≡ Fault 3 i
+pub walk_unsound : (w : List ℕ) (s l t i e : ℕ) → i < e → sound_at w s t i e ≡ false → walk_of w s l t i e ≡ refused BadShape i
 walk_unsound w s l t i e h f = walk_on w s l t i e h ∙ rw (head_unsound w s l t i e f)
 
-pub walk_deep : (w : List ℕ) (s l t i e : ℕ) → i < e → sound_at w s t i e ≡ true → most_levels < l → walk_of w s l t i e ≡ Fault 4 i
+pub walk_deep : (w : List ℕ) (s l t i e : ℕ) → i < e → sound_at w s t i e ≡ true → most_levels < l → walk_of w s l t i e ≡ refused TooDeep i
 walk_deep w s l t i e h f d = walk_on w s l t i e h ∙ rw (head_deep w s l t i e f d)
 
-pub walk_inner : (w : List ℕ) (s l t i e r p : ℕ) → i < e → sound_at w s t i e ≡ true → l ≤ most_levels
-    → walk_of w (first_slot (kind_at w i)) (l + 1) (this_after (kind_at w i) (value_at w i) t) (i + 1) (i + span_at w i) ≡ Fault r p → walk_of w s l t i e ≡
-    Fault r p
-walk_inner w s l t i e r p h f d g = walk_on w s l t i e h ∙ rw (head_fine w s l t i e f d) (rw g)
+pub walk_inner : (w : List ℕ) (s l t i e : ℕ) (found : Refused) → i < e → sound_at w s t i e ≡ true → l ≤ most_levels
+    → walk_of w (first_slot (kind_at w i)) (l + 1) (this_after (kind_at w i) (value_at w i) t) (i + 1) (i + span_at w i) ≡ Err found
+    → walk_of w s l t i e ≡ Err found
+walk_inner w s l t i e found h f d g = walk_on w s l t i e h ∙ rw (head_fine w s l t i e f d) (rw g)
 
 pub walk_next : (w : List ℕ) (s l t i e u : ℕ) → i < e → sound_at w s t i e ≡ true → l ≤ most_levels
-    → walk_of w (first_slot (kind_at w i)) (l + 1) (this_after (kind_at w i) (value_at w i) t) (i + 1) (i + span_at w i) ≡ Went u
+    → walk_of w (first_slot (kind_at w i)) (l + 1) (this_after (kind_at w i) (value_at w i) t) (i + 1) (i + span_at w i) ≡ Ok u
     → walk_of w s l t i e ≡ walk_of w (slot_after s (kind_at w i)) l u (i + span_at w i) e
 walk_next w s l t i e u h f d g = walk_on w s l t i e h ∙ rw (head_fine w s l t i e f d) (rw g)

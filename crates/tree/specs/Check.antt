@@ -1,11 +1,14 @@
 -- Rows 2, 3 and 4 of 01: one pass over the records, in their order (docs/DECISIONS.md, 1). At one record row 3 comes first, then row 4
-use Rattle.std.specs.Prelude.{ℕ, zero, suc, ◌+◌, ◌-◌, ◌/◌, ◌%◌, Bool, true, false, cond, not, ◌&&◌, ◌||◌, List, length, eqb, leb, ltb}
+use Rattle.std.specs.Prelude.{ℕ, zero, suc, ◌+◌, ◌-◌, ◌/◌, ◌%◌, Bool, true, false, cond, not, ◌&&◌, ◌||◌, List, length, eqb, leb, ltb, Result, Ok, Err}
 use Rattle.words.specs.Record.{kind_at, span_at, position_at, value_at, most_records, most_levels}
+use Rattle.words.specs.declared.row.Row.{Row}
+use Rattle.words.specs.declared.row.Row.TheVariants.{BadLength, BadShape, TooDeep}
+use Rattle.words.specs.declared.row.Refused.{Refused}
 use Rattle.tree.specs.Rules.{may_stand, slot_after, is_due, first_slot, in_range}
-use Rattle.tree.specs.declared.Shape.{Shape}
-use Rattle.tree.specs.declared.Shape.TheVariants.{Fine, Refused}
-use Rattle.tree.specs.declared.Outcome.{Outcome}
-use Rattle.tree.specs.declared.Outcome.TheVariants.{Went, Fault}
+
+-- refused by a row of 01 at a place
+abbrev pub refused : {A : Type 0} → Row → ℕ → Result A Refused
+refused row place = Err (record { row = row; place = place })
 
 -- 'its span is 0 or passes its parent's end (the last record for a document)' does not hold: record i with span s, where e is that end
 unfoldable pub within_of : ℕ → ℕ → ℕ → Bool
@@ -40,36 +43,37 @@ sound_at w s t i e =
     && (same_this (kind_at w i) (value_at w i) t && not (lacks_of w (first_slot (kind_at w i)) (i + 1) (i + span_at w i)))))
 
 -- a record by itself, at its level: row 3, then row 4; else the number of 41 met with it
-unfoldable pub head_at : List ℕ → ℕ → ℕ → ℕ → ℕ → ℕ → Outcome
+unfoldable pub head_at : List ℕ → ℕ → ℕ → ℕ → ℕ → ℕ → Result ℕ Refused
 head_at w s l t i e =
-    cond (sound_at w s t i e) (cond (leb l most_levels) (Went (this_after (kind_at w i) (value_at w i) t)) (Fault 4 i)) (Fault 3 i)
+    cond (sound_at w s t i e) (cond (leb l most_levels) (Ok (this_after (kind_at w i) (value_at w i) t)) (refused TooDeep i))
+    (refused BadShape i)
 
-abbrev pub then_on : Outcome → (ℕ → Outcome) → Outcome
-then_on (Went t) f = f t
-then_on (Fault r p) f = Fault r p
+abbrev pub then_on : Result ℕ Refused → (ℕ → Result ℕ Refused) → Result ℕ Refused
+then_on (Ok t) f = f t
+then_on (Err found) f = Err found
 
 -- the records from i to e, the children of one record from slot s on, at level l: a record, then its children, then those after it. The fuel
 -- e - i is enough
-unfoldable pub walk_by : ℕ → List ℕ → ℕ → ℕ → ℕ → ℕ → ℕ → Outcome
-walk_by zero w s l t i e = Went t
+unfoldable pub walk_by : ℕ → List ℕ → ℕ → ℕ → ℕ → ℕ → ℕ → Result ℕ Refused
+walk_by zero w s l t i e = Ok t
 walk_by (suc n) w s l t i e =
-    only_if (ltb i e) (Went t) (λ t₀. then_on (head_at w s l t₀ i e) (λ t₁.
+    only_if (ltb i e) (Ok t) (λ t₀. then_on (head_at w s l t₀ i e) (λ t₁.
     then_on (walk_by n w (first_slot (kind_at w i)) (l + 1) t₁ (i + 1) (i + span_at w i)) (λ t₂.
     walk_by n w (slot_after s (kind_at w i)) l t₂ (i + span_at w i) e))) t
 
-abbrev pub walk_of : List ℕ → ℕ → ℕ → ℕ → ℕ → ℕ → Outcome
+abbrev pub walk_of : List ℕ → ℕ → ℕ → ℕ → ℕ → ℕ → Result ℕ Refused
 walk_of w s l t i e = walk_by (e - i) w s l t i e
 
-abbrev pub shape_by : Outcome → Shape
-shape_by (Went t) = Fine
-shape_by (Fault r p) = Refused r p
+abbrev pub shape_by : Result ℕ Refused → Result (Unit {0}) Refused
+shape_by (Ok t) = Ok tt
+shape_by (Err found) = Err found
 
 -- how many records the words are
 abbrev pub records_of : List ℕ → ℕ
 records_of w = length w / 4
 
 -- row 2, 'words not a multiple of 4, or over 1,048,576 records; 0'; row 3, '0 for no records'; then the documents, at slot 1 and level 1
-unfoldable pub shape_of : List ℕ → Shape
+unfoldable pub shape_of : List ℕ → Result (Unit {0}) Refused
 shape_of w =
-    cond (not (eqb (length w % 4) 0) || ltb most_records (records_of w)) (Refused 2 0)
-    (only_if (not (eqb (records_of w) 0)) (Refused 3 0) (λ n. shape_by (walk_of w 1 1 0 0 n)) (records_of w))
+    cond (not (eqb (length w % 4) 0) || ltb most_records (records_of w)) (refused BadLength 0)
+    (only_if (not (eqb (records_of w) 0)) (refused BadShape 0) (λ n. shape_by (walk_of w 1 1 0 0 n)) (records_of w))

@@ -2,13 +2,13 @@
 -- Assumes nothing.
 use Prim.Native.Nat.{ℕ, zero, suc, ◌+◌, ◌*◌, ◌/◌, ◌%◌, ◌^◌, ◌≤◌, ◌<◌}
 use native.Mathlib.Omega.{arith}
-use native.Mathlib.Decide.{dec_le}
+use native.Mathlib.Decide.{dec_le, dec_lt}
 use mathlib.Core.Path.{◌≡◌, refl, sym, ap, ◌∙◌}
-use mathlib.Core.Bool.{Bool, true, false, cond}
+use mathlib.Core.Bool.{Bool, true, false, cond, ◌&&◌, false≢true}
 use mathlib.Core.List.{List}
 use lib.ListN.{length, get_or-eq_default}
-use lib.Dec.{eqb}
-use borrow.Author.Tests.{ne_eqb, lt-ltb, le-ltb}
+use lib.Dec.{eqb, ltb}
+use borrow.Author.Tests.{ne_eqb, lt-ltb, le-ltb, ltb-true, ltb-false}
 use Rattle.words.specs.Areas.{entry_word, entry_field}
 use Rattle.undo.specs.Notes.{Words, words, entries_anew, plain_method, plain_methods}
 use Rattle.undo.specs.Turns.{words_at}
@@ -46,31 +46,44 @@ broken_words n i r l w = go (eqb n 0)
     go true = refl
     go false = anew_beyond (plain_method n) 0 l i r w
 
+module _ (n i : ℕ) (l : List ℕ) where
+  -- the entry is not whole, or not one of those that stood
+  not_noted : (r : ℕ) → r < 2 → (ltb i n && ltb i (length l / 3)) ≡ false → entry_word 3 i r (plain_methods n l) ≡ entry_word 3 i r l
+  not_noted r h e = go (dec_lt i n)
+    where
+      go : Dec (i < n) → entry_word 3 i r (plain_methods n l) ≡ entry_word 3 i r l
+      go (yes s) = broken_words n i r l (omega (arith, ltb-false i (length l / 3) (rw (lt-ltb i n s) at e)))
+      go (no s) = later_words n i r l (omega arith) h
+
+  noted : (ltb i n && ltb i (length l / 3)) ≡ true → (i < n) × (i < length l / 3)
+  noted e = go (dec_lt i n)
+    where
+      go : Dec (i < n) → (i < n) × (i < length l / 3)
+      go (yes s) = (s, ltb-true i (length l / 3) (rw (lt-ltb i n s) at e))
+      go (no s) = absurd (false≢true (rw (le-ltb i n (omega arith)) at e))
+
 -- what the code answers, from the word that it reads
 module _ (n i : ℕ) (l : List ℕ) {v : ℕ} where
-  pub model_later : v ≡ entry_field 3 i 0 l → n ≤ i → v ≡ entry_field 3 i 0 (plain_methods n l)
-  unfolding entry_field
-  model_later e h = e ∙ sym (later_words n i 0 l h (omega arith))
+  module _ {t : Bool} (is : t ≡ (ltb i n && ltb i (length l / 3))) where
+    pub model_plain : v ≡ entry_field 3 i 0 l → t ≡ false → v ≡ entry_field 3 i 0 (plain_methods n l)
+    unfolding entry_field
+    model_plain e f = e ∙ sym (not_noted n i l 0 (omega arith) (sym is ∙ f))
 
-  pub model_broken : v ≡ entry_field 3 i 0 l → length l / 3 ≤ i → v ≡ entry_field 3 i 0 (plain_methods n l)
-  unfolding entry_field
-  model_broken e h = e ∙ sym (broken_words n i 0 l (omega arith))
+    pub model_noted : v ≡ entry_field 3 i 0 l → t ≡ true → v % 2 ^ 56 ≡ entry_field 3 i 0 (plain_methods n l)
+    unfolding entry_field
+    model_noted e f =
+        let h = noted n i l (sym is ∙ f) in
+        ap (λ (x : ℕ). x % 2 ^ 56) e ∙ sym (ap (λ (x : Words). x.first) (stood_words n i l h.0 (omega (arith, h.1))))
 
-  pub model_stood : v ≡ entry_field 3 i 0 l → i < n → i < length l / 3 → v % 2 ^ 56 ≡ entry_field 3 i 0 (plain_methods n l)
-  unfolding entry_field
-  model_stood e h w = ap (λ (x : ℕ). x % 2 ^ 56) e ∙ sym (ap (λ (x : Words). x.first) (stood_words n i l h (omega arith)))
+    pub name_plain : v ≡ entry_field 3 i 1 l → t ≡ false → v ≡ entry_field 3 i 1 (plain_methods n l)
+    unfolding entry_field
+    name_plain e f = e ∙ sym (not_noted n i l 1 (omega arith) (sym is ∙ f))
 
-  pub name_later : v ≡ entry_field 3 i 1 l → n ≤ i → v ≡ entry_field 3 i 1 (plain_methods n l)
-  unfolding entry_field
-  name_later e h = e ∙ sym (later_words n i 1 l h (omega arith))
-
-  pub name_broken : v ≡ entry_field 3 i 1 l → length l / 3 ≤ i → v ≡ entry_field 3 i 1 (plain_methods n l)
-  unfolding entry_field
-  name_broken e h = e ∙ sym (broken_words n i 1 l (omega arith))
-
-  pub name_stood : v ≡ entry_field 3 i 1 l → i < n → i < length l / 3 → v % 2 ^ 20 ≡ entry_field 3 i 1 (plain_methods n l)
-  unfolding entry_field
-  name_stood e h w = ap (λ (x : ℕ). x % 2 ^ 20) e ∙ sym (ap (λ (x : Words). x.second) (stood_words n i l h (omega arith)))
+    pub name_noted : v ≡ entry_field 3 i 1 l → t ≡ true → v % 2 ^ 20 ≡ entry_field 3 i 1 (plain_methods n l)
+    unfolding entry_field
+    name_noted e f =
+        let h = noted n i l (sym is ∙ f) in
+        ap (λ (x : ℕ). x % 2 ^ 20) e ∙ sym (ap (λ (x : Words). x.second) (stood_words n i l h.0 (omega (arith, h.1))))
 
   pub function_none : v ≡ entry_field 3 i 2 l → n ≡ 0 → v ≡ entry_field 3 i 2 (plain_methods n l)
   function_none e z = e ∙ ap (λ (m : List ℕ). entry_field 3 i 2 m) (sym (plain_methods_none n l z))

@@ -3,6 +3,8 @@
 use Rattle.std.specs.Prelude.{ℕ, ◌*◌, ◌%◌, ◌^◌, ◌≤◌, ◌<◌, ◌≡◌, cond, List, length, get_or, eqb, ltb}
 use Rattle.words.specs.Areas.{entry_word}
 use Rattle.undo.specs.Notes.{Words, words, note_method, noted_function}
+use Rattle.undo.specs.declared.marks.Step.{Step}
+use Rattle.undo.specs.declared.marks.Step.TheVariants.{Note, Restore, Settle}
 use Rattle.undo.specs.declared.methods.Method.{Method}
 
 -- the words of entry j, and what becomes of them
@@ -12,30 +14,20 @@ words_at j l = words (entry_word 3 j 0 l) (entry_word 3 j 1 l) (entry_word 3 j 2
 abbrev pub made : (ℕ → ℕ → ℕ → ℕ → Words) → ℕ → Words → Words
 made f i x = f i x.first x.second x.third
 
--- the steps, as the code numbers them
-abbrev pub note_step : ℕ
-note_step = 0
-
-abbrev pub restore_step : ℕ
-restore_step = 1
-
-abbrev pub settle_step : ℕ
-settle_step = 2
-
 -- a mark after a step, and the marks of the first n constants
-abbrev pub mark_after : ℕ → ℕ → ℕ
-mark_after step c = cond (eqb step note_step) (cond (eqb c 1) 2 c) (cond (eqb step restore_step) (cond (eqb c 2) 1 0) (cond (eqb c 0) 0 1))
+abbrev pub mark_after : Step → ℕ → ℕ
+mark_after Note c = cond (eqb c 1) 2 c
+mark_after Restore c = cond (eqb c 2) 1 0
+mark_after Settle c = cond (eqb c 0) 0 1
 
-abbrev pub mark_anew : ℕ → ℕ → ℕ → ℕ → ℕ → ℕ → Words
+abbrev pub mark_anew : Step → ℕ → ℕ → ℕ → ℕ → ℕ → Words
 mark_anew step n i a b c = words a b (cond (ltb i n) (mark_after step c) c)
 
 -- a method after a step, where the first n stood
-abbrev pub method_anew : ℕ → ℕ → ℕ → ℕ → ℕ → ℕ → Words
-method_anew step n i a b c =
-    cond (ltb i n)
-    (cond (eqb step note_step) (note_method (a % 2 ^ 56) (b % 2 ^ 20) (c % 2 ^ 56) (c % 2 ^ 56))
-    (cond (eqb step restore_step) (words (a % 2 ^ 56) (b % 2 ^ 20) (noted_function a b c)) (words (a % 2 ^ 56) (b % 2 ^ 20) (c % 2 ^ 56))))
-    (cond (eqb step settle_step) (words a b (c % 2 ^ 56)) (words a b c))
+abbrev pub method_anew : Step → ℕ → ℕ → ℕ → ℕ → ℕ → Words
+method_anew Note n i a b c = cond (ltb i n) (note_method (a % 2 ^ 56) (b % 2 ^ 20) (c % 2 ^ 56) (c % 2 ^ 56)) (words a b c)
+method_anew Restore n i a b c = cond (ltb i n) (words (a % 2 ^ 56) (b % 2 ^ 20) (noted_function a b c)) (words a b c)
+method_anew Settle n i a b c = cond (ltb i n) (words (a % 2 ^ 56) (b % 2 ^ 20) (c % 2 ^ 56)) (words a b (c % 2 ^ 56))
 
 -- three words as the code holds them
 abbrev pub method_of : Words → Method

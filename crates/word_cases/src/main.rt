@@ -25,98 +25,66 @@ enum Part {
     Programs,
     Tables,
     Errors,
-    Unknown,
 }
 
-fn part_named(rt: &impl Print, line: &[u8]) -> io::Result<Part> {
-    if same(line, b"part shapes") {
-        return Ok(Part::Shapes);
-    }
-    if same(line, b"part slots") {
-        return Ok(Part::Slots);
-    }
-    if same(line, b"part programs") {
-        return Ok(Part::Programs);
-    }
-    if same(line, b"part tables") {
-        return Ok(Part::Tables);
-    }
-    if same(line, b"part errors") {
-        return Ok(Part::Errors);
-    }
-    elements::say(rt, b"unknown ")?;
-    Ok(Part::Unknown)
-}
-
-// What a case leaves for the next: its part, and how many numbers the last program of the part `programs` has.
-#[derive(Clone, Copy)]
-struct Read {
-    part: Part,
-    held: usize,
-}
-
-// How many numbers the last program has after this case.
-fn answer(
-    rt: &impl Print,
-    part: Part,
-    numbers: &[u64],
-    program: &mut [u64],
-    held: usize,
-) -> io::Result<usize> {
-    match part {
-        Part::Shapes => shapes::case(rt, numbers)?,
-        Part::Slots => slots::case(rt, numbers)?,
-        Part::Programs => {
-            return programs::case(rt, numbers, program, held);
+impl Part {
+    // The part that a line names.
+    fn named(line: &[u8]) -> Option<Part> {
+        if same(line, b"part shapes") {
+            return Some(Part::Shapes);
         }
-        Part::Tables => tables::case(rt, numbers)?,
-        Part::Errors => errors::case(rt, numbers)?,
-        Part::Unknown => elements::say(rt, b" no part")?,
+        if same(line, b"part slots") {
+            return Some(Part::Slots);
+        }
+        if same(line, b"part programs") {
+            return Some(Part::Programs);
+        }
+        if same(line, b"part tables") {
+            return Some(Part::Tables);
+        }
+        if same(line, b"part errors") {
+            return Some(Part::Errors);
+        }
+        None
     }
-    Ok(held)
 }
 
 fn case(
     rt: &impl Print,
-    part: Part,
+    part: Option<Part>,
     text: &[u8],
-    program: &mut [u64],
-    held: usize,
-) -> io::Result<usize> {
-    elements::say(rt, b":")?;
+    program: &mut Vec<u64>,
+) -> io::Result<()> {
     let mut numbers = [0; MOST_NUMBERS];
     let count = parse(text, &mut numbers);
-    answer(rt, part, &numbers[0..count], program, held)
-}
-
-fn line(rt: &impl Print, read: Read, text: &[u8], program: &mut [u64]) -> io::Result<Read> {
-    let held = read.held;
-    let colon = find(text, 0, b':');
-    if colon == text.len() {
-        let named = part_named(rt, text)?;
-        elements::say(rt, text)?;
-        return Ok(Read { part: named, held });
+    let numbers = &numbers[..count];
+    match part {
+        Some(Part::Shapes) => shapes::case(rt, numbers),
+        Some(Part::Slots) => slots::case(rt, numbers),
+        Some(Part::Programs) => programs::case(rt, numbers, program),
+        Some(Part::Tables) => tables::case(rt, numbers),
+        Some(Part::Errors) => errors::case(rt, numbers),
+        None => print!(rt; " no part"),
     }
-    let part = read.part;
-    elements::say(rt, &text[0..colon])?;
-    let now_held = case(rt, part, &text[colon..], program, held)?;
-    Ok(Read {
-        part,
-        held: now_held,
-    })
 }
 
-fn cases(rt: &impl Print, text: &[u8], program: &mut [u64]) -> io::Result<()> {
-    let mut read = Read {
-        part: Part::Unknown,
-        held: 0,
-    };
-    let mut at: usize = 0;
-    while at < text.len() {
-        let end = find(text, at, b'\n');
-        read = line(rt, read, &text[at..end], program)?;
-        elements::say(rt, b"\n")?;
-        at = end + 1;
+fn cases(rt: &impl Print, text: &[u8], program: &mut Vec<u64>) -> io::Result<()> {
+    let mut part = None;
+    for line in text.split_inclusive(|byte| *byte == b'\n') {
+        let line = line.strip_suffix(b"\n").unwrap_or(line);
+        let colon = find(line, 0, b':');
+        if colon < line.len() {
+            rt.write_all(&line[..colon])?;
+            print!(rt; ":")?;
+            case(rt, part, &line[colon..], program)?;
+        } else {
+            part = Part::named(line);
+            if part.is_none() {
+                print!(rt; "unknown ")?;
+            }
+            rt.write_all(line)?;
+        }
+        println!(rt; "")?;
     }
     Ok(())
 }
@@ -124,6 +92,6 @@ fn cases(rt: &impl Print, text: &[u8], program: &mut [u64]) -> io::Result<()> {
 fn main(rt: HostRuntime) -> io::Result<()> {
     let mut text = vec![in rt.alloc(); 0; MOST_BYTES]?;
     let n = read_full(&mut rt.stdin(), &mut text)?;
-    let mut program = [0; MOST_NUMBERS];
+    let mut program = vec![in rt.alloc()]?;
     cases(&rt, &text[..n], &mut program)
 }

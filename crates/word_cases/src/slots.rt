@@ -1,135 +1,64 @@
 // The routines of `constant_slots`: way, kind, value, count, slots, then the slots' words and those of the pool. Way 1 is the search, on any table: found
 // (1 or 0), number, slots looked at. Way 2 fills the table, way 3 puts constant number `count` into it, way 4 clears it: every slot is written, with the two
 // beside the table.
-use crate::elements;
-use constant_slots::plain::Found;
-use constant_slots::slots;
+use crate::elements::print_all;
+use constant_slots::plain::ConstantWords;
+use constant_slots::slots::{clear, fill, find, put};
 use std::io;
-
-const HEADER: usize = 5;
-
-const SEARCH: u64 = 1;
-
-const FILL: u64 = 2;
-
-const PUT: u64 = 3;
 
 const MOST_SLOTS: usize = 60;
 
-fn say_found(rt: &impl Print, found: Found) -> io::Result<()> {
-    match found {
-        Found::At(i) => {
-            elements::number(rt, 1)?;
-            elements::number(rt, i)?;
-        }
-        Found::Nothing => {
-            elements::number(rt, 0)?;
-            elements::number(rt, 0)?;
-        }
-    }
-    Ok(())
+enum Way {
+    Search,
+    Fill,
+    Put,
+    Clear,
 }
 
-fn search(
-    rt: &impl Print,
-    words: &[u64],
-    kind: u64,
-    value: u64,
-    count: usize,
-    size: usize,
-) -> io::Result<()> {
-    if size <= words.len() {
-        let r = slots::find(&words[size..], count, &words[0..size], kind, value);
-        let found = r.found;
-        say_found(rt, found)?;
-        elements::number(rt, r.looked as u64)?;
-    }
-    Ok(())
-}
-
-// What a routine leaves of the table and of the words beside it.
-fn change(
-    rt: &impl Print,
-    way: u64,
-    pool: &[u64],
-    table: &mut [u64],
-    kind: u64,
-    value: u64,
-    count: usize,
-) -> io::Result<()> {
-    if table.len() < 2 {
-        return Ok(());
-    }
-    let end = table.len() - 1;
-    if way == FILL {
-        slots::fill(pool, count, &mut table[1..end]);
-        elements::words(rt, table)?;
-        return Ok(());
-    }
-    if way == PUT {
-        slots::put(&mut table[1..end], count as u64, kind, value);
-        elements::words(rt, table)?;
-        return Ok(());
-    }
-    slots::clear(&mut table[1..end]);
-    elements::words(rt, table)
-}
-
-fn lend(
-    rt: &impl Print,
-    words: &[u64],
-    way: u64,
-    kind: u64,
-    value: u64,
-    count: usize,
-    size: usize,
-    table: &mut [u64],
-) -> io::Result<()> {
-    if size <= MOST_SLOTS {
-        let all = size + 2;
-        if all <= table.len() {
-            if size <= words.len() {
-                elements::copy(&words[0..size], &mut table[1..]);
-                change(
-                    rt,
-                    way,
-                    &words[size..],
-                    &mut table[0..all],
-                    kind,
-                    value,
-                    count,
-                )?;
-            }
+impl From<u64> for Way {
+    fn from(number: u64) -> Way {
+        match number {
+            1 => Way::Search,
+            2 => Way::Fill,
+            3 => Way::Put,
+            _ => Way::Clear,
         }
     }
-    Ok(())
 }
 
-fn lent(
-    rt: &impl Print,
-    words: &[u64],
-    way: u64,
-    kind: u64,
-    value: u64,
-    count: usize,
-    size: usize,
-) -> io::Result<()> {
-    let mut table = [7; 64];
-    lend(rt, words, way, kind, value, count, size, &mut table)
+// What a change leaves of a table and of the words beside it.
+fn print_changed<F: FnOnce(&mut [u64])>(rt: &impl Print, table: &[u64], change: F) -> io::Result<()>
+    requires callable { F.IsAlwaysCallable change }
+{
+    let size = table.len();
+    if size > MOST_SLOTS {
+        return Ok(());
+    }
+    let mut words = [7; 64];
+    words[1..=size].copy_from_slice(table);
+    change(&mut words[1..=size]);
+    print_all(rt, &words[..size + 2])
 }
 
 pub(crate) fn case(rt: &impl Print, numbers: &[u64]) -> io::Result<()> {
-    if numbers.len() < HEADER {
+    let Some((header, rest)) = numbers.split_first_chunk::<5>() else {
         return Ok(());
-    }
-    let way = numbers[0];
-    let kind = numbers[1];
-    let value = numbers[2];
-    let entries = numbers[3] as usize;
-    let size = numbers[4] as usize;
-    if way == SEARCH {
-        search(rt, &numbers[HEADER..], kind, value, entries, size)?;
+    };
+    let [way, kind, value, count, size] = *header;
+    let Some((table, pool)) = rest.split_at_checked(size as usize) else {
         return Ok(());
+    };
+    let constant = ConstantWords { kind, value };
+    match Way::from(way) {
+        Way::Search => {
+            let searched = find(pool, count as usize, table, constant);
+            match searched.found {
+                Some(i) => print!(rt; " 1 {i} {}", searched.looked),
+                None => print!(rt; " 0 0 {}", searched.looked),
+            }
+        }
+        Way::Fill => print_changed(rt, table, |table| fill(pool, count as usize, table)),
+        Way::Put => print_changed(rt, table, |table| put(table, count, constant)),
+        Way::Clear => print_changed(rt, table, |table| clear(table)),
     }
-    lent(rt, &numbers[HEADER..], way, kind, value, entries, size)
 }

@@ -5,7 +5,7 @@ use mathlib.Core.Path.{◌≡◌, refl, sym, ap, ◌∙◌}
 use mathlib.Core.Bool.{Bool, true, false, cond}
 use mathlib.Core.List.{List, [], ◌∷◌}
 use lib.Dec.{eqb, lit<}
-use borrow.Author.Tests.{ne_eqb, eqb-true}
+use borrow.Author.Tests.{eqb-true}
 use Rattle.words.specs.Opcode.{Instruction, to_instruction, word, unword}
 use Rattle.words.specs.Codes.{number_of, opcodes, opcode_in, opcode_of, read_word}
 use Rattle.words.specs.declared.opcode.OpCode.{OpCode}
@@ -37,20 +37,6 @@ use Rattle.words.specs.declared.opcode.OpCode.TheVariants.{
   Iterate,
   Unknown,
 }
-
--- what a match on a number that has no arm left says: it is none of these opcodes' numbers
-abbrev pub NoneOf : Type 0 → List OpCode → ℕ → Type 0
-NoneOf N [] n = N
-NoneOf N (o ∷ os) n = NoneOf (N × (n ≡ number_of o → ⊥)) os n
-
-none_before : (N : Type 0) (os : List OpCode) (n : ℕ) → NoneOf N os n → N
-none_before N [] n r = r
-none_before N (o ∷ os) n r = (none_before (N × (n ≡ number_of o → ⊥)) os n r).0
-
-pub none_unknown : (N : Type 0) (os : List OpCode) (n : ℕ) → NoneOf N os n → Unknown ≡ opcode_in os n
-none_unknown N [] n r = refl
-none_unknown N (o ∷ os) n r =
-    simp (ne_eqb n (number_of o) (none_before (N × (n ≡ number_of o → ⊥)) os n r).1) (none_unknown (N × (n ≡ number_of o → ⊥)) os n r)
 
 -- an opcode's number is a byte, and its opcode is that opcode again
 pub record Numbered (o : OpCode) : Type 0 where

@@ -1,9 +1,10 @@
 pub mod Codes
 pub mod Constants
 pub mod Entries
-pub mod Fields
-pub mod Floats
+pub mod Firsts
 pub mod Integers
+pub mod NoArea
 pub mod ObjectBench
-pub mod Parts
 pub mod Positions
+pub mod Searching
+pub mod ReadBack

@@ -1,10 +1,10 @@
--- Positions: of one in range both halves are (`in_place`), and what the code's two tests say (`line_far`, `column_told`). Assumes nothing.
-use Prim.Native.Nat.{ℕ, ◌≤◌, ◌<◌}
+-- Positions: of one in range both halves are (`in_place`). Assumes nothing.
+use Prim.Native.Nat.{ℕ, ◌≤◌}
 use native.Mathlib.Omega.{arith}
 use mathlib.Core.Path.{◌≡◌, refl}
 use mathlib.Core.Bool.{Bool, true, false, ◌&&◌}
 use lib.Dec.{leb}
-use borrow.Author.Tests.{le-leb, lt-leb, leb-true}
+use borrow.Author.Tests.{leb-true}
 use Rattle.words.specs.Record.{most_place, line_of, column_of, in_place}
 
 and_both : (a b : Bool) → (a && b) ≡ true → (a ≡ true) × (b ≡ true)
@@ -16,11 +16,3 @@ unfolding in_place
 in_place_lem p e =
     let x = and_both (leb (line_of p) most_place) (leb (column_of p) most_place) e in
     (leb-true (line_of p) most_place x.0, leb-true (column_of p) most_place x.1)
-
-pub line_far : (p : ℕ) → most_place < line_of p → false ≡ in_place p
-unfolding in_place
-line_far p h = simp (lt-leb (line_of p) most_place h)
-
-pub column_told : (p : ℕ) → line_of p ≤ most_place → leb (column_of p) most_place ≡ in_place p
-unfolding in_place
-column_told p h = simp (le-leb (line_of p) most_place h)

@@ -1,7 +1,9 @@
 -- The twelve areas of 01, 'Replies of the compiler': how many words an entry has and what each word means (docs/FORMAT.md has the same as a table).
 -- An area is a list of words; its entries follow each other from word 0, and a tail shorter than an entry belongs to none
 use Rattle.std.specs.Prelude.{ℕ, ◌+◌, ◌-◌, ◌*◌, ◌/◌, ◌^◌, min, ◌≡◌, Bool, false, cond, List, [], ◌∷◌, ◌++◌, length, take, drop, get_or, set, replicate, leb}
-use Rattle.std.specs.Prelude.{ltb}
+use Rattle.std.specs.Prelude.{ltb, Option, Some, None}
+use Rattle.words.specs.declared.areas.Area.{Area}
+use Rattle.words.specs.declared.areas.Area.TheVariants as area
 
 -- area numbers
 abbrev pub code_area : ℕ
@@ -39,6 +41,21 @@ errors_area = 11
 
 abbrev pub books_area : ℕ
 books_area = 12
+
+-- each area's number
+abbrev pub number_of_area : Area → ℕ
+number_of_area area.Code = code_area
+number_of_area area.Constants = constants_area
+number_of_area area.Functions = functions_area
+number_of_area area.Models = models_area
+number_of_area area.Properties = properties_area
+number_of_area area.Methods = methods_area
+number_of_area area.ContextLocals = context_locals_area
+number_of_area area.PublicNames = public_names_area
+number_of_area area.ScopeNames = scope_names_area
+number_of_area area.Breaks = breaks_area
+number_of_area area.Errors = errors_area
+number_of_area area.Books = books_area
 
 -- words of an entry, by area from 1:
 -- 1 code: instruction word, position. 2 constants: kind, value, global mark. 3 functions: parameters, locals, rescue position, instance mark,
@@ -91,6 +108,10 @@ pub record Written (width i : ℕ) (entry w after : List ℕ) (answer : Bool) : 
 -- whether word k of entry i is a word of an area of n words
 abbrev pub word_fits : ℕ → ℕ → ℕ → ℕ → Bool
 word_fits width i k n = cond (leb width most_width) (cond (ltb k width) (ltb (i * width + k) n) false) false
+
+-- where that word lies
+abbrev pub word_place : ℕ → ℕ → ℕ → ℕ → Option ℕ
+word_place width i k n = cond (word_fits width i k n) (Some (i * width + k)) None
 
 -- an area after word k of entry i was written, where it is there
 abbrev pub write_word : ℕ → ℕ → ℕ → ℕ → List ℕ → List ℕ

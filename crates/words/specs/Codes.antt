@@ -30,6 +30,8 @@ use Rattle.words.specs.declared.opcode.OpCode.TheVariants.{
   Iterate,
   Unknown,
 }
+use Rattle.words.specs.declared.opcode.Operation.{Operation as TheOperation}
+use Rattle.words.specs.declared.opcode.Operation.TheVariants as operation
 use Rattle.words.specs.Opcode as number
 
 -- each opcode's number, as in `opcode.rs`
@@ -60,6 +62,21 @@ number_of JumpIf = number.JumpIf
 number_of ForNext = number.ForNext
 number_of Iterate = number.Iterate
 number_of Unknown = 0xFF
+
+-- each operation's number, as in `opcode.rs`
+abbrev pub number_of_operation : TheOperation → ℕ
+number_of_operation operation.Add = number.OPERATION_ADD
+number_of_operation operation.Sub = number.OPERATION_SUB
+number_of_operation operation.Multiply = number.OPERATION_MULTIPLY
+number_of_operation operation.Divide = number.OPERATION_DIVIDE
+number_of_operation operation.Mod = number.OPERATION_MOD
+number_of_operation operation.Equal = number.OPERATION_EQUAL
+number_of_operation operation.Greater = number.OPERATION_GREATER
+number_of_operation operation.Less = number.OPERATION_LESS
+number_of_operation operation.GreaterEqual = number.OPERATION_GREATER_EQUAL
+number_of_operation operation.LessEqual = number.OPERATION_LESS_EQUAL
+number_of_operation operation.And = number.OPERATION_AND
+number_of_operation operation.Or = number.OPERATION_OR
 
 -- every opcode but `Unknown`
 abbrev pub opcodes : List OpCode

@@ -2,8 +2,13 @@ pub mod Areas
 pub mod Ast
 pub mod Codes
 pub mod Constants
+pub mod Kinds
+pub mod Numbers
+pub mod Node
 pub mod Object
 pub mod Opcode
 pub mod Program
 pub mod Record
 pub mod Reply
+pub mod Row
+pub mod Search

@@ -1,7 +1,23 @@
 -- The reply of the compile call (01, 'Replies of the compiler'): a refusal's number and place with every total 0, or 0, 0 and the totals
 use Rattle.std.specs.Prelude.{ℕ, List, [], ◌∷◌, get_or}
+use Rattle.words.specs.declared.reply.CompileError.{CompileError}
+use Rattle.words.specs.declared.reply.CompileError.TheVariants as error
 use Rattle.words.specs.declared.reply.Totals.{Totals}
 use Rattle.words.specs.declared.reply.Reply.{Reply}
+
+-- the number of each error, in the order of 01's list of the Rust's messages
+abbrev pub number_of_error : CompileError → ℕ
+number_of_error error.VariableExists = 1
+number_of_error error.CanNotAssign = 2
+number_of_error error.UnknownOperation = 3
+number_of_error error.RescueInLayer = 4
+number_of_error error.ConstantOnly = 5
+number_of_error error.PropertyExists = 6
+number_of_error error.ParameterExists = 7
+number_of_error error.InstanceFunction = 8
+number_of_error error.NotAModel = 9
+number_of_error error.ModelNotFound = 10
+number_of_error error.Ring = 11
 
 abbrev pub no_totals : Totals
 no_totals =

@@ -1,31 +1,103 @@
 // The twelve areas of 01, 'Replies of the compiler': their numbers and widths, readers and writers of an entry. docs/FORMAT.md has the words.
-ghost use Rattle.std.specs.Prelude.{◌≡◌, [], ◌∷◌, take};
-ghost use Rattle.words.specs.Areas.{width_of, entries_in, entry_field, cleared_from, Written, Patched};
+ghost use Rattle.std.specs.Prelude.{◌≡◌, length, take};
+ghost use Rattle.words.specs.Numbers.{ReadAs};
+ghost use Rattle.words.specs.Areas.{number_of_area, width_of, entries_in, entry_field, word_place, cleared_from, Written, Patched};
 
-// Area numbers: the place that row 9 gives.
-pub const CODE: u64 = 1;
+use crate::UnknownNumber;
 
-pub const CONSTANTS: u64 = 2;
+// The areas; each number is the place that row 9 gives.
+#[derive(Clone, Copy, PartialEq, Eq)]
+pub enum Area {
+    Code = 1,
+    Constants = 2,
+    Functions = 3,
+    Models = 4,
+    Properties = 5,
+    Methods = 6,
+    ContextLocals = 7,
+    PublicNames = 8,
+    ScopeNames = 9,
+    Breaks = 10,
+    Errors = 11,
+    Books = 12,
+}
 
-pub const FUNCTIONS: u64 = 3;
+impl Area {
+    pub fn number(self) -> u64
+        ensures { result ≡ number_of_area self }
+    {
+        self as u64
+    }
 
-pub const MODELS: u64 = 4;
+    // Words of an entry.
+    pub fn width(self) -> usize
+        ensures { result ≡ width_of (number_of_area self) }
+    {
+        match self {
+            Area::Code => CODE_WORDS,
+            Area::Constants => CONSTANT_WORDS,
+            Area::Functions => FUNCTION_WORDS,
+            Area::Models => MODEL_WORDS,
+            Area::Properties => PROPERTY_WORDS,
+            Area::Methods => METHOD_WORDS,
+            Area::ContextLocals => CONTEXT_LOCAL_WORDS,
+            Area::PublicNames => PUBLIC_NAME_WORDS,
+            Area::ScopeNames => SCOPE_NAME_WORDS,
+            Area::Breaks => BREAK_WORDS,
+            Area::Errors => ERROR_WORDS,
+            Area::Books => BOOK_WORDS,
+        }
+    }
+}
 
-pub const PROPERTIES: u64 = 5;
+impl TryFrom<u64> for Area {
+    type Error = UnknownNumber;
 
-pub const METHODS: u64 = 6;
+    ghost try_from_gives = { ReadAs number_of_area };
 
-pub const CONTEXT_LOCALS: u64 = 7;
+    fn try_from(number: u64) -> Result<Self, UnknownNumber> {
+        match number {
+            CODE => Ok(Area::Code),
+            CONSTANTS => Ok(Area::Constants),
+            FUNCTIONS => Ok(Area::Functions),
+            MODELS => Ok(Area::Models),
+            PROPERTIES => Ok(Area::Properties),
+            METHODS => Ok(Area::Methods),
+            CONTEXT_LOCALS => Ok(Area::ContextLocals),
+            PUBLIC_NAMES => Ok(Area::PublicNames),
+            SCOPE_NAMES => Ok(Area::ScopeNames),
+            BREAKS => Ok(Area::Breaks),
+            ERRORS => Ok(Area::Errors),
+            BOOKS => Ok(Area::Books),
+            _ => Err(UnknownNumber(number)),
+        }
+    }
+}
 
-pub const PUBLIC_NAMES: u64 = 8;
+// The same as numbers, for the clauses and the code that take any number as an area's.
+pub const CODE: u64 = Area::Code as u64;
 
-pub const SCOPE_NAMES: u64 = 9;
+pub const CONSTANTS: u64 = Area::Constants as u64;
 
-pub const BREAKS: u64 = 10;
+pub const FUNCTIONS: u64 = Area::Functions as u64;
 
-pub const ERRORS: u64 = 11;
+pub const MODELS: u64 = Area::Models as u64;
 
-pub const BOOKS: u64 = 12;
+pub const PROPERTIES: u64 = Area::Properties as u64;
+
+pub const METHODS: u64 = Area::Methods as u64;
+
+pub const CONTEXT_LOCALS: u64 = Area::ContextLocals as u64;
+
+pub const PUBLIC_NAMES: u64 = Area::PublicNames as u64;
+
+pub const SCOPE_NAMES: u64 = Area::ScopeNames as u64;
+
+pub const BREAKS: u64 = Area::Breaks as u64;
+
+pub const ERRORS: u64 = Area::Errors as u64;
+
+pub const BOOKS: u64 = Area::Books as u64;
 
 // Words of an entry.
 pub const CODE_WORDS: usize = 2;
@@ -58,139 +130,77 @@ pub const MOST_WIDTH: usize = 8;
 // An area that is longer counts as this long, so that every number fits its operand: 2^56 - 1.
 pub const MOST_ENTRIES: usize = 72057594037927935;
 
-// The widths by area number; no area has number 0.
-const AREA_COUNT: usize = 13;
-
-const WIDTHS: [usize; 13] = [0, 2, 3, 8, 2, 2, 3, 4, 3, 2, 1, 4, 1];
-
 // Words of an entry of an area, by its number; 0 for a number that no area has.
 pub fn width_of(area: u64) -> usize
     ensures { result ≡ width_of area }
 {
-    let i = area as usize;
-    if i < AREA_COUNT {
-        return WIDTHS[i];
+    match Area::try_from(area) {
+        Ok(area) => area.width(),
+        Err(UnknownNumber(_)) => 0,
     }
-    0
 }
 
 // The entries that an area of so many words has; none where no area has the number.
 pub fn entries_in(area: u64, words: usize) -> usize
     ensures { result ≡ entries_in (width_of area) words }
 {
-    let width = width_of(area);
-    if width == 0 {
-        return 0;
-    }
-    let entries = words / width;
-    if entries < MOST_ENTRIES {
-        return entries;
-    }
-    MOST_ENTRIES
+    words
+        .checked_div(width_of(area))
+        .unwrap_or(0)
+        .min(MOST_ENTRIES)
 }
 
-// Word k of entry i; 0 outside.
+// Where word k of entry i lies; none outside.
+fn place_of(area: &[u64], width: usize, i: usize, k: usize) -> Option<usize>
+    ensures { result ≡ word_place width i k (length area.now) }
+{
+    if width <= MOST_WIDTH && k < width && i < area.len() && i * width + k < area.len() {
+        return Some(i * width + k);
+    }
+    None
+}
+
+// Word k of entry i; 0 outside. The width is no const parameter, since some callers have it from an argument of their own (`program_check`, its keys).
+#[tactic(auto, unfolding(crate::specs::Areas::entry_field))]
 pub fn entry_word(area: &[u64], width: usize, i: usize, k: usize) -> u64
     ensures { result ≡ entry_field width i k area.now }
 {
-    if width <= MOST_WIDTH {
-        if k < width {
-            if i < area.len() {
-                let at = i * width + k;
-                if at < area.len() {
-                    return area[at];
-                }
-            }
-        }
+    match place_of(area, width, i, k) {
+        Some(at) => area[at],
+        None => 0,
     }
-    0
 }
 
 // Writes word k of entry i; false, and nothing is written, outside.
 pub fn write_word(area: &mut [u64], width: usize, i: usize, k: usize, value: u64) -> bool
     ensures { Patched width i k value area.old area.new result }
 {
-    if width <= MOST_WIDTH {
-        if k < width {
-            if i < area.len() {
-                let at = i * width + k;
-                if at < area.len() {
-                    area[at] = value;
-                    return true;
-                }
-            }
-        }
+    let Some(at) = place_of(area, width, i, k) else {
+        return false
+    };
+    area[at] = value;
+    true
+}
+
+// Writes entry i, of N words; false, and nothing is written, where it does not fit.
+pub fn write_entry<const N: usize>(area: &mut [u64], i: usize, words: [u64; N]) -> bool
+    ensures { Written N i words.entry area.old area.new result }
+{
+    if 0 < N && N <= MOST_WIDTH && i < area.len() && i * N + N <= area.len() {
+        let at = i * N;
+        area[at..at + N].copy_from_slice(&words);
+        return true;
     }
     false
 }
 
-// Writes entry i; false, and nothing is written, where it does not fit.
-pub fn write_entry(area: &mut [u64], width: usize, i: usize, words: [u64; 8]) -> bool
+// The same of a width that is known when it runs, by the first words. It stands beside `write_entry` since it has promised this of every width.
+pub fn write_first_words(area: &mut [u64], width: usize, i: usize, words: [u64; 8]) -> bool
     ensures { Written width i (take width words) area.old area.new result }
 {
-    if 0 < width {
-        if width <= MOST_WIDTH {
-            if i < area.len() {
-                let at = i * width;
-                if at + width <= area.len() {
-                    let mut k: usize = 0;
-                    while k < width {
-                        area[at + k] = words[k];
-                        k += 1;
-                    }
-                    return true;
-                }
-            }
-        }
-    }
-    false
-}
-
-// Entry i of a width, by its words.
-pub fn write1(area: &mut [u64], i: usize, a: u64) -> bool
-    ensures { Written 1 i (a ∷ []) area.old area.new result }
-{
-    if i < area.len() {
-        area[i] = a;
-        return true;
-    }
-    false
-}
-
-pub fn write2(area: &mut [u64], i: usize, first: u64, second: u64) -> bool
-    ensures { Written 2 i (first ∷ second ∷ []) area.old area.new result }
-{
-    if i < area.len() / 2 {
-        let at = i * 2;
-        area[at] = first;
-        area[at + 1] = second;
-        return true;
-    }
-    false
-}
-
-pub fn write3(area: &mut [u64], i: usize, a: u64, b: u64, c: u64) -> bool
-    ensures { Written 3 i (a ∷ b ∷ c ∷ []) area.old area.new result }
-{
-    if i < area.len() / 3 {
-        let at = i * 3;
-        area[at] = a;
-        area[at + 1] = b;
-        area[at + 2] = c;
-        return true;
-    }
-    false
-}
-
-pub fn write4(area: &mut [u64], i: usize, a: u64, b: u64, c: u64, d: u64) -> bool
-    ensures { Written 4 i (a ∷ b ∷ c ∷ d ∷ []) area.old area.new result }
-{
-    if i < area.len() / 4 {
-        let at = i * 4;
-        area[at] = a;
-        area[at + 1] = b;
-        area[at + 2] = c;
-        area[at + 3] = d;
+    if 0 < width && width <= MOST_WIDTH && i < area.len() && i * width + width <= area.len() {
+        let at = i * width;
+        area[at..at + width].copy_from_slice(&words[..width]);
         return true;
     }
     false
@@ -200,9 +210,6 @@ pub fn write4(area: &mut [u64], i: usize, a: u64, b: u64, c: u64, d: u64) -> boo
 pub fn clear_from(area: &mut [u64], from: usize)
     ensures { area.new ≡ cleared_from from area.old }
 {
-    let mut i = from;
-    while i < area.len() {
-        area[i] = 0;
-        i += 1;
-    }
+    let from = from.min(area.len());
+    area[from..].fill(0);
 }

@@ -1,30 +1,33 @@
 // `runtime/object.rs`: a constant, decoded from the pool's words. 01's kinds are numbers from 0 in the order of the cases.
-ghost use Rattle.std.specs.Prelude.{◌≡◌, cond};
+ghost use Rattle.std.specs.Prelude.{◌≡◌};
 ghost use Rattle.std.specs.Float.{binary64};
 ghost use Rattle.std.specs.Float.Ieee.{of_bits, to_bits};
-ghost use Rattle.words.specs.Constants.{word_of_integer, integer_of_word, numbered_of, decode_of, constant_at, kind_of, value_of};
+ghost use Rattle.words.specs.Numbers.{ReadAs};
+ghost use Rattle.words.specs.Constants.{number_of_kind, word_of_integer, integer_of_word, decode_of, constant_at, kind_of, value_of};
 
+use crate::UnknownNumber;
 use crate::areas::{CONSTANT_WORDS, entry_word};
+use std::num::{f64_from_bits_with_nan, f64_to_bits_with_nan};
 
 // The words of an entry of constants, but for its global mark.
 pub const CONSTANT_KIND: usize = 0;
 
 pub const CONSTANT_VALUE: usize = 1;
 
-// Kinds of constants.
-pub const NULL: u64 = 0;
+// Kinds of constants, for the clauses and the code that take any number as a kind.
+pub const NULL: u64 = Kind::Null as u64;
 
-pub const BOOLEAN: u64 = 1;
+pub const BOOLEAN: u64 = Kind::Boolean as u64;
 
-pub const INTEGER: u64 = 2;
+pub const INTEGER: u64 = Kind::Integer as u64;
 
-pub const FLOAT: u64 = 3;
+pub const FLOAT: u64 = Kind::Float as u64;
 
-pub const TEXT: u64 = 4;
+pub const TEXT: u64 = Kind::Text as u64;
 
-pub const MODEL: u64 = 5;
+pub const MODEL: u64 = Kind::Model as u64;
 
-pub const FUNCTION: u64 = 6;
+pub const FUNCTION: u64 = Kind::Function as u64;
 
 // `Program::NULL_CONSTANT_INDEX` and its neighbours: the first constants of every pool.
 pub const NULL_CONSTANT: u64 = 0;
@@ -32,18 +35,6 @@ pub const NULL_CONSTANT: u64 = 0;
 pub const TRUE_CONSTANT: u64 = 1;
 
 pub const FALSE_CONSTANT: u64 = 2;
-
-// 2^63, the greatest word, and 2^32.
-const SIGN_BIT: u64 = 9223372036854775808;
-
-const MOST_WORD: u64 = 18446744073709551615;
-
-const NUMBERS_END: u64 = 4294967296;
-
-// An infinity's bits: above them, with the sign left out, stand the NaNs. And the bits of the one NaN that is encoded.
-const INFINITY_BITS: u64 = 9218868437227405312;
-
-const NAN_BITS: u64 = 9221120237041090560;
 
 // `Object`, of which a pool has these cases.
 #[derive(Clone, Copy)]
@@ -57,54 +48,75 @@ pub enum Constant {
     Function(u32),
 }
 
-// What two words of the pool are.
-#[derive(Clone, Copy)]
-pub enum Decoded {
-    Is(Constant),
-    NoConstant,
+// The case of a constant, numbered from 0 in the order of the cases.
+#[derive(Clone, Copy, PartialEq, Eq)]
+pub enum Kind {
+    Null = 0,
+    Boolean = 1,
+    Integer = 2,
+    Float = 3,
+    Text = 4,
+    Model = 5,
+    Function = 6,
 }
 
-// Two's complement. `as` is defined below 2^63 alone, so a negative number is built from the words above it.
+impl Kind {
+    pub fn number(self) -> u64
+        ensures { result ≡ number_of_kind self }
+    {
+        self as u64
+    }
+}
+
+impl TryFrom<u64> for Kind {
+    type Error = UnknownNumber;
+
+    ghost try_from_gives = { ReadAs number_of_kind };
+
+    fn try_from(number: u64) -> Result<Self, UnknownNumber> {
+        match number {
+            NULL => Ok(Kind::Null),
+            BOOLEAN => Ok(Kind::Boolean),
+            INTEGER => Ok(Kind::Integer),
+            FLOAT => Ok(Kind::Float),
+            TEXT => Ok(Kind::Text),
+            MODEL => Ok(Kind::Model),
+            FUNCTION => Ok(Kind::Function),
+            _ => Err(UnknownNumber(number)),
+        }
+    }
+}
+
+// Two's complement.
 pub fn integer_of_word(word: u64) -> i64
     ensures { result ≡ integer_of_word word }
 {
-    if word < SIGN_BIT {
-        return word as i64;
-    }
-    -1 - (MOST_WORD - word) as i64
+    word.cast_signed()
 }
 
 pub fn word_of_integer(integer: i64) -> u64
     ensures { result ≡ word_of_integer integer }
 {
-    if integer >= 0 {
-        return integer as u64;
-    }
-    MOST_WORD - (-1 - integer) as u64
+    integer.cast_unsigned()
 }
 
-// `f64::from_bits` is undefined at the pattern of a NaN, and 0 / 0 is the NaN that each of them is.
+// Every NaN pattern is the one NaN.
 pub fn float_of_word(word: u64) -> f64
     ensures { result ≡ of_bits binary64 word }
 {
-    if INFINITY_BITS < word % SIGN_BIT {
-        return 0.0 / 0.0;
-    }
-    f64::from_bits(word)
+    f64_from_bits_with_nan(word)
 }
 
-// A NaN's own bits are not to be had; it gets one pattern.
+// The NaN has one pattern of its own.
 pub fn word_of_float(float: f64) -> u64
     ensures { result ≡ to_bits binary64 float }
 {
-    if float != float {
-        return NAN_BITS;
-    }
-    f64::to_bits(float)
+    f64_to_bits_with_nan(float)
 }
 
 // Constant i of area 2; outside it, null.
-pub fn constant_at(constants: &[u64], i: usize) -> Decoded
+#[tactic(auto, unfolding(crate::specs::Areas::entry_field))]
+pub fn constant_at(constants: &[u64], i: usize) -> Option<Constant>
     ensures { result ≡ constant_at constants.now i }
 {
     let kind = entry_word(constants, CONSTANT_WORDS, i, CONSTANT_KIND);
@@ -113,86 +125,54 @@ pub fn constant_at(constants: &[u64], i: usize) -> Decoded
 }
 
 // What a kind and a value of the pool are. A value that its kind has not is no constant, nor is another kind.
-fn decode(kind: u64, value: u64) -> Decoded
+#[tactic(auto, unfolding(crate::specs::Constants::decode_of, crate::specs::Constants::numbered_of))]
+fn decode(kind: u64, value: u64) -> Option<Constant>
     ensures { result ≡ decode_of kind value }
 {
-    if kind == NULL {
-        if value == 0 {
-            return Decoded::Is(Constant::Null);
-        }
-        return Decoded::NoConstant;
+    let number = u32::try_from(value).ok();
+    match Kind::try_from(kind) {
+        Ok(Kind::Null) => (value == 0).then_some(Constant::Null),
+        Ok(Kind::Boolean) => match value {
+            0 => Some(Constant::Boolean(false)),
+            1 => Some(Constant::Boolean(true)),
+            _ => None,
+        },
+        Ok(Kind::Integer) => Some(Constant::Integer(integer_of_word(value))),
+        Ok(Kind::Float) => Some(Constant::Float(float_of_word(value))),
+        Ok(Kind::Text) => Some(Constant::Text(number?)),
+        Ok(Kind::Model) => Some(Constant::Model(number?)),
+        Ok(Kind::Function) => Some(Constant::Function(number?)),
+        Err(UnknownNumber(_)) => None,
     }
-    if kind == BOOLEAN {
-        if value == 0 {
-            return Decoded::Is(Constant::Boolean(false));
-        }
-        if value == 1 {
-            return Decoded::Is(Constant::Boolean(true));
-        }
-        return Decoded::NoConstant;
-    }
-    if kind == INTEGER {
-        return Decoded::Is(Constant::Integer(integer_of_word(value)));
-    }
-    if kind == FLOAT {
-        return Decoded::Is(Constant::Float(float_of_word(value)));
-    }
-    if NUMBERS_END <= value {
-        return Decoded::NoConstant;
-    }
-    numbered(kind, value as u32)
-}
-
-// The kinds that hold a number.
-fn numbered(kind: u64, number: u32) -> Decoded
-    ensures { result ≡ numbered_of kind number }
-{
-    if kind == TEXT {
-        return Decoded::Is(Constant::Text(number));
-    }
-    if kind == MODEL {
-        return Decoded::Is(Constant::Model(number));
-    }
-    if kind == FUNCTION {
-        return Decoded::Is(Constant::Function(number));
-    }
-    Decoded::NoConstant
 }
 
 impl Constant {
-    // 01's number of the case.
-    pub fn kind(self) -> u64
-        ensures { result ≡ kind_of self }
+    pub fn kind(self) -> Kind
+        ensures { number_of_kind result ≡ kind_of self }
     {
         match self {
-            Constant::Null => NULL,
-            Constant::Boolean(_) => BOOLEAN,
-            Constant::Integer(_) => INTEGER,
-            Constant::Float(_) => FLOAT,
-            Constant::Text(_) => TEXT,
-            Constant::Model(_) => MODEL,
-            Constant::Function(_) => FUNCTION,
+            Constant::Null => Kind::Null,
+            Constant::Boolean(_) => Kind::Boolean,
+            Constant::Integer(_) => Kind::Integer,
+            Constant::Float(_) => Kind::Float,
+            Constant::Text(_) => Kind::Text,
+            Constant::Model(_) => Kind::Model,
+            Constant::Function(_) => Kind::Function,
         }
     }
 
-    // 01's value of the case.
+    // The word that stands for it beside its kind.
     pub fn value(self) -> u64
         ensures { result ≡ value_of self }
     {
         match self {
             Constant::Null => 0,
-            Constant::Boolean(truth) => word_of_boolean(truth),
+            Constant::Boolean(truth) => u64::from(truth),
             Constant::Integer(integer) => word_of_integer(integer),
             Constant::Float(float) => word_of_float(float),
-            Constant::Text(text) => text as u64,
-            Constant::Model(model) => model as u64,
-            Constant::Function(function) => function as u64,
+            Constant::Text(text) => u64::from(text),
+            Constant::Model(model) => u64::from(model),
+            Constant::Function(function) => u64::from(function),
         }
     }
-}
-
-fn word_of_boolean(truth: bool) -> u64
-    ensures { result ≡ cond truth 1 0 }
-{
-    if truth { 1 } else { 0 }
 }

@@ -41,6 +41,7 @@ pub struct FunctionRecord {
 }
 
 // Function i of area 3; 0 in every word that is not there.
+#[tactic(auto, unfolding(crate::specs::Areas::entry_field))]
 pub fn function_record(functions: &[u64], i: usize) -> FunctionRecord
     ensures { result ≡ function_at functions.now i }
 {
@@ -57,23 +58,21 @@ pub fn function_record(functions: &[u64], i: usize) -> FunctionRecord
 }
 
 // `get_instruction`'s list: the function's code entries, where they stand. A record that does not fit has none.
+#[tactic(auto, unfolding(crate::specs::Program::code_of))]
 pub fn code_of(code: &[u64], f: FunctionRecord) -> &[u64]
     ensures { result.now ≡ code_of code.now f }
 {
     let start = f.start as usize;
     let length = f.length as usize;
     let entries = code.len() / CODE_WORDS;
-    if start <= entries {
-        if length <= entries - start {
-            let a = start * CODE_WORDS;
-            let e = a + length * CODE_WORDS;
-            return &code[a..e];
-        }
+    if start <= entries && length <= entries - start {
+        return &code[start * CODE_WORDS..(start + length) * CODE_WORDS];
     }
-    &code[0..0]
+    &[]
 }
 
 // Instruction i of such a part; outside it, `Unknown` of 0.
+#[tactic(auto, unfolding(crate::specs::Areas::entry_field))]
 pub fn instruction_at(part: &[u64], i: usize) -> Instruction
     ensures { code_word result ≡ read_word (instruction_word part.now i) }
 {
@@ -81,6 +80,7 @@ pub fn instruction_at(part: &[u64], i: usize) -> Instruction
 }
 
 // The position of instruction i; 0 outside.
+#[tactic(auto, unfolding(crate::specs::Areas::entry_field))]
 pub fn position_at(part: &[u64], i: usize) -> u64
     ensures { result ≡ instruction_position part.now i }
 {

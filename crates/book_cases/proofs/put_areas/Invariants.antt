@@ -1,6 +1,6 @@
--- The next area starts within the memory, and its list is none of the numbers' first.
-use Rattle.std.proofs.Common.{◌≤◌, ◌≡◌, length}
+-- The next area starts within the memory.
+use Rattle.std.proofs.Common.{◌≤◌, length}
 use Rattle.book_cases.proofs.put_areas.Given as goal
 
-abbrev pub invariant-loop-area : goal.invariant-loop-area
-invariant-loop-area l = (length l.memory ≡ length l.initial.memory) × (l.start ≤ length l.memory) × (1 ≤ l.list)
+abbrev pub invariant-loop-length : goal.invariant-loop-length
+invariant-loop-length l = l.start ≤ length l.memory

@@ -1,24 +1,13 @@
--- `records_to_columns` meets its contract: rows 2 to 4 by the shape check, then the room. Assumes nothing.
-use Rattle.column_files.proofs.Converting.{columns_short, columns_refused, columns_done}
-use native.Mathlib.Omega.{arith}
+-- `records_to_columns` meets its contract: zeros after what stands. Assumes nothing.
+use Rattle.std.proofs.Common.{◌∙◌, sym, ap}
+use Rattle.column_lines.specs.Form.{line_length}
+use Rattle.column_files.specs.Convert.{reply_of, kept_of}
+use Rattle.column_files.proofs.Converting.{finished}
 use Rattle.column_files.proofs.records_to_columns.Goals as goal
+use Rattle.column_files.proofs.records_to_columns.Goals.{in-Ok, in-Err}
 
-pub returns-then-out-records : goal.returns-then-out-records
-returns-then-out-records c =
-    columns_short c.args.tree.now c.args.out.now c.check-shape.ensures c.if-out-records.true c.clear_bytes.ensures
-    c.short_reply.ensures
-
-pub returns-in-Refused : goal.returns-in-Refused
-returns-in-Refused c =
-    columns_refused c.args.tree.now c.args.out.now c.check-shape.ensures c.in-Refused.is c.clear_bytes-in-Refused.ensures
-
-pub write_records-requires : goal.write_records-requires
-write_records-requires c = record {
-  records_in_bounds = omega (arith, c.if-out-records.false);
-  line_length_in_bounds = omega (arith, c.if-out-records.false);
-}
-
-pub returns-in-Fine : goal.returns-in-Fine
-returns-in-Fine c =
-    columns_done c.args.tree.now c.args.out.now c.check-shape.ensures c.write_records.new.out
-    c.in-Fine.is c.if-out-records.false c.write_records.auto.out c.write_records.ensures c.clear_bytes-in-Fine.ensures
+pub returns : goal.returns
+returns c = elim c.match-written.branch [
+  | in-Ok w ↦ finished line_length _ _ _ c.write_columns-written.ensures (w.kept-is ∙ ap (kept_of line_length) (sym w.in-Ok.is)) c.clear_bytes.ensures (c.from.ensures ∙ ap reply_of (w.written-is ∙ sym w.in-Ok.is))
+  | in-Err w ↦ finished line_length _ _ _ c.write_columns-written.ensures (w.kept-is ∙ ap (kept_of line_length) (sym w.in-Err.is)) c.clear_bytes.ensures (c.from.ensures ∙ ap reply_of w.written-is)
+]

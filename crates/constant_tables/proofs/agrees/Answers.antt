@@ -1,38 +1,26 @@
 -- `agrees` meets its contract, by the record's place. Assumes nothing.
-use Rattle.constant_tables.proofs.Converting.{agrees_document, agrees_behind, agrees_no_head, agrees_head, agrees_name, agrees_integer, agrees_float}
-use mathlib.Core.Path.{ap}
-use mathlib.Core.Bool.{not}
+use Rattle.constant_tables.proofs.Converting.{agrees_no_head, agrees_head, agrees_name, agrees_integer, agrees_float}
+use Rattle.std.proofs.Common.{arith}
 use Rattle.constant_tables.proofs.agrees.Goals as goal
-
-pub returns-then-i-eq0 : goal.returns-then-i-eq0
-returns-then-i-eq0 c = agrees_document c.args.tree.now c.args.i c.field-span.ensures c.if-i-eq0.true
-
-pub returns-then-i-span : goal.returns-then-i-span
-returns-then-i-span c = agrees_behind c.args.tree.now c.args.i
-    c.field-span.ensures c.if-i-eq0.false c.if-i-span.true
-
-pub returns-then-not-is_head : goal.returns-then-not-is_head
-returns-then-not-is_head c =
-    agrees_no_head c.args.tree.now c.args.i c.field-span.ensures c.if-i-eq0.false
-    c.if-i-span.false c.if-part-eq0.true c.is_head.ensures (ap not c.if-not-is_head.true)
-
-pub returns-then-part-eq0 : goal.returns-then-part-eq0
-returns-then-part-eq0 c =
-    agrees_head c.args.tree.now c.args.i c.field-span.ensures c.if-i-eq0.false c.if-i-span.false
-    c.if-part-eq0.true c.is_head.ensures (ap not c.if-not-is_head.false) c.field.ensures
-
-pub returns-then-part-eq1 : goal.returns-then-part-eq1
-returns-then-part-eq1 c =
-    agrees_name c.args.tree.now c.args.i c.field-span.ensures c.if-i-eq0.false c.if-i-span.false
-    c.if-part-eq1.true c.is_head-then-part-eq1.ensures
 
 pub returns-then-is_head : goal.returns-then-is_head
 returns-then-is_head c =
-    agrees_integer c.args.tree.now c.args.i c.field-span.ensures c.if-i-eq0.false c.if-i-span.false
-    c.if-part-eq0.false c.if-part-eq1.false c.is_head-2.ensures c.if-is_head.true
+    agrees_head c.args.tree.now c.args.i c.field-span.ensures c.if-i-eq0.false c.if-i-span.false c.in-0.is c.is_head.ensures c.if-is_head.true c.field.ensures
 
-pub returns : goal.returns
-returns c =
-    agrees_float c.args.tree.now c.args.i c.field-span.ensures c.if-i-eq0.false c.if-i-span.false c.if-part-eq0.false
-    c.if-part-eq1.false c.is_head-2.ensures c.if-is_head.false
-    c.is_head-3.ensures
+pub returns-else-is_head : goal.returns-else-is_head
+returns-else-is_head c =
+    agrees_no_head c.args.tree.now c.args.i c.field-span.ensures c.if-i-eq0.false c.if-i-span.false c.in-0.is c.is_head.ensures c.if-is_head.false
+
+pub returns-in-1 : goal.returns-in-1
+returns-in-1 c =
+    agrees_name c.args.tree.now c.args.i c.field-span.ensures c.if-i-eq0.false c.if-i-span.false c.in-1.is c.is_head-in-1.ensures
+
+pub returns-then-is_head-2 : goal.returns-then-is_head-2
+returns-then-is_head-2 c =
+    agrees_integer c.args.tree.now c.args.i c.field-span.ensures c.if-i-eq0.false c.if-i-span.false (omega arith)
+    c.is_head-in_default.ensures c.if-is_head-2.true
+
+pub returns-else-is_head-2 : goal.returns-else-is_head-2
+returns-else-is_head-2 c =
+    agrees_float c.args.tree.now c.args.i c.field-span.ensures c.if-i-eq0.false c.if-i-span.false (omega arith)
+    c.is_head-in_default.ensures c.if-is_head-2.false c.is_head-else-is_head-2.ensures

@@ -1,13 +1,8 @@
 -- `write_constant` meets its contract. Assumes nothing.
-use Rattle.constant_tables.proofs.Converting.{constant_put, part_length}
+use Rattle.constant_tables.proofs.Converting.{constant_put}
 use Rattle.constant_tables.proofs.write_constant.Goals as goal
-
-pub write_entry-requires : goal.write_entry-requires
-write_entry-requires c =
-    part_length c.args.out.now c.args.i c.requires
 
 pub returns : goal.returns
 returns c =
-    constant_put c.args.tree.now c.args.out.now c.args.i c.requires c.field-text.ensures c.field-of.ensures c.field-value.ensures
-    c.table_kind-kind.ensures
-    c.write_entry.ensures
+    let h = c.table_kind.ensures in let k = c.field.ensures in
+    constant_put c.args.tree.now c.args.out.now c.args.i c.requires c.field.ensures c.field-2.ensures c.field-3.ensures c.table_kind.ensures c.write_entry.ensures

@@ -1,13 +1,14 @@
--- `errors_in_words` meets its contract: an unknown error, or the lines. Assumes nothing.
+-- `errors_in_words` meets its contract, with an unknown error or none. Assumes nothing.
+use borrow.Author.Rules.{rules}
 use Rattle.error_lines.proofs.Whole.{answer_unknown, answer_lines}
 use Rattle.error_lines.proofs.errors_in_words.Goals as goal
 
-pub returns-in-At : goal.returns-in-At
-returns-in-At c =
-    answer_unknown c.args.errors.now c.args.table.now c.args.bytes.now c.args.file c.args.out.now c.first_unknown-unknown.ensures
-    c.in-At.is c.clear_bytes.ensures
+pub returns-in-Some : goal.returns-in-Some
+returns-in-Some c =
+    answer_unknown c.args.errors.now c.args.table.now c.args.bytes.now c.args.file c.first_unknown.ensures c.args.out.now c.in-Some.is
+    c.clear_bytes.ensures
 
-pub returns-in-Nothing : goal.returns-in-Nothing
-returns-in-Nothing c =
-    answer_lines c.args.errors.now c.args.table.now c.args.bytes.now c.args.file c.args.out.now c.first_unknown-unknown.ensures
-    c.in-Nothing.is c.put_lines-end.ensures c.finish.ensures
+pub returns : goal.returns
+returns c =
+    answer_lines c.args.errors.now c.args.table.now c.args.bytes.now c.args.file c.first_unknown.ensures _ c.put_lines.new.self _
+    c.finish.new.self.0 (search rules) c.put_lines.ensures c.finish.ensures (λ n. search rules)

@@ -1,19 +1,18 @@
 -- `write` meets its contract: a delivery or a refusal, then the end. Assumes nothing.
-use Rattle.listings.specs.Listing.{areas}
-use Rattle.listings.proofs.Whole.{listing_delivered, listing_refused}
-use native.Mathlib.Omega.{arith}
+use mathlib.Core.Path.{◌∙◌}
+use Rattle.line_writer.specs.Placed.{placed}
+use Rattle.listings.specs.Listing.{areas_of}
+use Rattle.listings.proofs.Whole.{listing_delivered, listing_refused, placed_long}
 use Rattle.listings.proofs.write.Goals as goal
-
-pub returns-then-reply-eq0 : goal.returns-then-reply-eq0
-returns-then-reply-eq0 c =
-    listing_delivered c.args.reply (areas c.args.code.now c.args.constants.now c.args.functions.now c.args.models.now
-    c.args.properties.now c.args.methods.now c.args.locals.now c.args.books.now) c.args.errors.now c.args.out.now _
-    c.finish.ensures
-    (omega (arith, c.write_delivery-place.auto.out)) c.if-reply-eq0.true c.write_delivery-place.ensures
+use Rattle.listings.proofs.write.Goals.{then-reply-eq0, else-reply-eq0}
 
 pub returns : goal.returns
 returns c =
-    listing_refused c.args.reply (areas c.args.code.now c.args.constants.now c.args.functions.now c.args.models.now
-    c.args.properties.now c.args.methods.now c.args.locals.now c.args.books.now) c.args.errors.now c.args.out.now _
-    c.finish-2.ensures
-    (omega (arith, c.write_refusal-place.auto.out)) c.if-reply-eq0.false c.write_refusal-place.ensures
+    elim c.if-reply-eq0.branch [
+      | then-reply-eq0 w ↦ listing_delivered c.args.reply (areas_of c.args.lent) c.args.lent.errors.now c.args.out.now
+          (placed c.if-reply-eq0.place c.if-reply-eq0.out) c.finish.ensures (placed_long _ _ ∙ c.if-reply-eq0.auto.out)
+          w.if-reply-eq0.true (rw (w.place-is, w.out-is) w.write_delivery-place.ensures)
+      | else-reply-eq0 w ↦ listing_refused c.args.reply (areas_of c.args.lent) c.args.lent.errors.now c.args.out.now
+          (placed c.if-reply-eq0.place c.if-reply-eq0.out) c.finish.ensures (placed_long _ _ ∙ c.if-reply-eq0.auto.out)
+          w.if-reply-eq0.false (rw (w.place-is, w.out-is) w.write_refusal-place.ensures)
+    ]

@@ -1,16 +1,31 @@
--- `check_program` meets its contract: it lends the areas of its memory. Assumes nothing.
-use Rattle.memory.specs.Layout.{part}
-use Rattle.program_check.proofs.OneMemory.{by_parts}
-use borrow.Author.Rules.{rules}
+-- `check_program` meets its contract: the first area that fails, then the count of bundles. Assumes nothing.
+use Rattle.std.proofs.Common.{ap, ◌∙◌, Err, rules}
+use mathlib.Core.Logic.{inl, inr}
+use Rattle.program_check.proofs.OneMemory.{area_passed, area_stops, count_small, count_great, count_fine}
 use Rattle.program_check.proofs.check_program.Goals as goal
 
+pub returns-then-not-area_passes : goal.returns-then-not-area_passes
+returns-then-not-area_passes c =
+    ap Err c.at.ensures
+    ∙ area_stops c.args.lengths c.args.memory.now (search (rules, c.well_formed.1.0)) c.starts_of-starts.ensures c.args.totals c.loop-area.area-index
+    c.loop-area-test.true c.loop-area.invariant c.area_passes.ensures c.if-not-area_passes.true
+
+pub loop-area-preserved : goal.loop-area-preserved
+loop-area-preserved c =
+    area_passed c.args.lengths c.args.memory.now (search (rules, c.well_formed.1.0)) c.starts_of-starts.ensures c.args.totals c.loop-area.area-index
+    c.loop-area-test.true c.loop-area.invariant c.area_passes.ensures c.if-not-area_passes.false
+
+pub returns-then-totals-lt1 : goal.returns-then-totals-lt1
+returns-then-totals-lt1 c =
+    ap Err c.at-then-totals-lt1.ensures
+    ∙ elim c.then-totals-lt1.either [
+      | inl few ↦ count_small c.args.lengths c.args.memory.now (search (rules, c.well_formed.1.0)) c.starts_of-starts.ensures c.args.totals
+          c.loop-area.area-index c.loop-area-test.false c.loop-area.invariant few
+      | inr many ↦ count_great c.args.lengths c.args.memory.now (search (rules, c.well_formed.1.0)) c.starts_of-starts.ensures c.args.totals
+          c.loop-area.area-index c.loop-area-test.false c.loop-area.invariant many.1
+    ]
+
 pub returns : goal.returns
-unfolding part
 returns c =
-    by_parts c.args.lengths c.args.memory.now (search (rules, c.well_formed.1.0)) c.starts_of-starts.ensures c.args.totals
-    c.count_too.ensures
-    c.check-areas_fine.ensures
-    c.part_of-code.ensures c.part_of-constants.ensures c.part_of-functions.ensures c.part_of-models.ensures c.part_of-properties.ensures
-    c.part_of-methods.ensures
-    c.part_of-locals.ensures c.part_of-publics.ensures c.part_of-names.ensures c.part_of-breaks.ensures
-    c.part_of-errors.ensures c.part_of-books.ensures
+    count_fine c.args.lengths c.args.memory.now (search (rules, c.well_formed.1.0)) c.starts_of-starts.ensures c.args.totals c.loop-area.area-index
+    c.loop-area-test.false c.loop-area.invariant c.if-totals-lt1.false c.if-totals-gt-MOST_BUNDLES.false

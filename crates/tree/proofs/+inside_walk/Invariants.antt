@@ -7,14 +7,15 @@ use Rattle.tree.specs.Children.{blamed}
 use Rattle.tree.proofs.+inside_walk.Given as goal
 
 abbrev pub decreases-walk : goal.decreases-walk
-decreases-walk l = 2 * (l.end - l.at) + 1
+decreases-walk g l = 2 * (l.end - l.at) + 1
 
 abbrev pub decreases-inside : goal.decreases-inside
-decreases-inside l = 2 * (l.end - l.at)
+decreases-inside g l = 2 * (l.end - l.at)
 
 abbrev pub invariant-walk-loop-i : goal.invariant-walk-loop-i
-invariant-walk-loop-i l = (l.at ≤ l.i) × (blamed l.tree l.slot l.parent l.at l.end
-    (walk_of l.tree l.slot l.level l.this l.at l.end) ≡ blamed l.tree l.s l.parent l.i l.end (walk_of l.tree l.s l.level l.t l.i l.end))
+invariant-walk-loop-i g l = (l.at ≤ l.i) × (blamed (g.R.Records.words l.records) l.slot l.parent l.at l.end
+    (walk_of (g.R.Records.words l.records) l.slot l.level l.this l.at l.end)
+    ≡ blamed (g.R.Records.words l.records) l.s l.parent l.i l.end (walk_of (g.R.Records.words l.records) l.s l.level l.t l.i l.end))
 
 abbrev pub decreases-walk-loop-i : goal.decreases-walk-loop-i
-decreases-walk-loop-i l = l.end - l.i
+decreases-walk-loop-i g l = l.end - l.i

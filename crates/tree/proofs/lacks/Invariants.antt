@@ -6,7 +6,7 @@ use Rattle.tree.specs.Check.{lacks_of}
 use Rattle.tree.proofs.lacks.Given as goal
 
 abbrev pub invariant-loop-j : goal.invariant-loop-j
-invariant-loop-j l = lacks_of l.tree l.slot l.at l.end ≡ lacks_of l.tree l.s l.j l.end
+invariant-loop-j g l = lacks_of (g.R.Records.words l.records) l.slot l.at l.end ≡ lacks_of (g.R.Records.words l.records) l.s l.j l.end
 
 abbrev pub decreases-loop-j : goal.decreases-loop-j
-decreases-loop-j l = l.end - l.j
+decreases-loop-j g l = l.end - l.j

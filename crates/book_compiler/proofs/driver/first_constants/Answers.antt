@@ -5,4 +5,4 @@ use Rattle.book_compiler.proofs.driver.first_constants.Goals as goal
 
 pub returns : goal.returns
 returns c =
-    first_constants (took_plain c.take3-a.ensures) (took_plain c.take3-b.ensures) (took_plain c.take3.ensures)
+    first_constants (took_plain c.take.ensures) (took_plain c.take-2.ensures) (took_plain c.take-3.ensures)

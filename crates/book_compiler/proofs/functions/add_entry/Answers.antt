@@ -8,11 +8,11 @@ use Rattle.book_compiler.proofs.functions.add_entry.Goals as goal
 pub returns : goal.returns
 returns c = (
   (
-    add_meets c.args.name c.resumed-b.ensures c.add_function-t.ensures,
-    function_spares c.resumed-b.ensures c.add_function-t.ensures refl,
+    add_meets c.args.name c.resume.ensures c.add_function.ensures,
+    function_spares c.resume.ensures c.add_function.ensures refl,
   ),
   (
-    ap (λ (b : Book). b.constants) c.resumed-b.ensures,
-    ap (λ (b : Book). b.standing_methods) c.resumed-b.ensures,
+    ap (λ (b : Book). b.constants) c.resume.ensures,
+    ap (λ (b : Book). b.standing_methods) c.resume.ensures,
   ),
 )

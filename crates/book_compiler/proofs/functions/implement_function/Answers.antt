@@ -4,4 +4,4 @@ use Rattle.book_compiler.proofs.functions.implement_function.Goals as goal
 
 pub returns : goal.returns
 returns c =
-    function_implemented c.make-s.ensures c.field-name.ensures c.add_function.ensures
+    function_implemented c.make-state.ensures c.field-name.ensures c.add_function.ensures

@@ -1,30 +1,18 @@
 -- `book_compiler::functions::parameter` meets its contract: with the mark set, a new name, and one that is there. Assumes nothing.
-use Rattle.std.proofs.Common.{◌∙◌}
-use Rattle.compiler_laws.proofs.StateWords.{stored}
-use Rattle.book_compiler.proofs.Parameters.{parameter_full, parameter_new, parameter_there}
+use Rattle.std.proofs.Common.{sym, ◌∙◌}
+use Rattle.book_compiler.proofs.Parameters.{some_is, none_is, parameter_full, parameter_new, parameter_there}
 use Rattle.book_compiler.proofs.functions.parameter.Goals as goal
 
 pub returns-then-state-ne0 : goal.returns-then-state-ne0
-returns-then-state-ne0 c = parameter_full (rw c.load-state.ensures at c.if-state-ne0.true)
+returns-then-state-ne0 c = parameter_full c.if-state-ne0.true
 
-pub shape_of-memory-in-At : goal.shape_of-memory-in-At
-shape_of-memory-in-At c = c.define_local-found.auto.memory
-
-pub returns-in-At : goal.returns-in-At
-returns-in-At c =
-    parameter_new (rw c.load-state.ensures at c.if-state-ne0.false) c.field-kind.ensures c.field-name.ensures (rw c.load-state.ensures at
-    c.instance_by-instance.ensures)
-    (stored c.with_parameters-flagged.result c.store.ensures ∙ (rw c.load-state.ensures at c.with_parameters-flagged.ensures))
-    c.define_local-found.ensures c.in-At.is
-
-pub shape_of-memory : goal.shape_of-memory
-shape_of-memory c =
-    c.push_error.auto.memory ∙ c.define_local-found.auto.memory
+pub returns-then-is_some : goal.returns-then-is_some
+returns-then-is_some c =
+    let new = some_is _ (sym c.is_some.ensures ∙ c.if-is_some.true) in
+    parameter_new c.if-state-ne0.false c.field-kind.ensures c.field-name.ensures c.instance_by-instance.ensures c.set_parameters.ensures
+    c.define_local.ensures new.1
 
 pub returns : goal.returns
 returns c =
-    parameter_there (rw c.load-state.ensures at c.if-state-ne0.false) c.field-kind.ensures c.field-name.ensures (rw c.load-state.ensures at
-    c.instance_by-instance.ensures)
-    (stored c.with_parameters-flagged.result c.store.ensures ∙ (rw c.load-state.ensures at c.with_parameters-flagged.ensures)) c.define_local-found.ensures
-    c.in_default.is
-    c.field-position.ensures c.push_error.ensures
+    parameter_there c.if-state-ne0.false c.field-kind.ensures c.field-name.ensures c.instance_by-instance.ensures c.set_parameters.ensures
+    c.define_local.ensures (none_is _ (sym c.is_some.ensures ∙ c.if-is_some.false)) c.field-position.ensures c.push_error.ensures

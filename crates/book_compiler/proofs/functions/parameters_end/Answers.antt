@@ -8,11 +8,11 @@ loop-i-init c = λ r h. h
 
 pub loop-i-preserved : goal.loop-i-preserved
 loop-i-preserved c = λ r h. c.loop-i.invariant r (ends_later c.loop-i-test.true
-    c.field-kind.ensures (sym c.is_parameter.ensures ∙ c.if-is_parameter.true) h)
+    c.field.ensures (sym c.is_parameter.ensures ∙ c.if-is_parameter.true) h)
 
 pub returns-else-is_parameter : goal.returns-else-is_parameter
-returns-else-is_parameter c = c.loop-i.invariant _ (ends_here c.field-kind.ensures (sym
+returns-else-is_parameter c = c.loop-i.invariant _ (ends_here c.field.ensures (sym
     c.is_parameter.ensures ∙ c.if-is_parameter.false))
 
-pub returns : goal.returns
-returns c = c.loop-i.invariant _ (ends_past c.loop-i-test.false)
+pub returns-after-loop-i : goal.returns-after-loop-i
+returns-after-loop-i c = c.loop-i.invariant _ (ends_past c.loop-i-test.false)

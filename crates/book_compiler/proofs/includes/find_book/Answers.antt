@@ -1,12 +1,9 @@
 -- `book_compiler::includes::find_book` meets its contract. The invariant: what is found from the first on is what is found from here on. Assumes nothing.
 use Rattle.std.proofs.Common.{sym, ◌∙◌, eq-eqb, ne_eqb}
 use Rattle.words.specs.Areas.{entry_field}
-use Rattle.building.proofs.OldestFirst.{first_start, first_here, first_next, first_end}
+use Rattle.words.proofs.Firsts.{first_here, first_next, first_end}
 use Rattle.compiler_laws.specs.IncludeSteps.{is_book}
 use Rattle.book_compiler.proofs.includes.find_book.Goals as goal
-
-pub loop-i-init : goal.loop-i-init
-loop-i-init c = first_start (is_book c.args.file c.args.books.now) c.args.many
 
 pub returns-then-entry_word-file : goal.returns-then-entry_word-file
 returns-then-entry_word-file c =

@@ -6,6 +6,3 @@ use Rattle.book_compiler.proofs.includes.find_book.Given as goal
 
 abbrev pub invariant-loop-i : goal.invariant-loop-i
 invariant-loop-i l = first_from (is_book l.file l.books) (l.many - l.i) l.i ≡ first_from (is_book l.file l.books) l.many 0
-
-abbrev pub decreases-loop-i : goal.decreases-loop-i
-decreases-loop-i l = l.many - l.i

@@ -4,4 +4,4 @@ use Rattle.book_compiler.proofs.locals.add_value.Goals as goal
 
 pub returns : goal.returns
 returns c =
-    adds_value c.args.kind c.args.value c.add_constant-a.ensures c.set_value.ensures
+    adds_value c.args.kind c.args.value c.add_constant-place.ensures c.set_value.ensures

@@ -2,22 +2,22 @@
 use Rattle.book_compiler.proofs.LocalDefinitions.{binds_full, binds_absent, binds_again, binds_value}
 use Rattle.book_compiler.proofs.locals.compile_binding.Goals as goal
 
-pub returns-then-b-ne0 : goal.returns-then-b-ne0
-returns-then-b-ne0 c =
-    binds_full c.args.tree.now c.args.at c.args.next c.field-name.ensures c.define_local-d.ensures c.if-b-ne0.true
+pub returns-then-book-ne0 : goal.returns-then-book-ne0
+returns-then-book-ne0 c =
+    binds_full c.args.tree.now c.args.at c.args.next c.field-name.ensures c.define_local-found.ensures c.if-book-ne0.true
 
 pub returns-then-kind-eq-ABSENT : goal.returns-then-kind-eq-ABSENT
 returns-then-kind-eq-ABSENT c =
-    binds_absent c.args.tree.now c.args.at c.args.next c.field-name.ensures c.define_local-d.ensures c.field-kind.ensures
+    binds_absent c.args.tree.now c.args.at c.args.next c.field-name.ensures c.define_local-found.ensures c.field-kind.ensures
     c.if-kind-eq-ABSENT.true
 
-pub returns-in-At : goal.returns-in-At
-returns-in-At c =
-    binds_value c.args.tree.now c.args.at c.args.next c.field-name.ensures c.define_local-d.ensures c.if-b-ne0.false
-    c.field-kind.ensures c.if-kind-eq-ABSENT.false c.in-At.is
+pub returns-in-Some : goal.returns-in-Some
+returns-in-Some c =
+    binds_value c.args.tree.now c.args.at c.args.next c.field-name.ensures c.define_local-found.ensures c.if-book-ne0.false
+    c.field-kind.ensures c.if-kind-eq-ABSENT.false c.in-Some.is
     c.give_value.ensures
 
-pub returns : goal.returns
-returns c =
-    binds_again c.args.tree.now c.args.at c.args.next c.field-name.ensures c.define_local-d.ensures
-    c.if-b-ne0.false c.in_default.is
+pub returns-in_default : goal.returns-in_default
+returns-in_default c =
+    binds_again c.args.tree.now c.args.at c.args.next c.field-name.ensures c.define_local-found.ensures
+    c.if-book-ne0.false c.in_default.is

@@ -11,8 +11,8 @@ returns-then-book-ne0 c = ((define_full c.args.name c.if-book-ne0.true, spares_r
 pub returns : goal.returns
 returns c = (
   (
-    define_seeks c.args.name c.if-book-ne0.false c.define_context_local-l.ensures,
-    local_spares c.args.book c.args.name c.define_context_local-l.ensures,
+    define_seeks c.args.name c.if-book-ne0.false c.define_context_local.ensures,
+    local_spares c.args.book.now c.args.name c.define_context_local.ensures,
   ),
   record { constants = refl; standing = refl },
 )

@@ -6,10 +6,10 @@ use Rattle.book_compiler.proofs.locals.set_entry.Goals as goal
 pub returns-then-book-ne0 : goal.returns-then-book-ne0
 returns-then-book-ne0 c = (value_full c.if-book-ne0.true, value_spares_none)
 
-pub returns-in-At : goal.returns-in-At
-returns-in-At c = (
-  value_at_lem c.if-book-ne0.false _ c.in-At.is c.set_value.ensures,
-  value_spares c.args.constant c.if-book-ne0.false _ c.in-At.is c.set_value.ensures,
+pub returns-in-Some : goal.returns-in-Some
+returns-in-Some c = (
+  value_at_lem c.if-book-ne0.false _ c.in-Some.is c.set_value.ensures,
+  value_spares c.args.constant c.if-book-ne0.false _ c.in-Some.is c.set_value.ensures,
 )
 
 pub returns : goal.returns

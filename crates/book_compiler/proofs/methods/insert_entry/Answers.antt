@@ -6,12 +6,12 @@ pub returns-then-book-ne0 : goal.returns-then-book-ne0
 returns-then-book-ne0 c = inserts_full c.args.model c.args.name c.args.function
     c.if-book-ne0.true
 
-pub returns-in-At : goal.returns-in-At
-returns-in-At c =
-    inserts_there c.args.model c.args.name c.args.function c.if-book-ne0.false c.find_method-found.ensures c.in-At.is
+pub returns-in-Some : goal.returns-in-Some
+returns-in-Some c =
+    inserts_there c.args.model c.args.name c.args.function c.if-book-ne0.false c.find_method-found.ensures c.in-Some.is
     c.set_function.ensures
 
 pub returns : goal.returns
 returns c =
     inserts_new c.args.model c.args.name c.args.function c.if-book-ne0.false c.find_method-found.ensures
-    c.in_default.is c.take3-t.ensures
+    c.in_default.is c.take.ensures

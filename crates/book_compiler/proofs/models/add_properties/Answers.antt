@@ -4,22 +4,16 @@ use Rattle.std.proofs.Common.{refl, arith}
 use Rattle.book_compiler.proofs.ModelDefinitions.{properties_end, properties_more, properties_done}
 use Rattle.book_compiler.proofs.models.add_properties.Goals as goal
 
-pub loop-i-init : goal.loop-i-init
-loop-i-init c = (refl, λ m h. h)
-
 pub loop-i-preserved : goal.loop-i-preserved
 loop-i-preserved c = (
-  omega (arith, c.loop-i.invariant.0, c.add_property-b.auto.memory),
+  omega (arith, c.loop-i.invariant.0, c.add_property.auto.memory),
   λ m h. c.loop-i.invariant.1 m
-      (properties_more c.args.tree.now c.args.end c.args.book.properties c.loop-i.i c.loop-i-test.true
-      c.add_property-b.ensures h),
+      (properties_more c.args.tree.now c.args.end c.args.book.now.properties c.loop-i.i c.loop-i-test.true
+      c.add_property.ensures h),
 )
-
-pub shape_of-memory : goal.shape_of-memory
-shape_of-memory c = c.loop-i.invariant.0
 
 pub returns : goal.returns
 returns c = properties_done c.args.tree.now c.args.end
-    c.args.book.properties c.args.at refl (c.loop-i.invariant.1 _
+    c.args.book.now.properties c.args.at refl (c.loop-i.invariant.1 _
     (properties_end c.args.tree.now c.args.end
-    c.args.book.properties c.loop-i.i c.loop-i-test.false))
+    c.args.book.now.properties c.loop-i.i c.loop-i-test.false))

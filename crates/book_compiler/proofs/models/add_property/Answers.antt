@@ -5,9 +5,9 @@ use Rattle.book_compiler.proofs.models.add_property.Goals as goal
 pub returns-then-book-ne0 : goal.returns-then-book-ne0
 returns-then-book-ne0 c = property_marked c.if-book-ne0.true
 
-pub returns-in-At : goal.returns-in-At
-returns-in-At c =
-    property_again c.if-book-ne0.false c.field-name.ensures c.find_property-found.ensures c.in-At.is
+pub returns-in-Some : goal.returns-in-Some
+returns-in-Some c =
+    property_again c.if-book-ne0.false c.field-name.ensures c.find_property-found.ensures c.in-Some.is
     c.push_error.ensures
 
 pub returns : goal.returns

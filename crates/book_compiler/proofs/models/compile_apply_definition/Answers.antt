@@ -9,15 +9,15 @@ returns-then-end-at c = apply_short (omega (arith, c.if-end-at.true))
 pub returns-then-end-at-lt3 : goal.returns-then-end-at-lt3
 returns-then-end-at-lt3 c = apply_short (omega (arith, c.if-end-at.false, c.if-end-at-lt3.true))
 
-pub returns-in-At-to : goal.returns-in-At-to
-returns-in-At-to c =
-    apply_copies c.find_model_index_by_local_name-s.ensures c.find_model_index_by_local_name-t.ensures c.in-At.is c.in-At-to.is
+pub returns-in-Some-to : goal.returns-in-Some-to
+returns-in-Some-to c =
+    apply_copies c.find_model_index_by_local_name-from.ensures c.find_model_index_by_local_name-to.ensures c.in-Some.is c.in-Some-to.is
     c.copy_methods.ensures
 
-pub returns-in-At : goal.returns-in-At
-returns-in-At c =
-    apply_nowhere c.find_model_index_by_local_name-s.ensures c.find_model_index_by_local_name-t.ensures c.in_default-to.is
+pub returns-in_default-to : goal.returns-in_default-to
+returns-in_default-to c =
+    apply_nowhere c.find_model_index_by_local_name-from.ensures c.find_model_index_by_local_name-to.ensures c.in_default-to.is
 
-pub returns : goal.returns
-returns c =
-    apply_nothing c.find_model_index_by_local_name-s.ensures c.find_model_index_by_local_name-t.ensures c.in_default.is
+pub returns-in_default : goal.returns-in_default
+returns-in_default c =
+    apply_nothing c.find_model_index_by_local_name-from.ensures c.find_model_index_by_local_name-to.ensures c.in_default.is

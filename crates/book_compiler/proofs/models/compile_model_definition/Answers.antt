@@ -7,4 +7,4 @@ returns-then-end-at c = model_short c.if-end-at.true
 
 pub returns : goal.returns
 returns c =
-    model_defined c.add_properties-b.ensures c.field-name.ensures c.place_model.ensures
+    model_defined c.add_properties.ensures c.field-name.ensures c.place_model.ensures

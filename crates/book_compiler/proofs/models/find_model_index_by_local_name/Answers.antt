@@ -6,18 +6,18 @@ use Rattle.book_compiler.proofs.models.find_model_index_by_local_name.Goals as g
 pub returns-then-book-ne0 : goal.returns-then-book-ne0
 returns-then-book-ne0 c = find_full c.if-book-ne0.true
 
-pub returns-in-At-model : goal.returns-in-At-model
-returns-in-At-model c =
-    find_there c.if-book-ne0.false c.field-name.ensures c.find_context_local-local.ensures c.in-At.is c.find_local_model-model.ensures
-    c.in-At-model.is
+pub returns-in-Some-model : goal.returns-in-Some-model
+returns-in-Some-model c =
+    find_there c.if-book-ne0.false c.field-name.ensures c.find_context_local-local.ensures c.in-Some.is c.find_local_model-model.ensures
+    c.in-Some-model.is
 
-pub returns-in-At : goal.returns-in-At
-returns-in-At c =
-    find_other c.if-book-ne0.false c.field-name.ensures c.find_context_local-local.ensures c.in-At.is c.find_local_model-model.ensures
+pub returns-in-Some : goal.returns-in-Some
+returns-in-Some c =
+    find_other c.if-book-ne0.false c.field-name.ensures c.find_context_local-local.ensures c.in-Some.is c.find_local_model-model.ensures
     c.in_default-model.is
-    c.push_error-b.ensures
+    c.push_error.ensures
 
 pub returns : goal.returns
 returns c =
     find_lost c.if-book-ne0.false c.field-name.ensures c.find_context_local-local.ensures c.in_default.is
-    c.push_error-b-2.ensures
+    c.push_error-2.ensures

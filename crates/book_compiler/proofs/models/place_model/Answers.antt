@@ -7,4 +7,4 @@ returns-then-book-ne0 c = place_full c.if-book-ne0.true
 
 pub returns : goal.returns
 returns c =
-    place_model_lem c.if-book-ne0.false c.take_model-b.ensures c.add_constant-a.ensures c.define_local-d.ensures c.set_value.ensures
+    place_model_lem c.if-book-ne0.false c.take_model.ensures c.add_constant-place.ensures c.define_local-found.ensures c.set_value.ensures

@@ -7,11 +7,11 @@ use Rattle.book_compiler.proofs.models.publish_entry.Goals as goal
 pub returns-then-book-ne0 : goal.returns-then-book-ne0
 returns-then-book-ne0 c = ((publish_full c.if-book-ne0.true, publics_stay), record { constants = refl; standing = refl })
 
-pub returns-in-At : goal.returns-in-At
-returns-in-At c = (
+pub returns-in-Some : goal.returns-in-Some
+returns-in-Some c = (
   (
-    publish_there c.if-book-ne0.false c.find_pair-found.ensures c.in-At.is c.write_word.ensures,
-    public_replaced c.args.name c.if-book-ne0.false c.find_pair-found.ensures c.in-At.is
+    publish_there c.if-book-ne0.false c.find_pair-found.ensures c.in-Some.is c.write_word.ensures,
+    public_replaced c.args.name c.if-book-ne0.false c.find_pair-found.ensures c.in-Some.is
         c.write_word.ensures,
   ),
   record { constants = refl; standing = refl },
@@ -20,8 +20,8 @@ returns-in-At c = (
 pub returns : goal.returns
 returns c = (
   (
-    publish_new c.if-book-ne0.false c.find_pair-found.ensures c.in_default.is c.take3-t.ensures,
-    public_more c.take3-t.ensures,
+    publish_new c.if-book-ne0.false c.find_pair-found.ensures c.in_default.is c.take.ensures,
+    public_more c.take.ensures,
   ),
   record { constants = refl; standing = refl },
 )

@@ -1,39 +1,48 @@
--- `book_compiler::expressions::finish_expression` meets its contract: a way for each kind, and for each value of a prefix. Assumes nothing.
-use Rattle.std.proofs.Common.{ℕ, ap, ◌∙◌}
+-- `book_compiler::operations::finish_expression` meets its contract: a way for each kind, and for each value of a prefix. Assumes nothing.
+use Rattle.std.proofs.Common.{◌≡◌, ℕ, ap, sym, refl, ◌∙◌, arith}
 use Rattle.words.specs.Opcode.{to_instruction, word, CallOp}
+use Rattle.words.specs.Kinds.{number_of_prefix}
+use Rattle.words.specs.declared.record.RecordKind.TheVariants as records
+use Rattle.words.specs.declared.record.PrefixOperator.{PrefixOperator}
+use Rattle.words.specs.declared.record.PrefixOperator.TheVariants as prefixes
+use Rattle.book_compiler.proofs.ReadCases.{is_record, prefix_or, no_prefix}
 use Rattle.book_compiler.proofs.Leaves as t
 use Rattle.book_compiler.proofs.operations.finish_expression.Goals as goal
 
-pub returns-then-kind-eq-ARRAY : goal.returns-then-kind-eq-ARRAY
-returns-then-kind-eq-ARRAY c =
-    t.finish_array c.if-kind-eq-ARRAY.true c.to_instruction-instruction.ensures c.emit.ensures
+pub returns-in_default : goal.returns-in_default
+returns-in_default c =
+    let none = c.in_default.ensures.1 in
+    t.finish_none (λ q. none records.Array (sym q)) (λ q. none records.Prefix (sym q)) (λ q. none records.Call (sym q))
+    (λ q. none records.InstanceGet (sym q)) (λ q. none records.IndexGet (sym q))
 
-pub returns-then-kind-eq-CALL : goal.returns-then-kind-eq-CALL
-returns-then-kind-eq-CALL c =
-    t.finish_call c.if-kind-eq-CALL.true (c.to_instruction-instruction-then-kind-eq-CALL.ensures ∙ ap (λ (i : ℕ). word (to_instruction CallOp i))
-    c.less_one-parameters.ensures)
-    c.emit-then-kind-eq-CALL.ensures
+pub returns-in-Array : goal.returns-in-Array
+returns-in-Array c = t.finish_array (is_record c.in-Ok.ensures c.in-Array.is) c.to_instruction-instruction.ensures c.emit.ensures
 
-pub returns-then-kind-eq-INSTANCE_GET : goal.returns-then-kind-eq-INSTANCE_GET
-returns-then-kind-eq-INSTANCE_GET c =
-    t.finish_instance c.if-kind-eq-INSTANCE_GET.true c.emit_opcode.ensures
+pub returns-in-Call : goal.returns-in-Call
+returns-in-Call c =
+    t.finish_call (is_record c.in-Ok.ensures c.in-Call.is)
+    (c.to_instruction-instruction-in-Call.ensures ∙ ap (λ (i : ℕ). word (to_instruction CallOp i)) c.saturating_sub.ensures)
+    c.emit-in-Call.ensures
 
-pub returns-then-kind-eq-INDEX_GET : goal.returns-then-kind-eq-INDEX_GET
-returns-then-kind-eq-INDEX_GET c =
-    t.finish_index c.if-kind-eq-INDEX_GET.true c.emit_opcode-then-kind-eq-INDEX_GET.ensures
+pub returns-in-InstanceGet : goal.returns-in-InstanceGet
+returns-in-InstanceGet c = t.finish_instance (is_record c.in-Ok.ensures c.in-InstanceGet.is) c.emit_opcode.ensures
 
-pub returns-then-value-eq-PREFIX_MINUS : goal.returns-then-value-eq-PREFIX_MINUS
-returns-then-value-eq-PREFIX_MINUS c =
-    t.finish_minus c.if-kind-eq-PREFIX.true c.if-value-eq-PREFIX_MINUS.true c.emit_opcode-then-value-eq-PREFIX_MINUS.ensures
+pub returns-in-IndexGet : goal.returns-in-IndexGet
+returns-in-IndexGet c = t.finish_index (is_record c.in-Ok.ensures c.in-IndexGet.is) c.emit_opcode-in-IndexGet.ensures
 
-pub returns-then-value-eq-PREFIX_NOT : goal.returns-then-value-eq-PREFIX_NOT
-returns-then-value-eq-PREFIX_NOT c =
-    t.finish_not c.if-kind-eq-PREFIX.true c.if-value-eq-PREFIX_NOT.true c.emit_opcode-then-value-eq-PREFIX_NOT.ensures
+pub returns-in-Minus : goal.returns-in-Minus
+returns-in-Minus c =
+    t.finish_minus (is_record c.in-Ok.ensures c.in-Prefix.is) (prefix_or _ _ c.try_from-in-Prefix.ensures c.unwrap_or.ensures c.in-Minus.is refl)
+    c.emit_opcode-in-Minus.ensures
 
-pub returns-then-kind-eq-PREFIX : goal.returns-then-kind-eq-PREFIX
-returns-then-kind-eq-PREFIX c =
-    t.finish_other c.if-kind-eq-PREFIX.true c.if-value-eq-PREFIX_MINUS.false c.if-value-eq-PREFIX_NOT.false c.push_error.ensures
+pub returns-in-Not : goal.returns-in-Not
+returns-in-Not c =
+    t.finish_not (is_record c.in-Ok.ensures c.in-Prefix.is) (prefix_or _ _ c.try_from-in-Prefix.ensures c.unwrap_or.ensures c.in-Not.is refl)
+    c.emit_opcode-in-Not.ensures
 
-pub returns : goal.returns
-returns c = t.finish_none c.if-kind-eq-ARRAY.false c.if-kind-eq-PREFIX.false c.if-kind-eq-CALL.false c.if-kind-eq-INSTANCE_GET.false
-    c.if-kind-eq-INDEX_GET.false
+pub returns-in-Other : goal.returns-in-Other
+returns-in-Other c =
+    let none = λ (k : PrefixOperator) (other : number_of_prefix prefixes.Other ≡ number_of_prefix k → ⊥). no_prefix _ _ k c.try_from-in-Prefix.ensures
+    c.unwrap_or.ensures (λ q. other (ap number_of_prefix (sym c.in-Other.is ∙ q))) in
+    t.finish_other (is_record c.in-Ok.ensures c.in-Prefix.is) (none prefixes.Minus (λ q. omega (arith, q)))
+    (none prefixes.Not (λ q. omega (arith, q))) c.push_error.ensures

@@ -1,12 +1,8 @@
--- `book_compiler::pairs::find_pair` meets its contract. The invariant: what is found from the start on is what is found from here on. The measure is what is
--- left of the count. Assumes nothing.
-use Rattle.std.proofs.Common.{◌-◌, sym, refl, ◌∙◌}
-use Rattle.building.proofs.OldestFirst.{first_here, first_next, first_end}
+-- `book_compiler::pairs::find_pair` meets its contract. The invariant: what is found from the start on is what is found from here on. Assumes nothing.
+use Rattle.std.proofs.Common.{◌-◌, sym, ◌∙◌}
+use Rattle.words.proofs.Firsts.{first_here, first_next, first_end}
 use Rattle.compiler_laws.specs.IncludeSteps.{is_pair}
 use Rattle.book_compiler.proofs.pairs.find_pair.Goals as goal
-
-pub loop-i-init : goal.loop-i-init
-loop-i-init c = refl
 
 pub returns-then-is_pair : goal.returns-then-is_pair
 returns-then-is_pair c =

@@ -2,11 +2,8 @@
 use Rattle.book_compiler.proofs.SlotSteps.{new_with_slot, new_refused}
 use Rattle.book_compiler.proofs.slots.add_new_constant.Goals as goal
 
-pub returns-then-before-after : goal.returns-then-before-after
-returns-then-before-after c =
-    new_with_slot c.add_no_check-index.ensures c.put_slot.ensures (rw (c.constant_count-before.ensures, c.constant_count-after.ensures) at
-    c.if-before-after.true)
+pub returns-then-before-state : goal.returns-then-before-state
+returns-then-before-state c = new_with_slot c.add_no_check-index.ensures c.put_slot.ensures c.if-before-state.true
 
-pub returns : goal.returns
-returns c =
-    new_refused c.add_no_check-index.ensures (rw (c.constant_count-before.ensures, c.constant_count-after.ensures) at c.if-before-after.false)
+pub returns-else-before-state : goal.returns-else-before-state
+returns-else-before-state c = new_refused c.add_no_check-index.ensures c.if-before-state.false

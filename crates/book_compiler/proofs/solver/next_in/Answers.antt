@@ -1,13 +1,11 @@
 -- `book_compiler::solver::next_in` meets its contract. The invariant: what is next from here is next from the start. Assumes nothing.
 use Rattle.std.proofs.Common.{sym, ◌∙◌, arith}
 use Rattle.compiler_laws.proofs.SetBits.{next_more, next_here}
+use Rattle.book_compiler.proofs.SetMembers.{next_past}
 use Rattle.book_compiler.proofs.solver.next_in.Goals as goal
 
-pub loop-n-init : goal.loop-n-init
-loop-n-init c = (c.requires, λ r h. h)
-
-pub returns-then-has : goal.returns-then-has
-returns-then-has c =
+pub returns-then-has-clause-finds : goal.returns-then-has-clause-finds
+returns-then-has-clause-finds c =
     c.loop-n.invariant.1 _ (next_here c.args.set.now c.loop-n.n (omega (
       arith,
       c.loop-n-test.true,
@@ -23,6 +21,5 @@ loop-n-preserved c = (
       c.if-has.false ∙ c.has.ensures) c.after-n.ensures h),
 )
 
-pub returns : goal.returns
-returns c = c.loop-n.invariant.1 _ (next_here c.args.set.now c.loop-n.n c.loop-n.invariant.0 (λ l. absurd
-    (omega (arith, l, c.loop-n-test.false))))
+pub returns-clause-finds : goal.returns-clause-finds
+returns-clause-finds c = c.loop-n.invariant.1 _ (next_past c.args.set.now c.loop-n.n c.loop-n-test.false c.loop-n.invariant.0)

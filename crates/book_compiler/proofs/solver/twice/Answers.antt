@@ -1,38 +1,33 @@
 -- `book_compiler::solver::twice` meets its contract. The invariant: what is found from here is found from the start. Assumes nothing.
-use Rattle.std.proofs.Common.{refl, arith}
-use Rattle.compiler_laws.proofs.Tokens.{skip_more}
-use Rattle.compiler_laws.proofs.DocumentsRead.{twice_end, twice_here, twice_more, twice_whole}
-use mathlib.Core.Path.{ap}
+use Rattle.std.proofs.Common.{ℕ, Some, ap, ◌∙◌}
 use mathlib.Core.Bool.{not}
+use Rattle.compiler_laws.proofs.DocumentsRead.{TwiceFrom, twice_end, twice_here, twice_more, twice_whole}
+use Rattle.book_compiler.proofs.Subtrees.{same_tree, same_end, over, past, back, before}
 use Rattle.book_compiler.proofs.solver.twice.Goals as goal
-
-pub loop-i-init : goal.loop-i-init
-loop-i-init c = (refl, λ r after h. h)
-
-pub shape_of-present-then-not-add : goal.shape_of-present-then-not-add
-shape_of-present-then-not-add c =
-    omega (arith, c.add.auto.set, c.loop-i.invariant.0)
 
 pub returns-then-not-add : goal.returns-then-not-add
 returns-then-not-add c =
-    twice_whole c.args.tree.now c.args.end c.args.present.now (c.loop-i.invariant.1 _ _
-    (twice_here c.args.tree.now c.loop-i.i c.args.end c.loop-i.present c.loop-i-test.true c.field-file.ensures
-    c.add.ensures (ap not c.if-not-add.true)))
+    let O = over c.next.ensures.steps c.loop-document.invariant.0 c.loop-document.invariant.1 c.in-Some.is in
+    twice_whole c.args.tree.now c.args.end c.args.present.now (c.loop-document.invariant.3 _ _
+    (before O (λ (n : ℕ). TwiceFrom c.args.tree.now n c.args.end c.loop-document.present (Some c.in-Some.document.at) c.add.new.set)
+    (twice_here c.args.tree.now c.in-Some.document.at c.args.end c.loop-document.present O.inside c.field-file.ensures
+    c.add.ensures (ap not c.if-not-add.true))))
 
-pub loop-i-smaller : goal.loop-i-smaller
-loop-i-smaller c =
-    omega (arith, c.loop-i-test.true, skip_more c.args.tree.now c.loop-i.i c.args.end c.loop-i-test.true c.skip-i.ensures)
-
-pub loop-i-preserved : goal.loop-i-preserved
-loop-i-preserved c = (
-  omega (arith, c.add.auto.set, c.loop-i.invariant.0),
-  λ r after h. c.loop-i.invariant.1 r after
-      (twice_more c.args.tree.now c.loop-i.i c.args.end c.loop-i.present c.loop-i-test.true c.field-file.ensures
-      c.add.ensures (ap not c.if-not-add.false) c.skip-i.ensures h),
-)
+pub loop-document-preserved : goal.loop-document-preserved
+loop-document-preserved c =
+    let O = over c.next.ensures.steps c.loop-document.invariant.0 c.loop-document.invariant.1 c.in-Some.is in (
+      same_tree c.next.ensures.steps c.loop-document.invariant.0 c.loop-document.invariant.1,
+      same_end c.next.ensures.steps c.loop-document.invariant.0 c.loop-document.invariant.1,
+      c.add.auto.set ∙ c.loop-document.invariant.2,
+      λ r after h. c.loop-document.invariant.3 r after
+          (back O (λ (n : ℕ). TwiceFrom c.args.tree.now n c.args.end c.loop-document.present r after)
+          (λ (n : ℕ). TwiceFrom c.args.tree.now n c.args.end c.add.new.set r after)
+          (twice_more c.args.tree.now c.in-Some.document.at c.args.end c.loop-document.present O.inside c.field-file.ensures
+          c.add.ensures (ap not c.if-not-add.false) O.next) h),
+    )
 
 pub returns : goal.returns
 returns c = twice_whole c.args.tree.now c.args.end
-    c.args.present.now (c.loop-i.invariant.1 _ _
-    (twice_end c.args.tree.now c.loop-i.i c.args.end
-    c.loop-i.present c.loop-i-test.false))
+    c.args.present.now (c.loop-document.invariant.3 _ _
+    (twice_end c.args.tree.now c.loop-document.document-iterator.at c.args.end c.loop-document.present
+    (past c.next.ensures.steps c.loop-document.invariant.0 c.loop-document.invariant.1 c.in-None.is)))

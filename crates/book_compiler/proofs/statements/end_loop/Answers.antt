@@ -1,11 +1,6 @@
 -- `book_compiler::statements::end_loop` meets its contract: what was remembered stands where nothing is full. Assumes nothing.
 use Rattle.book_compiler.proofs.Loops.{end_ends}
-use Rattle.std.proofs.Common.{arith}
 use Rattle.book_compiler.proofs.statements.end_loop.Goals as goal
-
-pub shape_of-memory : goal.shape_of-memory
-shape_of-memory c =
-    omega (arith, c.emit.auto, c.emit-2.auto, c.replace_instruction.auto.memory, c.exit_break_scope.auto, c.exit_scope.auto)
 
 pub returns : goal.returns
 returns c =

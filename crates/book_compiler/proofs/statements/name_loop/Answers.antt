@@ -1,18 +1,6 @@
 -- `book_compiler::statements::name_loop` meets its contract: the name's local is the definition's where nothing is full. Assumes nothing.
 use Rattle.book_compiler.proofs.Loops.{name_names}
-use Rattle.std.proofs.Common.{arith}
 use Rattle.book_compiler.proofs.statements.name_loop.Goals as goal
-
-pub shape_of-memory : goal.shape_of-memory
-shape_of-memory c =
-    omega (
-      arith,
-      c.define_local-found.auto,
-      c.emit.auto,
-      c.emit_opcode_without_position.auto,
-      c.emit-2.auto,
-      c.emit_opcode_without_position-2.auto,
-    )
 
 pub returns : goal.returns
 returns c =

@@ -1,32 +1,28 @@
--- `constant_slots::plain::find` meets its contract. The invariant: what is found from the first constant on is what is found from here on.
--- The measure is what is left of the count. Where the area holds them all, `find_within` answers. Assumes nothing.
-use mathlib.Core.Path.{sym, ◌∙◌}
-use Rattle.words.specs.Object.{constant_of}
-use Rattle.constant_slots.specs.Plain.{is_constant}
-use Rattle.constant_slots.proofs.PlainWays.{first_start, first_here, first_next, first_end}
+-- `constant_slots::plain::find` meets its contract: the entries passed over have another value. Assumes nothing.
+use Rattle.std.proofs.Common.{arith}
+use Rattle.constant_slots.proofs.PlainWays.{value_found, find_here, find_next, find_end}
 use Rattle.constant_slots.proofs.plain.find.Goals as goal
 
-pub returns-then-count-constants : goal.returns-then-count-constants
-returns-then-count-constants c = c.find_within.ensures
+pub returns-then-entry_word-wanted : goal.returns-then-entry_word-wanted
+returns-then-entry_word-wanted c =
+    find_here c.args.wanted.kind c.args.wanted.value c.args.constants.now c.args.count c.loop-there.from c.in-Some.ensures
+    (rw c.entry_word.ensures at c.if-entry_word-wanted.true) c.loop-there.invariant
 
-pub loop-i-init : goal.loop-i-init
-loop-i-init c = first_start (is_constant (constant_of c.args.kind c.args.value) c.args.constants.now)
-    c.args.count
+pub overflow_add-from : goal.overflow_add-from
+overflow_add-from c =
+    let p = value_found c.args.wanted.kind c.args.wanted.value c.args.constants.now c.args.count c.loop-there.from c.in-Some.ensures in
+    omega (arith, p.last, c.ranges.count.fits)
 
-pub returns-then-same_constant : goal.returns-then-same_constant
-returns-then-same_constant c =
-    first_here (is_constant (constant_of c.args.kind c.args.value) c.args.constants.now) c.args.count c.loop-i.i
-    c.args.count 0
-    c.loop-i-test.true (sym c.same_constant.ensures ∙ c.if-same_constant.true) c.loop-i.invariant
+pub loop-there-smaller : goal.loop-there-smaller
+loop-there-smaller c =
+    let p = value_found c.args.wanted.kind c.args.wanted.value c.args.constants.now c.args.count c.loop-there.from c.in-Some.ensures in
+    omega (arith, p.on, p.last)
 
-pub loop-i-preserved : goal.loop-i-preserved
-loop-i-preserved c =
-    first_next (is_constant (constant_of c.args.kind c.args.value) c.args.constants.now) c.args.count c.loop-i.i
-    c.args.count 0
-    c.loop-i-test.true (sym c.same_constant.ensures ∙ c.if-same_constant.false) c.loop-i.invariant
+pub loop-there-preserved : goal.loop-there-preserved
+loop-there-preserved c =
+    find_next c.args.wanted.kind c.args.wanted.value c.args.constants.now c.args.count c.loop-there.from c.in-Some.ensures
+    (rw c.entry_word.ensures at c.if-entry_word-wanted.false) c.loop-there.invariant
 
 pub returns : goal.returns
-returns c = first_end (is_constant (constant_of c.args.kind c.args.value)
-    c.args.constants.now) c.args.count c.loop-i.i
-    c.args.count 0
-    c.loop-i-test.false c.loop-i.invariant
+returns c =
+    find_end c.args.wanted.kind c.args.wanted.value c.args.constants.now c.args.count c.loop-there.from c.in_default.ensures c.loop-there.invariant

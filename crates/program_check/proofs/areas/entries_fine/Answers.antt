@@ -1,4 +1,4 @@
--- `entries_fine` meets its contract. The invariant: the entries below i are fine. The measure: the entries left. Assumes nothing.
+-- `entries_fine` meets its contract. The invariant: the entries below i are fine. Assumes nothing.
 use Rattle.program_check.proofs.AreaTests.{fine_unfit, fine_turn, fine_entry, fine_all}
 use native.Mathlib.Omega.{arith}
 use mathlib.Core.Path.{ap}

@@ -1,5 +1,5 @@
--- `count_marked` meets its contract. The invariant: the count is that of the first i, and no more than i. The measure: the entries left. Assumes nothing.
-use Prim.Native.Nat.{◌-◌, ◌≤◌}
+-- `count_marked` meets its contract. The invariant: the count is that of the first i, and no more than i. Assumes nothing.
+use Prim.Native.Nat.{◌≤◌}
 use mathlib.Core.Path.{◌≡◌}
 use mathlib.Core.List.{[], ◌∷◌}
 use Rattle.definition.specs.Within.{marked}
@@ -7,6 +7,3 @@ use Rattle.program_check.proofs.constants.count_marked.Given as goal
 
 abbrev pub invariant-loop-i : goal.invariant-loop-i
 invariant-loop-i l = (l.i ≤ l.total) × (l.count ≤ l.i) × (l.count ≡ marked ([] ∷ [] ∷ l.constants ∷ []) l.i)
-
-abbrev pub decreases-loop-i : goal.decreases-loop-i
-decreases-loop-i l = l.total - l.i

@@ -10,10 +10,10 @@ returns-then-totals-start c =
 
 pub range_keeps-requires : goal.range_keeps-requires
 range_keeps-requires c =
-    range_fits (length c.args.code.now) c.args.totals.code _ _ _ c.requires c.if-totals-start.false c.least-count.ensures
+    range_fits (length c.args.code.now) c.args.totals.code _ _ _ c.requires c.if-totals-start.false c.min-count.ensures
 
 pub returns : goal.returns
 returns c =
     function_in c.args.code.now c.args.functions.now c.args.totals c.args.j c.entry_word-locals.ensures c.entry_word-start.ensures
     c.entry_word-size.ensures c.if-totals-start.false
-    c.least-count.ensures c.range_keeps.ensures
+    c.min-count.ensures c.range_keeps.ensures

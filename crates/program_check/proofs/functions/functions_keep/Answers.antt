@@ -1,4 +1,4 @@
--- `functions_keep` meets its contract. The invariant: the functions below j keep their bounds. The measure: the functions left. Assumes nothing.
+-- `functions_keep` meets its contract. The invariant: the functions below j keep their bounds. Assumes nothing.
 use Rattle.program_check.proofs.FunctionTests.{keep_turn, keep_no, keep_done}
 use native.Mathlib.Omega.{arith}
 use mathlib.Core.Path.{ap}
@@ -15,7 +15,7 @@ function_keeps-requires c =
 pub returns-then-not-function_keeps : goal.returns-then-not-function_keeps
 returns-then-not-function_keeps c =
     keep_no c.args.code.now c.args.functions.now c.args.totals c.loop-j.j c.entries_in-held.ensures
-    c.least-count.ensures c.loop-j-test.true
+    c.min-count.ensures c.loop-j-test.true
     c.function_keeps.ensures (ap not c.if-not-function_keeps.true)
 
 pub loop-j-preserved : goal.loop-j-preserved
@@ -28,5 +28,5 @@ loop-j-preserved c = (
 pub returns : goal.returns
 returns c =
     keep_done c.args.code.now c.args.functions.now c.args.totals c.loop-j.j c.entries_in-held.ensures
-    c.least-count.ensures c.loop-j.invariant.0
+    c.min-count.ensures c.loop-j.invariant.0
     c.loop-j-test.false c.loop-j.invariant.1

@@ -1,5 +1,5 @@
--- `functions_keep` meets its contract. The invariant: the functions below j keep their bounds. The measure: the functions left. Assumes nothing.
-use Prim.Native.Nat.{◌-◌, ◌≤◌}
+-- `functions_keep` meets its contract. The invariant: the functions below j keep their bounds. Assumes nothing.
+use Prim.Native.Nat.{◌≤◌}
 use lib.Dec.{T}
 use Rattle.definition.specs.Within.{all_below}
 use Rattle.program_check.specs.Functions.{code_and, function_keeps}
@@ -7,6 +7,3 @@ use Rattle.program_check.proofs.functions.functions_keep.Given as goal
 
 abbrev pub invariant-loop-j : goal.invariant-loop-j
 invariant-loop-j l = (l.j ≤ l.count) × T (all_below l.j (function_keeps (code_and l.code l.functions l.totals)))
-
-abbrev pub decreases-loop-j : goal.decreases-loop-j
-decreases-loop-j l = l.count - l.j

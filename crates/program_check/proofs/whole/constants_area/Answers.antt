@@ -1,23 +1,13 @@
--- `constants_area` meets its contract. Assumes nothing.
-use mathlib.Core.Path.{refl, sym, ◌∙◌}
-use borrow.Author.Tests.{not-false}
+-- `constants_area` meets its contract: the entries, and the area as a whole. Assumes nothing.
+use Rattle.std.proofs.Common.{refl, sym, ◌∙◌}
 use Rattle.program_check.specs.Parts.{alone}
-use Rattle.program_check.proofs.WholeTests.{area_no, area_by}
-use native.Mathlib.Omega.{arith}
-use mathlib.Core.Path.{ap}
-use mathlib.Core.Bool.{not}
+use Rattle.program_check.proofs.WholeTests.{area_no, area_yes}
 use Rattle.program_check.proofs.whole.constants_area.Goals as goal
 
-pub entries_fine-requires : goal.entries_fine-requires
-entries_fine-requires c = record { from_code = omega arith; or_books = λ h. omega arith }
+pub returns-then-entries_fine : goal.returns-then-entries_fine
+returns-then-entries_fine c =
+    area_yes (alone 2 c.args.constants.now c.args.totals) 2 refl (sym c.entries_fine.ensures ∙ c.if-entries_fine.true) c.constants_whole.ensures
 
-pub returns-then-not-entries_fine : goal.returns-then-not-entries_fine
-returns-then-not-entries_fine c = area_no (alone 2 c.args.constants.now c.args.totals) 2 refl
-    c.entries_fine.ensures (ap not c.if-not-entries_fine.true)
-
-pub constants_whole-requires : goal.constants_whole-requires
-constants_whole-requires c = sym c.entries_fine.ensures ∙ not-false _ (ap not c.if-not-entries_fine.false)
-
-pub returns : goal.returns
-returns c = area_by (alone 2 c.args.constants.now c.args.totals) 2 refl
-    c.entries_fine.ensures (ap not c.if-not-entries_fine.false) c.constants_whole.ensures
+pub returns-else-entries_fine : goal.returns-else-entries_fine
+returns-else-entries_fine c =
+    c.if-entries_fine.false ∙ area_no (alone 2 c.args.constants.now c.args.totals) 2 refl (sym c.entries_fine.ensures ∙ c.if-entries_fine.false)

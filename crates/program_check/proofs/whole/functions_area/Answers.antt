@@ -1,20 +1,13 @@
--- `functions_area` meets its contract. Assumes nothing.
-use mathlib.Core.Path.{refl}
+-- `functions_area` meets its contract: the entries, and the entry point. Assumes nothing.
+use Rattle.std.proofs.Common.{refl, sym, ◌∙◌}
 use Rattle.program_check.specs.Parts.{alone}
-use Rattle.program_check.proofs.WholeTests.{area_no, area_by}
-use native.Mathlib.Omega.{arith}
-use mathlib.Core.Path.{ap}
-use mathlib.Core.Bool.{not}
+use Rattle.program_check.proofs.WholeTests.{area_no, area_yes}
 use Rattle.program_check.proofs.whole.functions_area.Goals as goal
 
-pub entries_fine-requires : goal.entries_fine-requires
-entries_fine-requires c = record { from_code = omega arith; or_books = λ h. omega arith }
+pub returns-then-entries_fine : goal.returns-then-entries_fine
+returns-then-entries_fine c =
+    area_yes (alone 3 c.args.functions.now c.args.totals) 3 refl (sym c.entries_fine.ensures ∙ c.if-entries_fine.true) refl
 
-pub returns-then-not-entries_fine : goal.returns-then-not-entries_fine
-returns-then-not-entries_fine c = area_no (alone 3 c.args.functions.now c.args.totals) 3 refl
-    c.entries_fine.ensures (ap not c.if-not-entries_fine.true)
-
-pub returns : goal.returns
-returns c =
-    area_by (alone 3 c.args.functions.now c.args.totals) 3 refl c.entries_fine.ensures
-    (ap not c.if-not-entries_fine.false) refl
+pub returns-else-entries_fine : goal.returns-else-entries_fine
+returns-else-entries_fine c =
+    c.if-entries_fine.false ∙ area_no (alone 3 c.args.functions.now c.args.totals) 3 refl (sym c.entries_fine.ensures ∙ c.if-entries_fine.false)

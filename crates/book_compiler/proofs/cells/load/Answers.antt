@@ -1,8 +1,0 @@
--- `book_compiler::cells::load` meets its contract: field by field. Assumes nothing.
-use Rattle.compiler_laws.specs.Cells.{state_of}
-use Rattle.std.proofs.Common.{rules}
-use Rattle.book_compiler.proofs.cells.load.Goals as goal
-
-pub returns : goal.returns
-unfolding state_of
-returns c = search rules

@@ -1,9 +1,0 @@
--- `book_compiler::ending::one_if` meets its contract. Assumes nothing.
-use Rattle.std.proofs.Common.{eq-eqb, ne_eqb}
-use Rattle.book_compiler.proofs.ending.one_if.Goals as goal
-
-pub returns-then-word-eq0 : goal.returns-then-word-eq0
-returns-then-word-eq0 c = rw (eq-eqb c.args.word 0 c.if-word-eq0.true)
-
-pub returns : goal.returns
-returns c = rw (ne_eqb c.args.word 0 c.if-word-eq0.false)

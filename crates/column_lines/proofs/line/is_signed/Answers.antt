@@ -1,6 +1,0 @@
--- `is_signed` meets its contract. Assumes nothing.
-use Rattle.column_lines.proofs.Lines.{signed_word}
-use Rattle.column_lines.proofs.line.is_signed.Goals as goal
-
-pub returns-in-Word : goal.returns-in-Word
-returns-in-Word c = signed_word c.args.kind c.in-Word.is

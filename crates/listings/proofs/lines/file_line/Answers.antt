@@ -1,7 +1,0 @@
--- `file_line` meets its contract: its word is read. Assumes nothing.
-use Rattle.words.specs.Areas.{entry_field}
-use Rattle.listings.proofs.lines.file_line.Goals as goal
-
-pub returns : goal.returns
-unfolding entry_field
-returns c = simp (c.entry_word-number.ensures, c.short_line.ensures)

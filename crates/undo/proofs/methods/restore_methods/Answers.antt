@@ -1,8 +1,0 @@
--- `undo::methods::restore_methods` meets its contract, by what the loop has done at its end. Assumes nothing.
-use Rattle.undo.proofs.LoopTurns.{methods_restored}
-use Rattle.undo.proofs.methods.restore_methods.Goals as goal
-
-pub returns : goal.returns
-returns c =
-    methods_restored c.args.count c.entries_whole-end.result c.args.methods.now
-    c.methods_anew.new.methods c.entries_whole-end.ensures c.methods_anew.ensures
