@@ -1,6 +1,7 @@
 -- The slots of one memory filled anew with the first constants, or cleared: the turns of `fill_slots`, and that the
 -- slots are then as `Represents` wants them. By the constants so far. Assumes nothing.
-use Rattle.std.proofs.Common.{◌≡◌, ℕ, suc, ◌+◌, ◌-◌, ◌<◌, ◌≤◌, min, Bool, true, false, ltb, ltb-true, ltb-false, List, ◌++◌, length, get_or, take, drop, replicate, sym, refl, ap, ◌∙◌, subst, arith}
+use Rattle.std.proofs.Common.{◌≡◌, ℕ, suc, ◌+◌, ◌-◌, ◌<◌, ◌≤◌, min, Bool, true, false, ltb, ltb-true}
+use Rattle.std.proofs.Common.{ltb-false, List, ◌++◌, length, get_or, take, drop, replicate, sym, refl, ap, ◌∙◌, subst, arith}
 use Rattle.std.proofs.Common.{take-append-drop, length-take-le, take_at, drop_at}
 use Rattle.memory.specs.Layout.{part, with_part, Fits}
 use Rattle.memory.proofs.Parts.{put_part, put_fits, part_length, ends_within}

@@ -23,7 +23,8 @@ use Rattle.std.specs.Prelude.{Option, None}
 use Rattle.column_lines.proofs.Lines.{Begun, begun_more, line_size_lem}
 use Rattle.column_files.specs.declared.Converted.{Converted}
 use Rattle.column_files.specs.Files.{lines_in, words_in, words_by, words_of, bad_by, first_bad, row_one, lines_by, columns_of, Lent, LinesRead}
-use Rattle.column_files.specs.Convert.{Conversion, success, refuse, reply_of, short_reply, answer_by, columns_to_records, records_to_columns, kept_of, Stands, Converts}
+use Rattle.column_files.specs.Convert.{Conversion, success, refuse, reply_of, short_reply}
+use Rattle.column_files.specs.Convert.{answer_by, columns_to_records, records_to_columns, kept_of, Stands, Converts}
 use Rattle.column_files.proofs.Files.{line_of, words_in_lem, words_length, words_more, lines_more, lines_length, bad_here, row_one_at, row_one_end}
 
 -- a record's line is put in its place
@@ -110,7 +111,8 @@ cleared_rest c d mid k room m l n =
 
 -- the answers after row 1
 
-pub answer_short : (s : Result (Unit {0}) Refused) (c : List ℕ) (n room : ℕ) {after : List ℕ} {r : Converted} → room < length c → after ≡ replicate room 0 → r ≡ short_reply s
+pub answer_short : (s : Result (Unit {0}) Refused) (c : List ℕ) (n room : ℕ) {after : List ℕ} {r : Converted} → room < length c → after ≡ replicate room 0
+    → r ≡ short_reply s
     → Converts (answer_by s c n room) after r
 unfolding answer_by short_reply
 answer_short (Err found) c n room l a e = record { reply = e; output = a }
@@ -118,7 +120,8 @@ answer_short (Ok u) c n room l a e =
     let t : leb (length c) room ≡ false = lt-leb (length c) room l in
     rw t (record { reply = e; output = a })
 
-pub answer_done : (s : Result (Unit {0}) Refused) (c : List ℕ) (n room : ℕ) {after : List ℕ} → s ≡ Ok tt → length c ≤ room → after ≡ c ++ replicate (room - length c) 0
+pub answer_done : (s : Result (Unit {0}) Refused) (c : List ℕ) (n room : ℕ) {after : List ℕ} → s ≡ Ok tt → length c ≤ room
+    → after ≡ c ++ replicate (room - length c) 0
     → Converts (answer_by s c n room) after (success n)
 unfolding answer_by
 answer_done s c n room e l a =
@@ -199,12 +202,14 @@ module _ (file mid : List ℕ) (room : ℕ) (n : length mid ≡ room) where
 
     pub words_short : {found : Refused} → shape_of (words_of file) ≡ Ok tt → room / 4 < lines_in file → found ≡ record { row = AreaFull; place = 0 }
         → Stands 4 (columns_to_records file room) mid (Err found)
-    words_short {found} e h f = passed (Err found) (rw (f, n) (stands_short (shape_of (words_of file)) (words_of file) (lines_in file) room e (omega (arith, size))))
+    words_short {found} e h f = passed (Err found)
+        (rw (f, n) (stands_short (shape_of (words_of file)) (words_of file) (lines_in file) room e (omega (arith, size))))
 
     pub words_done : (rest : List ℕ) → shape_of (words_of file) ≡ Ok tt → lines_in file ≤ room / 4 → mid ≡ words_of file ++ rest
         → Stands 4 (columns_to_records file room) mid (Ok (lines_in file))
     words_done rest e h m =
-        passed (Ok (lines_in file)) (rw (← n) (stands_whole (shape_of (words_of file)) (words_of file) rest mid (lines_in file) 4 e size (omega (arith, size, n)) m))
+        passed (Ok (lines_in file)) (rw (← n)
+        (stands_whole (shape_of (words_of file)) (words_of file) rest mid (lines_in file) 4 e size (omega (arith, size, n)) m))
 
 -- the words of the whole file, at the head of what stands
 pub words_checked : (file rest mid : List ℕ) → mid ≡ words_of file ++ rest → shape_of (take (lines_in file * 4) mid) ≡ shape_of (words_of file)

@@ -15,7 +15,8 @@ use Rattle.column_lines.specs.Form.{kind_width, span_width, line_width, column_w
 use Rattle.column_lines.specs.Form.{newline_place, line_length, newline, signed_kind}
 use Rattle.column_lines.specs.Numeral.{word_end, least_size, negative_of, numeral, numeral_fits, read_numeral}
 use Rattle.column_lines.specs.Spelling.{rest_fits, spell_fits}
-use Rattle.column_lines.specs.Line.{field_in, signed_is, position_in, record_of, record_in, kind_in, span_in, place_in, value_in, whole_line, read_line, record_line}
+use Rattle.column_lines.specs.Line.{field_in, signed_is, position_in, record_of, record_in, kind_in}
+use Rattle.column_lines.specs.Line.{span_in, place_in, value_in, whole_line, read_line, record_line}
 use Rattle.std.specs.Prelude.{Option, Some, None}
 use Rattle.std.proofs.lemmas.Option.{same_Some}
 use Rattle.words.specs.declared.node.Record.{Record}

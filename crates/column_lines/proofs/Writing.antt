@@ -56,7 +56,8 @@ module _ (g : Bool) (number width : ℕ) (out : List ℕ) (k m d : ℕ) (w : Wri
       }
 
   -- none is, and the rest of the field is led
-  pub write_end : (before lead : List ℕ) {r : Bool} → width ≡ length before → m / 10 ≡ 0 → Led g (length (take k (set out k (48 + d)))) (take k (set out k (48 + d))) lead r
+  pub write_end : (before lead : List ℕ) {r : Bool} → width ≡ length before → m / 10 ≡ 0
+      → Led g (length (take k (set out k (48 + d)))) (take k (set out k (48 + d))) lead r
       → Spelt g number before (lead ++ drop k (set out k (48 + d))) r
   write_end before lead {r} W z l =
       let part : List ℕ = take k (set out k (48 + d)) in

@@ -22,7 +22,8 @@ use Rattle.column_files.proofs.Converting.{stands_short, stands_off, stands_whol
 use Rattle.constant_tables.specs.Form.{table_line_length, local_definition_kind, integer_kind, float_kind, name_kind, document_kind}
 use Rattle.constant_tables.specs.Entry.{Entry, entry, is_text, entry_line, table_bytes, record_kind, table_kind, definition_of, definitions_of}
 use Rattle.constant_tables.specs.Entry.{table_records}
-use Rattle.constant_tables.specs.Table.{first_where, list_from, count_in, line_count, table_line, is_bad, bad_at, first_off, row_one, entry_in, line_entry, entries_of}
+use Rattle.constant_tables.specs.Table.{first_where, list_from, count_in, line_count, table_line, is_bad}
+use Rattle.constant_tables.specs.Table.{bad_at, first_off, row_one, entry_in, line_entry, entries_of}
 use Rattle.constant_tables.specs.Table.{head_is, in_definition, agrees_at, not_table, entry_at, definition_count, entries_in}
 use Rattle.constant_tables.specs.Table.{DefinitionPut, DefinitionsPut, ConstantPut}
 use Rattle.constant_tables.specs.Convert.{TableConversion, table_rows, table_to_records, row_ten, document_rows, no_table, tabled, table_by, TableStands}
@@ -375,7 +376,8 @@ module _ (w mid : List ℕ) (room : ℕ) (n : length mid ≡ room) where
         = sym (cleared_rest (table_bytes (entries_in w)) _ mid (definition_count w * 34) room m bytes n) in
         (omega (arith, h, n), rw (e, t) (ap (λ (o : List ℕ). record { reply = tabled (definition_count w) (value_at w 0); output = o }) x))
 
-pub tables_done : (c : TableConversion) (mid : List ℕ) (total file : ℕ) {after : List ℕ} {f : ℕ} → TableStands file c mid (Ok total) → after ≡ cleared_from (total * 34) mid
+pub tables_done : (c : TableConversion) (mid : List ℕ) (total file : ℕ) {after : List ℕ} {f : ℕ} → TableStands file c mid (Ok total)
+    → after ≡ cleared_from (total * 34) mid
     → f ≡ file → Tables c after (tabled total f)
 tables_done c mid total file s a f = rw (s.1, f) (record { reply = refl; output = a })
 

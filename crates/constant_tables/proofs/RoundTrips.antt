@@ -367,7 +367,8 @@ unfolding row_ten
 row_ten_parts (Err found) w e h = no_row h
 row_ten_parts (Ok u) w e h = go (ltb (not_table w) (records_of w)) refl h
   where
-    go : (b : Bool) → ltb (not_table w) (records_of w) ≡ b → cond b (refused NotATable (not_table w)) (Ok (tt {0})) ≡ Ok tt → (shape_of w ≡ Ok tt) × (records_of w ≤ not_table w)
+    go : (b : Bool) → ltb (not_table w) (records_of w) ≡ b → cond b (refused NotATable (not_table w)) (Ok (tt {0})) ≡ Ok tt → (shape_of w ≡ Ok tt)
+        × (records_of w ≤ not_table w)
     go true x y = no_row y
     go false x y = (sym e, ltb-false (not_table w) (records_of w) x)
 
@@ -392,6 +393,7 @@ document_round_trip w room h l =
     let words : table_records (value_at w 0) (entries_of (table_bytes es)) ≡ w
     = ap (table_records (value_at w 0)) (table_entries es g) ∙ document_back w n T in
     let total : line_count (table_bytes es) * 3 + 1 ≡ records_of w = omega (arith, c, s, b) in
-    ap (λ (r : Result (Unit {0}) Refused). answer_by r (table_records (value_at w 0) (entries_of (table_bytes es))) (line_count (table_bytes es) * 3 + 1) room) rows
+    ap (λ (r : Result (Unit {0}) Refused). answer_by r (table_records (value_at w 0) (entries_of (table_bytes es)))
+    (line_count (table_bytes es) * 3 + 1) room) rows
     ∙ ap (λ (c : List ℕ). answer_by (Ok tt) c (line_count (table_bytes es) * 3 + 1) room) words ∙ ap (λ (k : ℕ). answer_by (Ok tt) w k room) total
     ∙ rw (le-leb (length w) room l)

@@ -15,13 +15,18 @@ use Rattle.book_compiler.proofs.StatementKinds as s
 use Rattle.book_compiler.proofs.Variables as v
 use Rattle.book_compiler.proofs.BothParts.{break_acts}
 use Rattle.book_compiler.proofs.Loops.{for_meets, for_past}
-use Rattle.book_compiler.proofs.+statements_and_expressions.Goals.{statements::compile_statement-in-ExpressionStatement, statements::compile_statement-in-LocalStatement, statements::compile_statement-in-ForStatement, statements::compile_statement-in-BreakStatement, statements::compile_statement-in-RescueStatement, statements::compile_statement-in_default}
+use Rattle.book_compiler.proofs.+statements_and_expressions.Goals.{statements::compile_statement-in-ExpressionStatement}
+use Rattle.book_compiler.proofs.+statements_and_expressions.Goals.{statements::compile_statement-in-LocalStatement}
+use Rattle.book_compiler.proofs.+statements_and_expressions.Goals.{statements::compile_statement-in-ForStatement}
+use Rattle.book_compiler.proofs.+statements_and_expressions.Goals.{statements::compile_statement-in-BreakStatement}
+use Rattle.book_compiler.proofs.+statements_and_expressions.Goals.{statements::compile_statement-in-RescueStatement, statements::compile_statement-in_default}
 use Rattle.book_compiler.proofs.+statements_and_expressions.Goals as goal
 
 pub expressions::compile_assign_expression_left_part-returns-then-state-ne0 : goal.expressions::compile_assign_expression_left_part-returns-then-state-ne0
 expressions::compile_assign_expression_left_part-returns-then-state-ne0 t c = i.target_full c.if-state-ne0.true
 
-pub expressions::compile_assign_expression_left_part-compile_expression-requires : goal.expressions::compile_assign_expression_left_part-compile_expression-requires
+pub expressions::compile_assign_expression_left_part-compile_expression-requires :
+    goal.expressions::compile_assign_expression_left_part-compile_expression-requires
 expressions::compile_assign_expression_left_part-compile_expression-requires t c =
     let O = over c.next.ensures.steps c.loop-part.invariant.0 c.loop-part.invariant.1 c.in-Some.is in
     let m = skip_more c.args.tree.now _ c.args.end O.inside O.next in omega (arith, m, O.here_is, c.loop-part.invariant.2, c.requires)
@@ -49,14 +54,18 @@ expressions::compile_assign_expression_left_part-returns-in_default t c =
     let d = c.in_default in
     i.target_other c.field-kind.ensures (λ q. grind (arith, q, d)) (λ q. grind (arith, q, d)) (λ q. grind (arith, q, d)) c.push_error.ensures
 
-pub expressions::compile_assign_expression_left_part-returns-then-kind-eq-INSTANCE_GET : goal.expressions::compile_assign_expression_left_part-returns-then-kind-eq-INSTANCE_GET
+pub expressions::compile_assign_expression_left_part-returns-then-kind-eq-INSTANCE_GET :
+    goal.expressions::compile_assign_expression_left_part-returns-then-kind-eq-INSTANCE_GET
 expressions::compile_assign_expression_left_part-returns-then-kind-eq-INSTANCE_GET t c =
-    i.target_instance c.field-kind.ensures c.field-place.ensures (c.loop-part.invariant.3 _ (e.run_end (past c.next.ensures.steps c.loop-part.invariant.0 c.loop-part.invariant.1 c.in-None.is)))
+    i.target_instance c.field-kind.ensures c.field-place.ensures
+    (c.loop-part.invariant.3 _ (e.run_end (past c.next.ensures.steps c.loop-part.invariant.0 c.loop-part.invariant.1 c.in-None.is)))
     c.if-kind-eq-INSTANCE_GET.true c.emit_opcode.ensures
 
-pub expressions::compile_assign_expression_left_part-returns-else-kind-eq-INSTANCE_GET : goal.expressions::compile_assign_expression_left_part-returns-else-kind-eq-INSTANCE_GET
+pub expressions::compile_assign_expression_left_part-returns-else-kind-eq-INSTANCE_GET :
+    goal.expressions::compile_assign_expression_left_part-returns-else-kind-eq-INSTANCE_GET
 expressions::compile_assign_expression_left_part-returns-else-kind-eq-INSTANCE_GET t c =
-    i.target_index c.field-kind.ensures c.field-place.ensures (c.loop-part.invariant.3 _ (e.run_end (past c.next.ensures.steps c.loop-part.invariant.0 c.loop-part.invariant.1 c.in-None.is)))
+    i.target_index c.field-kind.ensures c.field-place.ensures
+    (c.loop-part.invariant.3 _ (e.run_end (past c.next.ensures.steps c.loop-part.invariant.0 c.loop-part.invariant.1 c.in-None.is)))
     (omega (arith, c.in-45, c.if-kind-eq-INSTANCE_GET.false)) c.emit_opcode-else-kind-eq-INSTANCE_GET.ensures
 
 pub expressions::compile_assign_expression_left_part-returns-then-end-at : goal.expressions::compile_assign_expression_left_part-returns-then-end-at
@@ -75,7 +84,8 @@ expressions::compile_expression-compile_infix_expression-requires t c =
 
 pub expressions::compile_expression-returns-in-Infix : goal.expressions::compile_expression-returns-in-Infix
 expressions::compile_expression-returns-in-Infix t c =
-    e.infix_meets c.field-kind.ensures c.field-position.ensures c.field-value.ensures (record_or _ _ c.try_from.ensures c.unwrap_or.ensures c.in-Infix.is refl) c.compile_infix_expression.ensures
+    e.infix_meets c.field-kind.ensures c.field-position.ensures c.field-value.ensures
+    (record_or _ _ c.try_from.ensures c.unwrap_or.ensures c.in-Infix.is refl) c.compile_infix_expression.ensures
 
 pub expressions::compile_expression-compile_if_expression-requires : goal.expressions::compile_expression-compile_if_expression-requires
 expressions::compile_expression-compile_if_expression-requires t c =
@@ -83,7 +93,8 @@ expressions::compile_expression-compile_if_expression-requires t c =
 
 pub expressions::compile_expression-returns-in-If : goal.expressions::compile_expression-returns-in-If
 expressions::compile_expression-returns-in-If t c =
-    e.if_meets c.field-kind.ensures c.field-position.ensures c.field-value.ensures (record_or _ _ c.try_from.ensures c.unwrap_or.ensures c.in-If.is refl) c.compile_if_expression.ensures
+    e.if_meets c.field-kind.ensures c.field-position.ensures c.field-value.ensures
+    (record_or _ _ c.try_from.ensures c.unwrap_or.ensures c.in-If.is refl) c.compile_if_expression.ensures
 
 pub expressions::compile_expression-compile_expression-requires : goal.expressions::compile_expression-compile_expression-requires
 expressions::compile_expression-compile_expression-requires t c =
@@ -91,7 +102,8 @@ expressions::compile_expression-compile_expression-requires t c =
     let m = skip_more c.args.tree.now _ c.args.end O.inside O.next in omega (arith, m, O.here_is, c.loop-part.invariant.2, c.requires)
 
 pub expressions::compile_expression-overflow_add-n : goal.expressions::compile_expression-overflow_add-n
-expressions::compile_expression-overflow_add-n t c = let O = over c.next.ensures.steps c.loop-part.invariant.0 c.loop-part.invariant.1 c.in-Some.is in omega (arith, O.inside, O.here_is, c.loop-part.invariant.2, c.ranges)
+expressions::compile_expression-overflow_add-n t c = let O = over c.next.ensures.steps c.loop-part.invariant.0 c.loop-part.invariant.1 c.in-Some.is in omega
+    (arith, O.inside, O.here_is, c.loop-part.invariant.2, c.ranges)
 
 pub expressions::compile_expression-loop-part-preserved : goal.expressions::compile_expression-loop-part-preserved
 expressions::compile_expression-loop-part-preserved t c =
@@ -113,7 +125,8 @@ expressions::compile_expression-returns-in-None t c =
     e.list_meets c.field-kind.ensures c.field-position.ensures c.field-value.ensures (omega (arith, c.if-kind-lt-ARRAY.false))
     (no_record _ _ records.Infix c.try_from.ensures c.unwrap_or.ensures c.in_default.not-Infix)
     (no_record _ _ records.If c.try_from.ensures c.unwrap_or.ensures c.in_default.not-If)
-    (c.loop-part.invariant.3 _ _ (e.list_end (past c.next.ensures.steps c.loop-part.invariant.0 c.loop-part.invariant.1 c.in-None.is))) c.finish_expression.ensures
+    (c.loop-part.invariant.3 _ _ (e.list_end (past c.next.ensures.steps c.loop-part.invariant.0 c.loop-part.invariant.1 c.in-None.is)))
+    c.finish_expression.ensures
 
 pub expressions::compile_expression-returns-then-end-at : goal.expressions::compile_expression-returns-then-end-at
 expressions::compile_expression-returns-then-end-at t c = e.past_meets c.if-end-at.true
@@ -320,18 +333,24 @@ pub statements::compile_statement-returns : goal.statements::compile_statement-r
 statements::compile_statement-returns t c =
     elim c.match-kind.branch [
       | statements::compile_statement-in-ExpressionStatement w ↦
-          s.statement_expression c.deeper.ensures c.set_depth.ensures c.field-number.ensures (record_or _ _ c.try_from.ensures c.unwrap_or-kind.ensures w.in-ExpressionStatement.is refl) w.compile_expression.ensures
+          s.statement_expression c.deeper.ensures c.set_depth.ensures c.field-number.ensures
+          (record_or _ _ c.try_from.ensures c.unwrap_or-kind.ensures w.in-ExpressionStatement.is refl) w.compile_expression.ensures
           (rw (← w.memory-is, ← w.state-is) at w.emit_opcode_without_position.ensures)
       | statements::compile_statement-in-LocalStatement w ↦
-          s.statement_local c.deeper.ensures c.set_depth.ensures c.field-number.ensures (record_or _ _ c.try_from.ensures c.unwrap_or-kind.ensures w.in-LocalStatement.is refl) (rw (← w.memory-is, ← w.state-is) at w.compile_variables.ensures)
+          s.statement_local c.deeper.ensures c.set_depth.ensures c.field-number.ensures
+          (record_or _ _ c.try_from.ensures c.unwrap_or-kind.ensures w.in-LocalStatement.is refl)
+          (rw (← w.memory-is, ← w.state-is) at w.compile_variables.ensures)
       | statements::compile_statement-in-ForStatement w ↦
-          s.statement_for c.deeper.ensures c.set_depth.ensures c.field-number.ensures c.field-position.ensures (record_or _ _ c.try_from.ensures c.unwrap_or-kind.ensures w.in-ForStatement.is refl)
+          s.statement_for c.deeper.ensures c.set_depth.ensures c.field-number.ensures c.field-position.ensures
+          (record_or _ _ c.try_from.ensures c.unwrap_or-kind.ensures w.in-ForStatement.is refl)
           (rw (← w.memory-is, ← w.state-is) at w.compile_for_statement.ensures)
       | statements::compile_statement-in-BreakStatement w ↦
-          s.statement_break c.deeper.ensures c.set_depth.ensures c.field-number.ensures c.field-position.ensures (record_or _ _ c.try_from.ensures c.unwrap_or-kind.ensures w.in-BreakStatement.is refl)
+          s.statement_break c.deeper.ensures c.set_depth.ensures c.field-number.ensures c.field-position.ensures
+          (record_or _ _ c.try_from.ensures c.unwrap_or-kind.ensures w.in-BreakStatement.is refl)
           (break_acts c.field-position.result (rw (← w.memory-is, ← w.state-is) at w.emit_break.ensures))
       | statements::compile_statement-in-RescueStatement w ↦
-          s.statement_rescue c.deeper.ensures c.set_depth.ensures c.field-number.ensures c.field-position.ensures w.field-value.ensures (record_or _ _ c.try_from.ensures c.unwrap_or-kind.ensures w.in-RescueStatement.is refl)
+          s.statement_rescue c.deeper.ensures c.set_depth.ensures c.field-number.ensures c.field-position.ensures w.field-value.ensures
+          (record_or _ _ c.try_from.ensures c.unwrap_or-kind.ensures w.in-RescueStatement.is refl)
           (rw (← w.memory-is, ← w.state-is) at w.rescue.ensures)
       | statements::compile_statement-in_default w ↦
           let none = λ (k : RecordKind). no_record _ _ k c.try_from.ensures c.unwrap_or-kind.ensures in
@@ -367,7 +386,8 @@ statements::compile_statements-loop-statement-preserved t c =
     )
 
 pub statements::compile_statements-returns : goal.statements::compile_statements-returns
-statements::compile_statements-returns t c = c.loop-statement.invariant.3 _ (s.list_end (past c.next.ensures.steps c.loop-statement.invariant.0 c.loop-statement.invariant.1 c.in-None.is))
+statements::compile_statements-returns t c = c.loop-statement.invariant.3 _
+    (s.list_end (past c.next.ensures.steps c.loop-statement.invariant.0 c.loop-statement.invariant.1 c.in-None.is))
 
 pub statements::compile_statement-compile_variables-requires : goal.statements::compile_statement-compile_variables-requires
 statements::compile_statement-compile_variables-requires t c = omega (arith, c.if-end-at, c.requires)

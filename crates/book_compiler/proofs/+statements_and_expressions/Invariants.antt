@@ -27,7 +27,8 @@ abbrev pub decreases-expressions::compile_expression : goal.decreases-expression
 decreases-expressions::compile_expression l = (l.end - l.at) * 2
 
 abbrev pub invariant-expressions::compile_assign_expression_left_part-loop-part : goal.invariant-expressions::compile_assign_expression_left_part-loop-part
-invariant-expressions::compile_assign_expression_left_part-loop-part l = (l.part-iterator.tree.now ≡ l.tree) × (l.part-iterator.end ≡ l.end) × (l.at < l.part-iterator.at)
+invariant-expressions::compile_assign_expression_left_part-loop-part l = (l.part-iterator.tree.now ≡ l.tree) × (l.part-iterator.end ≡ l.end)
+    × (l.at < l.part-iterator.at)
     × ((m : Memory) → CompilesExpressions l.tree l.part-iterator.at l.end l.start l.count (laid l.state l.starts l.memory) m
     → CompilesExpressions l.tree (l.at + 1) l.end l.start l.count (laid l.initial.state l.starts l.initial.memory) m)
 
@@ -49,7 +50,8 @@ abbrev pub decreases-statements::compile_statements : goal.decreases-statements:
 decreases-statements::compile_statements l = (l.end - l.at) * 2 + 1
 
 abbrev pub invariant-statements::compile_statements-loop-statement : goal.invariant-statements::compile_statements-loop-statement
-invariant-statements::compile_statements-loop-statement l = (l.statement-iterator.tree.now ≡ l.tree) × (l.statement-iterator.end ≡ l.end) × (l.at ≤ l.statement-iterator.at)
+invariant-statements::compile_statements-loop-statement l = (l.statement-iterator.tree.now ≡ l.tree) × (l.statement-iterator.end ≡ l.end)
+    × (l.at ≤ l.statement-iterator.at)
     × ((m : Memory) → CompilesStatements l.tree l.statement-iterator.at l.end l.start l.count (laid l.state l.starts l.memory) m
     → CompilesStatements l.tree l.at l.end l.start l.count (laid l.initial.state l.starts l.initial.memory) m)
 

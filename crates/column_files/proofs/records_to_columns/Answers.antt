@@ -8,6 +8,8 @@ use Rattle.column_files.proofs.records_to_columns.Goals.{in-Ok, in-Err}
 
 pub returns : goal.returns
 returns c = elim c.match-written.branch [
-  | in-Ok w ↦ finished line_length _ _ _ c.write_columns-written.ensures (w.kept-is ∙ ap (kept_of line_length) (sym w.in-Ok.is)) c.clear_bytes.ensures (c.from.ensures ∙ ap reply_of (w.written-is ∙ sym w.in-Ok.is))
-  | in-Err w ↦ finished line_length _ _ _ c.write_columns-written.ensures (w.kept-is ∙ ap (kept_of line_length) (sym w.in-Err.is)) c.clear_bytes.ensures (c.from.ensures ∙ ap reply_of w.written-is)
+  | in-Ok w ↦ finished line_length _ _ _ c.write_columns-written.ensures (w.kept-is ∙ ap (kept_of line_length) (sym w.in-Ok.is)) c.clear_bytes.ensures
+      (c.from.ensures ∙ ap reply_of (w.written-is ∙ sym w.in-Ok.is))
+  | in-Err w ↦ finished line_length _ _ _ c.write_columns-written.ensures (w.kept-is ∙ ap (kept_of line_length) (sym w.in-Err.is)) c.clear_bytes.ensures
+      (c.from.ensures ∙ ap reply_of w.written-is)
 ]

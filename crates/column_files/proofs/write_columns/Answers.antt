@@ -15,5 +15,6 @@ returns-then-out-records c =
 
 pub returns : goal.returns
 returns c =
-    columns_done c.args.tree.now c.args.out.now c.write_records.new.out (sym c.check.ensures ∙ c.in_ok-check.was) c.if-out-records.false c.write_records.auto.out
+    columns_done c.args.tree.now c.args.out.now c.write_records.new.out (sym c.check.ensures
+    ∙ c.in_ok-check.was) c.if-out-records.false c.write_records.auto.out
     c.write_records.ensures

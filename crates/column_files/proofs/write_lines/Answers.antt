@@ -17,7 +17,8 @@ loop-i-preserved c = record {
 
 pub returns-in_default : goal.returns-in_default
 returns-in_default c =
-    rw c.at.ensures (lines_bad c.args.file.now c.args.out.now c.loop-i.out c.loop-i.i c.loop-i.invariant.bad c.loop-i-test.true c.line_at.ensures c.in_default.is)
+    rw c.at.ensures (lines_bad c.args.file.now c.args.out.now c.loop-i.out c.loop-i.i c.loop-i.invariant.bad c.loop-i-test.true c.line_at.ensures
+    c.in_default.is)
 
 pub returns : goal.returns
 returns c =

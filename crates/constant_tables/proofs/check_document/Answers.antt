@@ -22,4 +22,5 @@ loop-i-preserved c = other_next c.args.tree.now c.loop-i.i c.loop-i.invariant c.
 
 pub returns : goal.returns
 returns c =
-    rows_fine c.args.tree.now c.check.ensures c.in_ok-check.was (other_none c.args.tree.now c.loop-i.i c.loop-i.invariant c.loop-i-test.false) c.loop-i-test.false
+    rows_fine c.args.tree.now c.check.ensures c.in_ok-check.was (other_none c.args.tree.now c.loop-i.i c.loop-i.invariant c.loop-i-test.false)
+    c.loop-i-test.false

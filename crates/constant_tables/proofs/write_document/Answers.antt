@@ -44,5 +44,6 @@ returns c =
     let long = c.write_definitions.auto.out ∙ c.write_entry.auto.area in
     table_done c.args.table.now c.write_definitions.new.out c.args.file (length c.args.out.now) long
     (rows_good c.args.table.now c.args.file good (omega (arith, c.line_count-lines.ensures, c.if-lines-gt-MOST_LINES.false))
-    (sym c.is_text.ensures ∙ c.if-not-is_text.false)) c.args.out.now c.write_entry.new.area c.line_count-lines.ensures (omega (arith, c.if-out-records.false, long))
+    (sym c.is_text.ensures ∙ c.if-not-is_text.false)) c.args.out.now c.write_entry.new.area c.line_count-lines.ensures
+    (omega (arith, c.if-out-records.false, long))
     c.write_entry.auto.area refl c.write_entry.ensures c.write_definitions.ensures c.in_ok-write_definitions.was

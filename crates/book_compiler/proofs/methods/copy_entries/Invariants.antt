@@ -9,5 +9,6 @@ use Rattle.book_compiler.proofs.methods.copy_entries.Given as goal
 abbrev pub invariant-loop-i : goal.invariant-loop-i
 invariant-loop-i l = (length l.methods ≡ length l.initial.methods) × SameCounts l.initial.book l.book × (StoodFirst l.initial.book → (s' : Book)
     (t' : List ℕ) → CopiesFrom l.source l.target l.i l.count l.book (methods_said l.initial.book l.methods) s' t'
-    → CopiesFrom l.source l.target 0 l.count l.initial.book (methods_said l.initial.book l.initial.methods) s' t') × SparesMethods l.initial.book l.initial.methods l.book
+    → CopiesFrom l.source l.target 0 l.count l.initial.book (methods_said l.initial.book l.initial.methods) s' t')
+    × SparesMethods l.initial.book l.initial.methods l.book
     l.methods

@@ -37,7 +37,8 @@ loop-document-preserved c =
 
 pub returns : goal.returns
 returns c =
-    let q : c.args.end ≤ c.loop-document.document-iterator.at = past c.next.ensures.steps c.loop-document.invariant.0 c.loop-document.invariant.1 c.in-None.is in
+    let q : c.args.end ≤ c.loop-document.document-iterator.at = past c.next.ensures.steps c.loop-document.invariant.0 c.loop-document.invariant.1
+    c.in-None.is in
     place_end c.args.tree.now c.args.end c.args.end c.args.file c.loop-document.invariant.2
     (λ s. let S = c.loop-document.invariant.3 s in
     let e : c.loop-document.document-iterator.at ≡ c.args.end = omega (arith, q, S.inside) in

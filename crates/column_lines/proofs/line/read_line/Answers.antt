@@ -5,7 +5,8 @@ use Rattle.column_lines.specs.Form.{line_width, column_width, line_place, column
 use Rattle.column_lines.proofs.Lines.{line_length_lem, line_newline, kind_off, span_off, row_off, column_off, value_off, line_spelled}
 use Rattle.column_lines.proofs.Again.{field_below}
 use Rattle.column_lines.proofs.line.read_line.Goals as goal
-use Rattle.column_lines.proofs.line.read_line.Goals.{then-line-ne-LINE_LENGTH-via-then-line-ne-LINE_LENGTH, then-line-ne-LINE_LENGTH-via-else-line-ne-LINE_LENGTH+then-line-ne-NEWLINE}
+use Rattle.column_lines.proofs.line.read_line.Goals.{then-line-ne-LINE_LENGTH-via-then-line-ne-LINE_LENGTH}
+use Rattle.column_lines.proofs.line.read_line.Goals.{then-line-ne-LINE_LENGTH-via-else-line-ne-LINE_LENGTH+then-line-ne-NEWLINE}
 
 pub returns-then-line-ne-LINE_LENGTH : goal.returns-then-line-ne-LINE_LENGTH
 returns-then-line-ne-LINE_LENGTH c = elim c.then-line-ne-LINE_LENGTH.branch [

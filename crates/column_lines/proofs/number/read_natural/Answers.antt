@@ -12,12 +12,14 @@ pub returns-then-bytes-eq1 : goal.returns-then-bytes-eq1
 returns-then-bytes-eq1 c = zero_alone c.args.signed c.args.bytes.now c.if-bytes-eq-ZERO.true c.if-bytes-eq1.true
 
 pub returns-else-bytes-eq1 : goal.returns-else-bytes-eq1
-returns-else-bytes-eq1 c = zero_more c.args.signed c.args.bytes.now (some_bytes _ c.is_empty.ensures c.if-is_empty.false) c.if-bytes-eq-ZERO.true c.if-bytes-eq1.false
+returns-else-bytes-eq1 c = zero_more c.args.signed c.args.bytes.now (some_bytes _ c.is_empty.ensures c.if-is_empty.false) c.if-bytes-eq-ZERO.true
+    c.if-bytes-eq1.false
 
 pub returns-in_err-word : goal.returns-in_err-word
 returns-in_err-word c =
     let large = c.in_err-word.ensures in
-    c.from_residual.ensures ∙ sym (digits_start c.args.signed false c.args.bytes.now (some_bytes _ c.is_empty.ensures c.if-is_empty.false) c.if-bytes-eq-ZERO.false
+    c.from_residual.ensures ∙ sym (digits_start c.args.signed false c.args.bytes.now
+    (some_bytes _ c.is_empty.ensures c.if-is_empty.false) c.if-bytes-eq-ZERO.false
     ∙ large c.args.signed false (omega (arith, most_small c.args.signed)))
 
 pub returns : goal.returns
@@ -26,4 +28,5 @@ returns c =
     let m : c.if-signed.most ≡ most_of c.args.signed =
     elim c.if-signed.branch [ then-signed w ↦ w.most-is ∙ rw w.if-signed.true | else-signed w ↦ w.most-is ∙ rw w.if-signed.false ] in
     c.then_some.ensures ∙ natural_word c.args.signed c.in_ok-word.word c.if-signed.most m
-    ∙ sym (digits_start c.args.signed false c.args.bytes.now (some_bytes _ c.is_empty.ensures c.if-is_empty.false) c.if-bytes-eq-ZERO.false ∙ read.1 c.args.signed false)
+    ∙ sym (digits_start c.args.signed false c.args.bytes.now (some_bytes _ c.is_empty.ensures c.if-is_empty.false) c.if-bytes-eq-ZERO.false
+    ∙ read.1 c.args.signed false)

@@ -15,5 +15,6 @@ pub returns : goal.returns
 unfolding entry_field
 returns c =
     c.unwrap_or.ensures ∙ numbered c.args.errors.now (length c.args.errors.now / 4) (position_from_yields_List (no_number c.args.errors.now) _ _
-    c.position-first.result c.position-first.ensures.ran (YieldsList-from_range 0 (length c.args.errors.now / 4) (length c.args.errors.now / 4) (cc) (omega arith))
+    c.position-first.result c.position-first.ensures.ran
+    (YieldsList-from_range 0 (length c.args.errors.now / 4) (length c.args.errors.now / 4) (cc) (omega arith))
     (λ x b q k. search (rules, tests)))

@@ -7,7 +7,8 @@ use Rattle.listings.proofs.Walking.{left_on, left_none, left_stopped, place_refu
 use Rattle.listings.proofs.sections.write_section.Goals as goal
 
 pub returns-in_err-at : goal.returns-in_err-at
-returns-in_err-at c = place_refused (section c.args.kind c.args.area.now c.args.n) c.args.place c.from_residual.result c.args.out.now c.in_err-at.was (search rules)
+returns-in_err-at c = place_refused (section c.args.kind c.args.area.now c.args.n) c.args.place c.from_residual.result c.args.out.now c.in_err-at.was
+    (search rules)
 
 pub returns-in_err-at-2 : goal.returns-in_err-at-2
 returns-in_err-at-2 c =
