@@ -36,6 +36,17 @@ class Faults(unittest.TestCase):
     def test_a_lent_slice_left_out(self):
         self.assertIn("says nothing of a at exit", said("pub fn f(a: &mut [u64]) -> u64 ensures { result ≡ first a.old } {"))
 
+    def test_a_lent_self_left_out(self):
+        self.assertEqual(said("pub fn f(&mut self) ensures { held self.old ≡ held self.old } {"), ["says nothing of self at exit"])
+        self.assertEqual(said("pub fn f(&mut self) ensures { self.new ≡ held self.old } {"), [])
+
+    def test_a_lent_slice_left_out_beside_self(self):
+        self.assertEqual(said("pub fn f(&mut self, a: &mut [u64]) ensures { self.new ≡ held self.old a.old } {"), ["says nothing of a at exit"])
+
+    def test_what_a_new_value_keeps_is_apart(self):
+        self.assertEqual(said("pub fn new(a: &'a mut [u64]) -> W<'a> ensures { result ≡ begun a.entry } {"), [])
+        self.assertIn("says nothing of a at exit", said("pub fn new(a: &mut [u64]) -> usize ensures { result ≡ first a.old } {"))
+
     def test_a_reply_left_out(self):
         self.assertIn("equates something else than its reply", said("pub fn f(a: &mut [u64]) -> u64 ensures { a.new ≡ a.old } {"))
 
@@ -44,6 +55,14 @@ class Faults(unittest.TestCase):
 
     def test_a_relation_equates_nothing(self):
         self.assertEqual(len(said("pub fn f(a: &mut [u64]) ensures { Relates a.old a.new } {")), 1)
+
+
+class Conversions(unittest.TestCase):
+    def test_a_conversion_promises(self):
+        told = "impl From<u64> for K {\n    ghost from_gives = { λ n k. k ≡ of n };\n\n    fn from(n: u64) -> K {\n        K\n    }\n}\n"
+        self.assertEqual(list(tool.conversions(told)), [])
+        untold = "// K\nimpl TryFrom<u64> for K {\n    type Error = E;\n\n    fn try_from(n: u64) -> Result<K, E> {\n        Ok(K)\n    }\n}\n" + told
+        self.assertEqual(list(tool.conversions(untold)), [(2, "impl TryFrom<u64> for K {")])
 
 
 class Repository(unittest.TestCase):

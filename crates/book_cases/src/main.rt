@@ -6,6 +6,8 @@
 // end.
 #![tactic(auto)]
 
+ghost use Rattle.std.specs.Prelude.{◌≤◌};
+
 use book_compiler::{commit, compile, lay_on, trial};
 use case_numbers::{parse, totals_of};
 use reading::read_full;
@@ -287,6 +289,21 @@ fn judge(
     }
 }
 
+// A memory of so many words. It has a function of its own: one pays for all its words at entry, which a case that is none would pay too.
+fn lend(
+    rt: &impl Print,
+    call: u64,
+    tree: &[u64],
+    size: usize,
+    lengths: [usize; 12],
+    rest: &[u64],
+) -> io::Result<bool>
+    requires { size ≤ 6144 }
+{
+    let mut memory = [STALE; MOST_MEMORY];
+    judge(rt, call, tree, &mut memory[..size], lengths, rest)
+}
+
 // The numbers: the call, the words of the memory, the bundle as a list, the lengths, and what `judge` takes.
 fn case(rt: &impl Print, numbers: &[u64]) -> io::Result<bool> {
     let Some((header, rest)) = numbers.split_first_chunk::<2>() else {
@@ -303,9 +320,8 @@ fn case(rt: &impl Print, numbers: &[u64]) -> io::Result<bool> {
         println!(rt; "  no room")?;
         return Ok(false);
     }
-    let mut memory = [STALE; MOST_MEMORY];
     let lengths = lengths.map(|length| length as usize);
-    judge(rt, call, bundle.stored, &mut memory[..size], lengths, rest)
+    lend(rt, call, bundle.stored, size, lengths, rest)
 }
 
 // Reads a case, given the bytes of its name and of its numbers, and judges it.

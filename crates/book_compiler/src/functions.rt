@@ -7,13 +7,15 @@ ghost use Rattle.compiler_laws.specs.MakingFunctions.{instance_by, ParametersEnd
 ghost use Rattle.compiler_laws.specs.AddingFunctions.{AddsFunction};
 ghost use Rattle.book_compiler.specs.Represents.{laid};
 ghost use Rattle.book_compiler.specs.Leaves.{OnCode, OnNames};
+ghost use Rattle.book_compiler.specs.Members.{CompilesStatements};
 ghost use Rattle.book_compiler.specs.RepresentsBook.{book_laid};
 ghost use Rattle.book_compiler.specs.FunctionSteps.{CompilesParameter, CompilesParameters, CompilesBase, MakesFunction, AddsBookFunction};
 ghost use Rattle.book_compiler.specs.FunctionSteps.{SparesFunctions, DropsBookFunction, AddsPlainFunction};
 ghost use Rattle.book_compiler.specs.DefinitionSteps.{CompilesFunctionDefinition, ImplementsFunction};
 
 use crate::lent::lend_with;
-use crate::statements::compile_statements;
+use crate::statements::compile_statement;
+use crate::subtree::Subtrees;
 use crate::{book, function_state, locals};
 use building::context;
 use building::function_state::FunctionState;
@@ -99,6 +101,34 @@ fn parameters_end(tree: &[u64], at: usize, end: usize) -> usize
         i += 1;
     }
     i
+}
+
+// The statements from a place up to the end.
+fn compile_statements(
+    tree: &[u64],
+    at: usize,
+    end: usize,
+    starts: &[usize; 15],
+    memory: &mut [u64],
+    state: &mut FunctionState,
+    start: usize,
+    count: usize,
+)
+    ensures { CompilesStatements tree.now at end start count (laid state.old starts.now memory.old)
+        (laid state.new starts.now memory.new) }
+{
+    for statement in (Subtrees { tree, at, end }) {
+        compile_statement(
+            tree,
+            statement.at,
+            statement.end,
+            starts,
+            memory,
+            state,
+            start,
+            count,
+        );
+    }
 }
 
 // `compile_function_definition_base`, in a state that begins a function.

@@ -242,6 +242,16 @@ fn reach(
     grew
 }
 
+// No `copy_from_slice`: the static library would need `memmove` for a length that is known when it runs.
+fn copy(from: &[u64], to: &mut [u64])
+    requires { length from.now ≡ length to.old }
+    ensures { to.new ≡ from.now }
+{
+    for i in 0..from.len() {
+        to[i] = from[i];
+    }
+}
+
 // The books needed, from three empty sets: as many rounds as there are documents, or until one finds nothing new. A document is read in one round, the next
 // after it was found.
 pub(crate) fn needed(
@@ -262,8 +272,8 @@ pub(crate) fn needed(
         if !reach(tree, end, standing, read, set, next) {
             return;
         }
-        read.copy_from_slice(set);
-        set.copy_from_slice(next);
+        copy(set, read);
+        copy(next, set);
     }
 }
 
@@ -355,6 +365,9 @@ pub(crate) fn take_books(
     ensures { TakesBooks tree.now end needed.now full stand books.old result books.new }
 {
     let mut t = taking::Taken { full, count: stand };
+    if full != 0 {
+        return t;
+    }
     let mut place = Place {
         at: 0,
         above: SET_SIZE,
@@ -364,9 +377,6 @@ pub(crate) fn take_books(
         from: 0,
     };
     for file in members {
-        if t.full != 0 {
-            return t;
-        }
         place = find_document(tree, end, place, file);
         taking::take(
             books,
@@ -375,6 +385,9 @@ pub(crate) fn take_books(
             &mut t.count,
             [file * BOOK_UNIT + place.at as u64],
         );
+        if t.full != 0 {
+            return t;
+        }
     }
     t
 }

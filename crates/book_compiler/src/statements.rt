@@ -4,7 +4,7 @@ ghost use Rattle.definition.specs.Compiler.{compile_rescue};
 ghost use Rattle.compiler_laws.specs.ForStatements.{found_or_zero};
 ghost use Rattle.book_compiler.specs.Represents.{laid, Simulates};
 ghost use Rattle.book_compiler.specs.Members.{token, LoopStarts, LoopHead, LoopName, LoopEnd};
-ghost use Rattle.book_compiler.specs.Members.{CompilesStatement, CompilesStatements, CompilesVariables, CompilesBlock, CompilesForStatement};
+ghost use Rattle.book_compiler.specs.Members.{CompilesStatement, CompilesVariables, CompilesBlock, CompilesForStatement};
 
 use crate::expressions::compile_expression;
 use crate::subtree::{Subtrees, skip};
@@ -246,36 +246,8 @@ fn compile_variables(
     }
 }
 
-// The statements from a place up to the end.
-#[cycle(statements_and_expressions)]
-pub(crate) fn compile_statements(
-    tree: &[u64],
-    at: usize,
-    end: usize,
-    starts: &[usize; 15],
-    memory: &mut [u64],
-    state: &mut FunctionState,
-    start: usize,
-    count: usize,
-)
-    ensures { CompilesStatements tree.now at end start count (laid state.old starts.now memory.old)
-        (laid state.new starts.now memory.new) }
-{
-    for statement in (Subtrees { tree, at, end }) {
-        compile_statement(
-            tree,
-            statement.at,
-            statement.end,
-            starts,
-            memory,
-            state,
-            start,
-            count,
-        );
-    }
-}
-
-// A part of an if: its statements in a scope, then their value; null where there is no part.
+// A part of an if: its statements in a scope, then their value; null where there is no part. The loop over statements stands here and at the for: a member of
+// the cycle that had it would call with the span that it was called with.
 #[cycle(statements_and_expressions)]
 pub(crate) fn compile_block(
     tree: &[u64],
@@ -293,7 +265,22 @@ pub(crate) fn compile_block(
     if at < end {
         let around = state.scope_base;
         state.enter_scope();
-        compile_statements(tree, at + 1, end, starts, memory, state, start, count);
+        for statement in (Subtrees {
+            tree,
+            at: at + 1,
+            end,
+        }) {
+            compile_statement(
+                tree,
+                statement.at,
+                statement.end,
+                starts,
+                memory,
+                state,
+                start,
+                count,
+            );
+        }
         function_state::exit_scope(starts, memory, state, around);
         function_state::remove_pop_or_push_null(starts, memory, state);
         return;
@@ -338,6 +325,21 @@ fn compile_for_statement(
     );
     let first = entry.first;
     let exit = entry.exit;
-    compile_statements(tree, body, end, starts, memory, state, start, count);
+    for statement in (Subtrees {
+        tree,
+        at: body,
+        end,
+    }) {
+        compile_statement(
+            tree,
+            statement.at,
+            statement.end,
+            starts,
+            memory,
+            state,
+            start,
+            count,
+        );
+    }
     end_loop(starts, memory, state, around, first, exit);
 }

@@ -11,6 +11,7 @@ use lib.ListN.{length, drop, get_or, set, length-set, drop_of_length-le}
 use lib.Seq.{drop-cons}
 use lib.Dec.{ltb}
 use borrow.Author.Tests.{ltb-true, ltb-false}
+use Rattle.std.proofs.Common.{Option, Some, None, is_some, unwrap_or}
 use Rattle.case_numbers.specs.Numbers.{zero_digit, is_digit, longer_by, ended, numbers_at, numbers_from, numbers_in, overwritten, Parsed}
 
 -- numbers over words from a place on
@@ -53,6 +54,14 @@ has_place begun count words = begun && ltb count (length words)
 abbrev pub HasPut : Bool → ℕ → ℕ → List ℕ → List ℕ → ℕ → Type 0
 HasPut begun count n words after r =
     (r ≡ cond (has_place begun count words) (count + 1) count) × (after ≡ cond (has_place begun count words) (set words count n) words)
+
+-- where no number has begun `put` changes nothing
+pub nothing_put : (begun : Bool) (count n : ℕ) (words : List ℕ) → begun ≡ false → HasPut begun count n words words count
+nothing_put begun count n words e = rw e (refl, refl)
+
+pub nothing_begun : (s : Option ℕ) → is_some s ≡ false → (is_some s ≡ false) × (unwrap_or s 0 ≡ 0)
+nothing_begun None h = (refl, refl)
+nothing_begun (Some n) h = absurd (let z : ◌≡◌ {A = ℕ} 0 1 = ap (λ (b : Bool). cond b 0 1) h in omega arith)
 
 module _ (text entry : List ℕ) where
   pub put_number_lem : (begun : Bool) (count n : ℕ) (ns words after : List ℕ) (r : ℕ) → HasPut begun count n words after r

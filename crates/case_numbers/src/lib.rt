@@ -35,6 +35,10 @@ fn longer(number: u64, digit: u64) -> u64
     requires { digit ≤ 9 }
     ensures { result ≡ longer_by number digit }
 {
+    // One comparison at nearly every digit.
+    if number < u64::MAX / 10 {
+        return number * 10 + digit;
+    }
     number.saturating_mul(10).saturating_add(digit)
 }
 
@@ -61,7 +65,7 @@ pub fn parse(text: &[u8], words: &mut [u64]) -> usize
     for byte in text {
         if byte.is_ascii_digit() {
             number = Some(longer(number.unwrap_or(0), (*byte - b'0') as u64));
-        } else {
+        } else if number.is_some() {
             count = put(words, count, number);
             number = None;
         }

@@ -59,7 +59,11 @@ impl Digits for u64 {
         0
     }
 
+    // Below a tenth of the greatest there is room for any digit: one comparison at nearly every digit, where the checked steps take two tests.
     fn with_digit(self, digit: u8) -> Option<u64> {
+        if self < u64::MAX / 10 {
+            return Some(self * 10 + u64::from(digit));
+        }
         self.checked_mul(10)?.checked_add(u64::from(digit))
     }
 
@@ -85,6 +89,9 @@ impl Digits for i64 {
     }
 
     fn with_digit(self, digit: u8) -> Option<i64> {
+        if self > i64::MIN / 10 {
+            return Some(self * 10 - i64::from(digit));
+        }
         self.checked_mul(10)?.checked_sub(i64::from(digit))
     }
 

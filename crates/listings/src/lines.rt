@@ -52,10 +52,30 @@ const ERROR_KIND: usize = 2;
 
 const ERROR_VALUE: usize = 3;
 
-// The numbers of the two sections that list no area: `entry_line` and `is_listed` of `Sections.antt` have no case for them.
+// The numbers of 01's sections. The first two list no area: `entry_line` and `is_listed` of `Sections.antt` have no case for them.
 pub const REFUSAL: u64 = 0;
 
 pub const TOTALS: u64 = 1;
+
+pub const FUNCTION: u64 = 2;
+
+pub const INSTRUCTION: u64 = 3;
+
+pub const CONSTANT: u64 = 4;
+
+pub const MODEL: u64 = 5;
+
+pub const PROPERTY: u64 = 6;
+
+pub const METHOD: u64 = 7;
+
+pub const CONTEXT_VALUE: u64 = 8;
+
+pub const GLOBAL: u64 = 9;
+
+pub const FILE: u64 = 10;
+
+pub const ERROR: u64 = 11;
 
 // The sections that list the entries of one area; of instructions, those of one function. No closure stands for one, since the promise of `write_section`
 // names the section.
@@ -79,16 +99,16 @@ impl Section {
         ensures { result ≡ number_of self }
     {
         match self {
-            Section::Functions => 2,
-            Section::Instructions(_) => 3,
-            Section::Constants => 4,
-            Section::Models => 5,
-            Section::Properties => 6,
-            Section::Methods => 7,
-            Section::ContextValues => 8,
-            Section::Globals => 9,
-            Section::Files => 10,
-            Section::Errors => 11,
+            Section::Functions => FUNCTION,
+            Section::Instructions(_) => INSTRUCTION,
+            Section::Constants => CONSTANT,
+            Section::Models => MODEL,
+            Section::Properties => PROPERTY,
+            Section::Methods => METHOD,
+            Section::ContextValues => CONTEXT_VALUE,
+            Section::Globals => GLOBAL,
+            Section::Files => FILE,
+            Section::Errors => ERROR,
         }
     }
 }

@@ -13,18 +13,23 @@ fn is_below(methods: &[u64], i: usize, j: usize) -> bool
 {
     let model = entry_word(methods, METHOD_WORDS, i, METHOD_MODEL);
     let other = entry_word(methods, METHOD_WORDS, j, METHOD_MODEL);
-    let name = entry_word(methods, METHOD_WORDS, i, METHOD_NAME);
-    let other_name = entry_word(methods, METHOD_WORDS, j, METHOD_NAME);
-    (model, name) < (other, other_name)
+    model < other
+        || (model == other
+            && entry_word(methods, METHOD_WORDS, i, METHOD_NAME)
+                < entry_word(methods, METHOD_WORDS, j, METHOD_NAME))
 }
 
 // The least so far, with entry i.
 fn lesser_of(methods: &[u64], last: Option<usize>, least: Option<usize>, i: usize) -> Option<usize>
     ensures { result ≡ lesser methods.now last least i }
 {
-    let is_above = last.is_none_or(|j| is_below(methods, j, i));
-    let is_less = least.is_none_or(|j| is_below(methods, i, j));
-    if is_above && is_less { Some(i) } else { least }
+    if last.is_none_or(|j| is_below(methods, j, i))
+        && least.is_none_or(|j| is_below(methods, i, j))
+    {
+        Some(i)
+    } else {
+        least
+    }
 }
 
 // The least of n entries above the one that was listed last.

@@ -46,7 +46,7 @@ fn case(rt: &impl Print, part: Option<Part>, sizes: &[u8], text: &[u8]) -> io::R
     parse(sizes, &mut numbers);
     let [size, room] = numbers.map(|number| number as usize);
     if size >= text.len() {
-        print!(rt; " too short\n")?;
+        rt.write_all(b" too short\n")?;
         return Ok(text.len());
     }
     let bytes = &text[..size];
@@ -54,7 +54,7 @@ fn case(rt: &impl Print, part: Option<Part>, sizes: &[u8], text: &[u8]) -> io::R
         Some(Part::Files) => files::case(rt, bytes, room)?,
         Some(Part::Records) => records::case(rt, bytes)?,
         Some(Part::Columns) => columns::case(rt, bytes)?,
-        None => print!(rt; " no part\n")?,
+        None => rt.write_all(b" no part\n")?,
     }
     Ok(size + 1)
 }
@@ -73,15 +73,15 @@ fn cases(rt: &impl Print, text: &[u8]) -> io::Result<()> {
         at = end + 1;
         if colon < line.len() {
             rt.write_all(&line[..colon])?;
-            print!(rt; ":")?;
+            rt.write_all(b":")?;
             at += case(rt, part, &line[colon..], &text[at..])?;
         } else {
             part = Part::named(line);
             if part.is_none() {
-                print!(rt; "unknown ")?;
+                rt.write_all(b"unknown ")?;
             }
             rt.write_all(line)?;
-            println!(rt; "")?;
+            rt.write_all(b"\n")?;
         }
     }
     Ok(())

@@ -10,6 +10,7 @@ mod shapes;
 mod slots;
 mod tables;
 
+use crate::programs::Program;
 use case_numbers::{find, parse, same};
 use reading::read_full;
 use std::io;
@@ -49,12 +50,7 @@ impl Part {
     }
 }
 
-fn case(
-    rt: &impl Print,
-    part: Option<Part>,
-    text: &[u8],
-    program: &mut Vec<u64>,
-) -> io::Result<()> {
+fn case(rt: &impl Print, part: Option<Part>, text: &[u8], program: &mut Program) -> io::Result<()> {
     let mut numbers = [0; MOST_NUMBERS];
     let count = parse(text, &mut numbers);
     let numbers = &numbers[..count];
@@ -64,27 +60,27 @@ fn case(
         Some(Part::Programs) => programs::case(rt, numbers, program),
         Some(Part::Tables) => tables::case(rt, numbers),
         Some(Part::Errors) => errors::case(rt, numbers),
-        None => print!(rt; " no part"),
+        None => rt.write_all(b" no part"),
     }
 }
 
-fn cases(rt: &impl Print, text: &[u8], program: &mut Vec<u64>) -> io::Result<()> {
+fn cases(rt: &impl Print, text: &[u8], program: &mut Program) -> io::Result<()> {
     let mut part = None;
     for line in text.split_inclusive(|byte| *byte == b'\n') {
         let line = line.strip_suffix(b"\n").unwrap_or(line);
         let colon = find(line, 0, b':');
         if colon < line.len() {
             rt.write_all(&line[..colon])?;
-            print!(rt; ":")?;
+            rt.write_all(b":")?;
             case(rt, part, &line[colon..], program)?;
         } else {
             part = Part::named(line);
             if part.is_none() {
-                print!(rt; "unknown ")?;
+                rt.write_all(b"unknown ")?;
             }
             rt.write_all(line)?;
         }
-        println!(rt; "")?;
+        rt.write_all(b"\n")?;
     }
     Ok(())
 }
@@ -92,6 +88,6 @@ fn cases(rt: &impl Print, text: &[u8], program: &mut Vec<u64>) -> io::Result<()>
 fn main(rt: HostRuntime) -> io::Result<()> {
     let mut text = vec![in rt.alloc(); 0; MOST_BYTES]?;
     let n = read_full(&mut rt.stdin(), &mut text)?;
-    let mut program = vec![in rt.alloc()]?;
+    let mut program = Program::none();
     cases(&rt, &text[..n], &mut program)
 }

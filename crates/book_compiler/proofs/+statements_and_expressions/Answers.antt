@@ -229,13 +229,33 @@ expressions::compile_infix_expression-returns-then-end-middle t c = i.infix_shor
 pub expressions::compile_infix_expression-returns-then-end-at : goal.expressions::compile_infix_expression-returns-then-end-at
 expressions::compile_infix_expression-returns-then-end-at t c = i.infix_past c.if-end-at.true
 
-pub statements::compile_block-compile_statements-requires : goal.statements::compile_block-compile_statements-requires
-statements::compile_block-compile_statements-requires t c = omega (arith, c.if-at-end.true, c.requires)
+pub statements::compile_block-compile_statement-requires : goal.statements::compile_block-compile_statement-requires
+statements::compile_block-compile_statement-requires t c =
+    let O = over c.next.ensures.steps c.loop-statement.invariant.0 c.loop-statement.invariant.1 c.in-Some.is in
+    let m = skip_more c.args.tree.now _ c.args.end O.inside O.next in
+    omega (arith, m, O.here_is, c.loop-statement.invariant.2, c.requires)
+
+pub statements::compile_block-loop-statement-preserved : goal.statements::compile_block-loop-statement-preserved
+statements::compile_block-loop-statement-preserved t c =
+    let O = over c.next.ensures.steps c.loop-statement.invariant.0 c.loop-statement.invariant.1 c.in-Some.is in
+    let m = skip_more c.args.tree.now _ c.args.end O.inside O.next in (
+      same_tree c.next.ensures.steps c.loop-statement.invariant.0 c.loop-statement.invariant.1,
+      same_end c.next.ensures.steps c.loop-statement.invariant.0 c.loop-statement.invariant.1,
+      omega (arith, m, O.here_is, O.goes_is, c.loop-statement.invariant.2),
+      λ m h. c.loop-statement.invariant.3 m
+          (back O (λ (n : ℕ). CompilesStatements c.args.tree.now n c.args.end c.args.start c.args.count
+          (laid c.loop-statement.state c.args.starts.now c.loop-statement.memory) m)
+          (λ (n : ℕ). CompilesStatements c.args.tree.now n c.args.end c.args.start c.args.count
+          (laid c.compile_statement.new.state c.args.starts.now c.compile_statement.new.memory) m)
+          (s.list_more O.inside O.next c.compile_statement.ensures) h),
+    )
 
 pub statements::compile_block-returns-then-at-end : goal.statements::compile_block-returns-then-at-end
 statements::compile_block-returns-then-at-end t c =
-    s.block_meets c.if-at-end.true c.enter_scope.ensures c.compile_statements.ensures c.exit_scope.ensures
-    c.remove_pop_or_push_null.ensures
+    s.block_meets c.if-at-end.true c.enter_scope.ensures
+    (c.loop-statement.invariant.3 _
+    (s.list_end (past c.next.ensures.steps c.loop-statement.invariant.0 c.loop-statement.invariant.1 c.in-None.is)))
+    c.exit_scope.ensures c.remove_pop_or_push_null.ensures
 
 pub statements::compile_block-returns : goal.statements::compile_block-returns
 statements::compile_block-returns t c =
@@ -246,15 +266,38 @@ statements::compile_for_statement-compile_expression-requires t c =
     let b = skip_inside c.args.tree.now (c.args.at + 1) c.args.end (omega (arith, c.if-end-at.false)) c.skip-body.ensures in
     omega (arith, b, c.if-end-at.false, c.requires)
 
-pub statements::compile_for_statement-compile_statements-requires : goal.statements::compile_for_statement-compile_statements-requires
-statements::compile_for_statement-compile_statements-requires t c =
+pub statements::compile_for_statement-loop-statement-init : goal.statements::compile_for_statement-loop-statement-init
+statements::compile_for_statement-loop-statement-init t c =
     let b = skip_inside c.args.tree.now (c.args.at + 1) c.args.end (omega (arith, c.if-end-at.false)) c.skip-body.ensures in
-    omega (arith, b, c.if-end-at.false, c.requires)
+    rw c.into_iter-statement-iterator.ensures.into_iter_gives (refl, refl, omega (arith, b), λ m h. h)
+
+pub statements::compile_for_statement-compile_statement-requires : goal.statements::compile_for_statement-compile_statement-requires
+statements::compile_for_statement-compile_statement-requires t c =
+    let O = over c.next.ensures.steps c.loop-statement.invariant.0 c.loop-statement.invariant.1 c.in-Some.is in
+    let m = skip_more c.args.tree.now _ c.args.end O.inside O.next in
+    omega (arith, m, O.here_is, c.loop-statement.invariant.2, c.requires)
+
+pub statements::compile_for_statement-loop-statement-preserved : goal.statements::compile_for_statement-loop-statement-preserved
+statements::compile_for_statement-loop-statement-preserved t c =
+    let O = over c.next.ensures.steps c.loop-statement.invariant.0 c.loop-statement.invariant.1 c.in-Some.is in
+    let m = skip_more c.args.tree.now _ c.args.end O.inside O.next in (
+      same_tree c.next.ensures.steps c.loop-statement.invariant.0 c.loop-statement.invariant.1,
+      same_end c.next.ensures.steps c.loop-statement.invariant.0 c.loop-statement.invariant.1,
+      omega (arith, m, O.here_is, O.goes_is, c.loop-statement.invariant.2),
+      λ m h. c.loop-statement.invariant.3 m
+          (back O (λ (n : ℕ). CompilesStatements c.args.tree.now n c.args.end c.args.start c.args.count
+          (laid c.loop-statement.state c.args.starts.now c.loop-statement.memory) m)
+          (λ (n : ℕ). CompilesStatements c.args.tree.now n c.args.end c.args.start c.args.count
+          (laid c.compile_statement.new.state c.args.starts.now c.compile_statement.new.memory) m)
+          (s.list_more O.inside O.next c.compile_statement.ensures) h),
+    )
 
 pub statements::compile_for_statement-returns : goal.statements::compile_for_statement-returns
 statements::compile_for_statement-returns t c =
     for_meets c.field-text.ensures c.field-text_position.ensures c.skip-body.ensures c.start_loop.ensures c.compile_expression.ensures
-    c.begin_loop.ensures c.name_loop-entry.ensures c.compile_statements.ensures
+    c.begin_loop.ensures c.name_loop-entry.ensures
+    (c.loop-statement.invariant.3 _
+    (s.list_end (past c.next.ensures.steps c.loop-statement.invariant.0 c.loop-statement.invariant.1 c.in-None.is)))
     c.end_loop.ensures
 
 pub statements::compile_for_statement-returns-then-end-at : goal.statements::compile_for_statement-returns-then-end-at
@@ -363,31 +406,6 @@ statements::compile_statement-returns t c =
 
 pub statements::compile_statement-returns-then-end-at : goal.statements::compile_statement-returns-then-end-at
 statements::compile_statement-returns-then-end-at t c = s.past_meets c.if-end-at.true
-
-pub statements::compile_statements-compile_statement-requires : goal.statements::compile_statements-compile_statement-requires
-statements::compile_statements-compile_statement-requires t c =
-    let O = over c.next.ensures.steps c.loop-statement.invariant.0 c.loop-statement.invariant.1 c.in-Some.is in
-    let m = skip_more c.args.tree.now _ c.args.end O.inside O.next in
-    omega (arith, m, O.here_is, c.loop-statement.invariant.2, c.requires)
-
-pub statements::compile_statements-loop-statement-preserved : goal.statements::compile_statements-loop-statement-preserved
-statements::compile_statements-loop-statement-preserved t c =
-    let O = over c.next.ensures.steps c.loop-statement.invariant.0 c.loop-statement.invariant.1 c.in-Some.is in
-    let m = skip_more c.args.tree.now _ c.args.end O.inside O.next in (
-      same_tree c.next.ensures.steps c.loop-statement.invariant.0 c.loop-statement.invariant.1,
-      same_end c.next.ensures.steps c.loop-statement.invariant.0 c.loop-statement.invariant.1,
-      omega (arith, m, O.here_is, O.goes_is, c.loop-statement.invariant.2),
-      λ m h. c.loop-statement.invariant.3 m
-          (back O (λ (n : ℕ). CompilesStatements c.args.tree.now n c.args.end c.args.start c.args.count
-          (laid c.loop-statement.state c.args.starts.now c.loop-statement.memory) m)
-          (λ (n : ℕ). CompilesStatements c.args.tree.now n c.args.end c.args.start c.args.count
-          (laid c.compile_statement.new.state c.args.starts.now c.compile_statement.new.memory) m)
-          (s.list_more O.inside O.next c.compile_statement.ensures) h),
-    )
-
-pub statements::compile_statements-returns : goal.statements::compile_statements-returns
-statements::compile_statements-returns t c = c.loop-statement.invariant.3 _
-    (s.list_end (past c.next.ensures.steps c.loop-statement.invariant.0 c.loop-statement.invariant.1 c.in-None.is))
 
 pub statements::compile_statement-compile_variables-requires : goal.statements::compile_statement-compile_variables-requires
 statements::compile_statement-compile_variables-requires t c = omega (arith, c.if-end-at, c.requires)

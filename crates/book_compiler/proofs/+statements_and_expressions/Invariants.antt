@@ -1,30 +1,30 @@
 -- The cycle of `compile_statement`: each member does what the definition does to what stands at its place. The measure is the unread span.
 -- A loop's invariant: whatever finishes from here finishes the whole. Assumes nothing.
-use Rattle.std.proofs.Common.{◌≡◌, ℕ, ◌+◌, ◌-◌, ◌*◌, ◌<◌, ◌≤◌}
+use Rattle.std.proofs.Common.{◌≡◌, ℕ, ◌+◌, ◌-◌, ◌<◌, ◌≤◌}
 use Rattle.book_compiler.specs.Represents.{Memory, laid}
 use Rattle.book_compiler.specs.Members.{CompilesExpressions, CompilesList, CompilesStatements, CompilesVariables}
 use Rattle.book_compiler.proofs.+statements_and_expressions.Given as goal
 
 abbrev pub decreases-statements::compile_for_statement : goal.decreases-statements::compile_for_statement
-decreases-statements::compile_for_statement l = (l.end - l.at) * 2
+decreases-statements::compile_for_statement l = l.end - l.at
 
 abbrev pub decreases-statements::compile_block : goal.decreases-statements::compile_block
-decreases-statements::compile_block l = (l.end - l.at) * 2
+decreases-statements::compile_block l = l.end - l.at
 
 abbrev pub decreases-statements::compile_statement : goal.decreases-statements::compile_statement
-decreases-statements::compile_statement l = (l.end - l.at) * 2
+decreases-statements::compile_statement l = l.end - l.at
 
 abbrev pub decreases-expressions::compile_if_expression : goal.decreases-expressions::compile_if_expression
-decreases-expressions::compile_if_expression l = (l.end - l.at) * 2
+decreases-expressions::compile_if_expression l = l.end - l.at
 
 abbrev pub decreases-expressions::compile_assign_expression_left_part : goal.decreases-expressions::compile_assign_expression_left_part
-decreases-expressions::compile_assign_expression_left_part l = (l.end - l.at) * 2
+decreases-expressions::compile_assign_expression_left_part l = l.end - l.at
 
 abbrev pub decreases-expressions::compile_infix_expression : goal.decreases-expressions::compile_infix_expression
-decreases-expressions::compile_infix_expression l = (l.end - l.at) * 2
+decreases-expressions::compile_infix_expression l = l.end - l.at
 
 abbrev pub decreases-expressions::compile_expression : goal.decreases-expressions::compile_expression
-decreases-expressions::compile_expression l = (l.end - l.at) * 2
+decreases-expressions::compile_expression l = l.end - l.at
 
 abbrev pub invariant-expressions::compile_assign_expression_left_part-loop-part : goal.invariant-expressions::compile_assign_expression_left_part-loop-part
 invariant-expressions::compile_assign_expression_left_part-loop-part l = (l.part-iterator.tree.now ≡ l.tree) × (l.part-iterator.end ≡ l.end)
@@ -46,14 +46,17 @@ invariant-statements::compile_variables-loop-i l = (l.at ≤ l.i) ×
 abbrev pub decreases-statements::compile_variables-loop-i : goal.decreases-statements::compile_variables-loop-i
 decreases-statements::compile_variables-loop-i l = l.end - l.i
 
-abbrev pub decreases-statements::compile_statements : goal.decreases-statements::compile_statements
-decreases-statements::compile_statements l = (l.end - l.at) * 2 + 1
-
-abbrev pub invariant-statements::compile_statements-loop-statement : goal.invariant-statements::compile_statements-loop-statement
-invariant-statements::compile_statements-loop-statement l = (l.statement-iterator.tree.now ≡ l.tree) × (l.statement-iterator.end ≡ l.end)
-    × (l.at ≤ l.statement-iterator.at)
+abbrev pub invariant-statements::compile_block-loop-statement : goal.invariant-statements::compile_block-loop-statement
+invariant-statements::compile_block-loop-statement l = (l.statement-iterator.tree.now ≡ l.tree) × (l.statement-iterator.end ≡ l.end)
+    × (l.at < l.statement-iterator.at)
     × ((m : Memory) → CompilesStatements l.tree l.statement-iterator.at l.end l.start l.count (laid l.state l.starts l.memory) m
-    → CompilesStatements l.tree l.at l.end l.start l.count (laid l.initial.state l.starts l.initial.memory) m)
+    → CompilesStatements l.tree (l.at + 1) l.end l.start l.count (laid l.initial.state l.starts l.initial.memory) m)
+
+abbrev pub invariant-statements::compile_for_statement-loop-statement : goal.invariant-statements::compile_for_statement-loop-statement
+invariant-statements::compile_for_statement-loop-statement l = (l.statement-iterator.tree.now ≡ l.tree) × (l.statement-iterator.end ≡ l.end)
+    × (l.at < l.statement-iterator.at)
+    × ((m : Memory) → CompilesStatements l.tree l.statement-iterator.at l.end l.start l.count (laid l.state l.starts l.memory) m
+    → CompilesStatements l.tree l.body l.end l.start l.count (laid l.initial.state l.starts l.initial.memory) m)
 
 abbrev pub decreases-statements::compile_variables : goal.decreases-statements::compile_variables
-decreases-statements::compile_variables l = (l.end - l.at) * 2
+decreases-statements::compile_variables l = l.end - l.at

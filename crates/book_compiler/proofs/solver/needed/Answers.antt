@@ -19,16 +19,16 @@ loop-document-preserved c =
     let O = over c.next.ensures.steps c.loop-document.invariant.0 c.loop-document.invariant.1 c.in-Some.is in (
       same_tree c.next.ensures.steps c.loop-document.invariant.0 c.loop-document.invariant.1,
       same_end c.next.ensures.steps c.loop-document.invariant.0 c.loop-document.invariant.1,
-      c.copy_from_slice.auto.self ∙ c.loop-document.invariant.2,
-      c.copy_from_slice-in-loop-document.auto.self ∙ c.loop-document.invariant.3,
+      c.copy.auto.to ∙ c.loop-document.invariant.2,
+      c.copy-in-loop-document.auto.to ∙ c.loop-document.invariant.3,
       c.reach.auto.next ∙ c.loop-document.invariant.4,
       λ after h. c.loop-document.invariant.5 after
           (back O (λ (n : ℕ). NeededFrom c.args.tree.now n c.args.end c.args.standing.now c.loop-document.read c.loop-document.set c.loop-document.next after)
-          (λ (n : ℕ). NeededFrom c.args.tree.now n c.args.end c.args.standing.now c.copy_from_slice.new.self c.copy_from_slice-in-loop-document.new.self
+          (λ (n : ℕ). NeededFrom c.args.tree.now n c.args.end c.args.standing.now c.copy.new.to c.copy-in-loop-document.new.to
           c.reach.new.next after)
           (needed_more c.args.tree.now c.in-Some._document.at c.args.end c.args.standing.now c.loop-document.read c.loop-document.set c.loop-document.next
-          c.reach.ensures O.inside O.next c.copy_from_slice.ensures.after
-          c.copy_from_slice-in-loop-document.ensures.after) h),
+          c.reach.ensures O.inside O.next c.copy.ensures
+          c.copy-in-loop-document.ensures) h),
     )
 
 pub returns : goal.returns

@@ -5,12 +5,23 @@ use Rattle.compiler_laws.proofs.WaitingBooks.{TakesFrom, takes_full, takes_none,
 use Rattle.book_compiler.proofs.SetMembers.{same_set, next_some, next_none, on_size}
 use Rattle.book_compiler.proofs.solver.take_books.Goals as goal
 
+pub returns-then-full-ne0 : goal.returns-then-full-ne0
+returns-then-full-ne0 c =
+    takes_whole c.args.tree.now c.args.end c.args.needed.now c.args.full c.args.stand c.args.books.now
+    (takes_full c.args.tree.now c.args.end c.args.needed.now 0 (taken c.args.full c.args.stand) c.args.books.now
+    c.if-full-ne0.true)
+
 pub returns-then-t-ne0 : goal.returns-then-t-ne0
 returns-then-t-ne0 c =
+    let N = next_some c.next.ensures.steps c.loop-file.invariant.1 c.loop-file.invariant.2 c.in-Some.is in
     takes_whole c.args.tree.now c.args.end c.args.needed.now c.args.full c.args.stand c.args.books.now
     (c.loop-file.invariant.4 _ _
-    (takes_full c.args.tree.now c.args.end c.args.needed.now c.loop-file.file-iterator.from c.loop-file.t
-    c.loop-file.books c.if-t-ne0.true))
+    (takes_more c.args.tree.now c.args.end c.args.needed.now c.loop-file.file-iterator.from c.loop-file.t c.loop-file.books
+    N (c.next.ensures.steps.inside _ c.in-Some.is)
+    (c.find_document-place.ensures.finds (skips_on N.on c.loop-file.invariant.3))
+    c.take.ensures
+    (takes_full c.args.tree.now c.args.end c.args.needed.now _ (taken c.take.new.full c.take.new.count) c.take.new.area
+    c.if-t-ne0.true)))
 
 pub find_document-place-requires : goal.find_document-place-requires
 find_document-place-requires c = c.next.ensures.steps.inside _ c.in-Some.is
