@@ -1,8 +1,9 @@
 -- How the code lists methods in order: at each place the least key above that of the place before.
 -- Private contracts alone cite this file: whoever reads the promises need not believe it
-use Rattle.std.specs.Prelude.{ℕ, zero, suc, Bool, true, cond, List, [], ◌∷◌, Option, Some, None}
+use Rattle.std.specs.Prelude.{ℕ, zero, suc, Bool, true, false, cond, List, [], ◌∷◌, Option, Some, None, eqb, ltb}
 use Rattle.line_writer.specs.declared.writer.Fields.{Fields}
-use Rattle.listings.specs.Sections.{method_line, is_below, each}
+use Rattle.listings.specs.declared.methods.Method.{Method}
+use Rattle.listings.specs.Sections.{method_model, method_name, method_line, is_below, each}
 
 -- after the one that was listed last, if one was
 abbrev pub is_above : List ℕ → Option ℕ → ℕ → Bool
@@ -16,6 +17,24 @@ is_less w (Some j) i = is_below w i j
 
 abbrev pub lesser : List ℕ → (last least : Option ℕ) → ℕ → Option ℕ
 lesser w last least i = cond (is_above w last i) (cond (is_less w least i) (Some i) least) least
+
+-- the same, of methods with their keys: the code reads an entry's key once (`lesser_keys` of proofs/Keys.antt)
+abbrev pub method_of : List ℕ → ℕ → Method
+method_of w i = record { entry = i; model = method_model w i; name = method_name w i }
+
+abbrev pub has_less_key : Method → Method → Bool
+has_less_key a b = cond (ltb a.model b.model) true (cond (eqb a.model b.model) (ltb a.name b.name) false)
+
+abbrev pub has_key_above : Option Method → Method → Bool
+has_key_above None m = true
+has_key_above (Some last) m = has_less_key last m
+
+abbrev pub has_key_below : Option Method → Method → Bool
+has_key_below None m = true
+has_key_below (Some least) m = has_less_key m least
+
+abbrev pub lesser_method : (last least : Option Method) → Method → Option Method
+lesser_method last least m = cond (has_key_above last m) (cond (has_key_below least m) (Some m) least) least
 
 -- the least of n entries from i on above the last, or an earlier one that is less
 unfoldable pub least_from : List ℕ → (last least : Option ℕ) → ℕ → ℕ → Option ℕ
