@@ -10,8 +10,8 @@ use lib.ListN.{length}
 use lib.Dec.{eqb, ltb}
 use borrow.Author.Tests.{eq-eqb, ne_eqb}
 use Rattle.listings.specs.Sections.{property_model, properties_of, property_index, error_number, errors_from}
-use Rattle.listings.specs.declared.methods.Method.{Method}
-use Rattle.listings.specs.Selecting.{is_above, is_less, lesser, method_of, lesser_method, least_from, method_after, method_at}
+use Rattle.listings.specs.declared.methods.MethodKey.{MethodKey}
+use Rattle.listings.specs.Selecting.{is_above, is_less, lesser, key_of, lesser_key, least_from, method_after, method_at}
 use Rattle.std.specs.Prelude.{Option, Some, None}
 use Rattle.std.specs.Option.{MatchOption, IsSomeAnd, option_map, unwrap_or}
 use Rattle.std.specs.List.{position_or_len, range_with_len}
@@ -50,36 +50,36 @@ module _ (w : List ℕ) (model : ℕ) where
       let all : j ≡ i = omega (arith, a, b) in
       h.counts ∙ (λ k. properties_of w (e k) (all k))
 
--- entries as methods with their keys
-abbrev pub methods_of : List ℕ → Option ℕ → Option Method
-methods_of w = option_map (method_of w)
+-- the key of an entry, if there is one
+abbrev pub key_if_any : List ℕ → Option ℕ → Option MethodKey
+key_if_any w = option_map (key_of w)
 
 -- the least so far, by its entry, and those to come
-pub record Least (w : List ℕ) (last : Option ℕ) (n : ℕ) (least : Option Method) (i : ℕ) : Type 0 where
+pub record Least (w : List ℕ) (last : Option ℕ) (n : ℕ) (least : Option MethodKey) (i : ℕ) : Type 0 where
   pub entry : Option ℕ
-  pub keys : least ≡ methods_of w entry
+  pub key : least ≡ key_if_any w entry
   pub whole : least_from w last None 0 n ≡ least_from w last entry i (n - i)
 
 module _ (w : List ℕ) where
-  chosen : (x y : Bool) (least : Option ℕ) (i : ℕ) → cond x (cond y (Some (method_of w i)) (methods_of w least)) (methods_of w least)
-      ≡ methods_of w (cond x (cond y (Some i) least) least)
+  chosen : (x y : Bool) (least : Option ℕ) (i : ℕ) → cond x (cond y (Some (key_of w i)) (key_if_any w least)) (key_if_any w least)
+      ≡ key_if_any w (cond x (cond y (Some i) least) least)
   chosen true true least i = refl
   chosen true false least i = refl
   chosen false y least i = refl
 
-  lesser_keys : (last least : Option ℕ) (i : ℕ) → lesser_method (methods_of w last) (methods_of w least) (method_of w i) ≡ methods_of w (lesser w last least i)
+  lesser_keys : (last least : Option ℕ) (i : ℕ) → lesser_key (key_if_any w last) (key_if_any w least) (key_of w i) ≡ key_if_any w (lesser w last least i)
   lesser_keys None None i = refl
   lesser_keys None (Some k) i = chosen true (is_less w (Some k) i) (Some k) i
   lesser_keys (Some j) None i = chosen (is_above w (Some j) i) true None i
   lesser_keys (Some j) (Some k) i = chosen (is_above w (Some j) i) (is_less w (Some k) i) (Some k) i
 
-  entry_of : (entry : Option ℕ) → option_map (λ (m : Method). m.entry) (methods_of w entry) ≡ entry
+  entry_of : (entry : Option ℕ) → option_map (λ (k : MethodKey). k.entry) (key_if_any w entry) ≡ entry
   entry_of None = refl
   entry_of (Some i) = refl
 
--- what `map` answers, of a closure that answers a method's entry
-pub entry_mapped : (least : Option Method) {r : Option ℕ} {Q : Method → ℕ → Type 0} → MatchOption least (r ≡ None) (λ (m : Method). IsSomeAnd r (Q m))
-    → ((m : Method) (x : ℕ) → Q m x → x ≡ m.entry) → r ≡ option_map (λ (m : Method). m.entry) least
+-- what `map` answers, of a closure that answers a key's entry
+pub entry_mapped : (least : Option MethodKey) {r : Option ℕ} {Q : MethodKey → ℕ → Type 0} → MatchOption least (r ≡ None) (λ (m : MethodKey). IsSomeAnd r (Q m))
+    → ((m : MethodKey) (x : ℕ) → Q m x → x ≡ m.entry) → r ≡ option_map (λ (k : MethodKey). k.entry) least
 entry_mapped None h k = h
 entry_mapped (Some m) {r} {Q = Q} h k = go r h
   where
@@ -93,24 +93,24 @@ module _ (w : List ℕ) (last : Option ℕ) (n : ℕ) where
   one_more least i k = ap (λ (j : ℕ). least_from w last (lesser w last least i) j k) (omega arith)
 
   pub least_begin : Least w last n None 0
-  least_begin = record { entry = None; keys = refl; whole = ap (least_from w last None 0) (omega arith) }
+  least_begin = record { entry = None; key = refl; whole = ap (least_from w last None 0) (omega arith) }
 
-  pub least_more : {listed least next : Option Method} {i : ℕ} → Least w last n least i → listed ≡ methods_of w last → i < n
-      → next ≡ lesser_method listed least (method_of w i) → Least w last n next (i + 1)
+  pub least_more : {listed least next : Option MethodKey} {i : ℕ} → Least w last n least i → listed ≡ key_if_any w last → i < n
+      → next ≡ lesser_key listed least (key_of w i) → Least w last n next (i + 1)
   least_more {listed} {least} {next} {i} h s l e =
       let falls : n - i ≡ suc (n - (i + 1)) = omega (arith, l) in
       record {
         entry = lesser w last h.entry i;
-        keys = e ∙ ((λ k. lesser_method (s k) (h.keys k) (method_of w i)) ∙ lesser_keys w last h.entry i);
+        key = e ∙ ((λ k. lesser_key (s k) (h.key k) (key_of w i)) ∙ lesser_keys w last h.entry i);
         whole = h.whole ∙ (ap (least_from w last h.entry i) falls ∙ one_more h.entry i (n - (i + 1)));
       }
 
-  pub least_all : {least : Option Method} {i : ℕ} {r : Option ℕ} → Least w last n least i → n ≤ i → r ≡ option_map (λ (m : Method). m.entry) least
+  pub least_all : {least : Option MethodKey} {i : ℕ} {r : Option ℕ} → Least w last n least i → n ≤ i → r ≡ option_map (λ (k : MethodKey). k.entry) least
       → r ≡ least_from w last None 0 n
   unfolding least_from
   least_all {least} {i} h l e =
       let none : n - i ≡ 0 = omega (arith, l) in
-      e ∙ (ap (option_map (λ (m : Method). m.entry)) h.keys ∙ (entry_of w h.entry ∙ sym (h.whole ∙ ap (least_from w last h.entry i) none)))
+      e ∙ (ap (option_map (λ (k : MethodKey). k.entry)) h.key ∙ (entry_of w h.entry ∙ sym (h.whole ∙ ap (least_from w last h.entry i) none)))
 
 -- errors up to the first without a number
 abbrev pub no_number : List ℕ → ℕ → Bool

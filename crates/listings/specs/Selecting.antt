@@ -2,7 +2,7 @@
 -- Private contracts alone cite this file: whoever reads the promises need not believe it
 use Rattle.std.specs.Prelude.{ℕ, zero, suc, Bool, true, false, cond, List, [], ◌∷◌, Option, Some, None, eqb, ltb}
 use Rattle.line_writer.specs.declared.writer.Fields.{Fields}
-use Rattle.listings.specs.declared.methods.Method.{Method}
+use Rattle.listings.specs.declared.methods.MethodKey.{MethodKey}
 use Rattle.listings.specs.Sections.{method_model, method_name, method_line, is_below, each}
 
 -- after the one that was listed last, if one was
@@ -18,23 +18,23 @@ is_less w (Some j) i = is_below w i j
 abbrev pub lesser : List ℕ → (last least : Option ℕ) → ℕ → Option ℕ
 lesser w last least i = cond (is_above w last i) (cond (is_less w least i) (Some i) least) least
 
--- the same, of methods with their keys: the code reads an entry's key once (`lesser_keys` of proofs/Keys.antt)
-abbrev pub method_of : List ℕ → ℕ → Method
-method_of w i = record { entry = i; model = method_model w i; name = method_name w i }
+-- the same, of keys: a search reads each entry's key once (`lesser_keys` of proofs/Keys.antt)
+abbrev pub key_of : List ℕ → ℕ → MethodKey
+key_of w i = record { entry = i; model = method_model w i; name = method_name w i }
 
-abbrev pub has_less_key : Method → Method → Bool
-has_less_key a b = cond (ltb a.model b.model) true (cond (eqb a.model b.model) (ltb a.name b.name) false)
+abbrev pub key_below : MethodKey → MethodKey → Bool
+key_below a b = cond (ltb a.model b.model) true (cond (eqb a.model b.model) (ltb a.name b.name) false)
 
-abbrev pub has_key_above : Option Method → Method → Bool
-has_key_above None m = true
-has_key_above (Some last) m = has_less_key last m
+abbrev pub follows_last : Option MethodKey → MethodKey → Bool
+follows_last None k = true
+follows_last (Some last) k = key_below last k
 
-abbrev pub has_key_below : Option Method → Method → Bool
-has_key_below None m = true
-has_key_below (Some least) m = has_less_key m least
+abbrev pub precedes_least : Option MethodKey → MethodKey → Bool
+precedes_least None k = true
+precedes_least (Some least) k = key_below k least
 
-abbrev pub lesser_method : (last least : Option Method) → Method → Option Method
-lesser_method last least m = cond (has_key_above last m) (cond (has_key_below least m) (Some m) least) least
+abbrev pub lesser_key : (last least : Option MethodKey) → MethodKey → Option MethodKey
+lesser_key last least k = cond (follows_last last k) (cond (precedes_least least k) (Some k) least) least
 
 -- the least of n entries from i on above the last, or an earlier one that is less
 unfoldable pub least_from : List ℕ → (last least : Option ℕ) → ℕ → ℕ → Option ℕ

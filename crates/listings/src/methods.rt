@@ -1,33 +1,33 @@
 // Methods in the order of 01: by model, then name.
 ghost use Rattle.std.specs.Prelude.{◌≡◌, None};
-ghost use Rattle.listings.specs.Selecting.{method_of, has_less_key, lesser_method, least_from, method_after};
+ghost use Rattle.listings.specs.Selecting.{key_of, key_below, lesser_key, least_from, method_after};
 
 use crate::lines::{METHOD_MODEL, METHOD_NAME};
 use words::areas::{METHOD_WORDS, entry_word};
 
-// A method by its entry, with its key, so that an entry's key is read once.
+// The key of a method with its entry, so that a search reads each entry's key once.
 #[derive(Clone, Copy)]
-struct Method {
+struct MethodKey {
     entry: usize,
     model: u64,
     name: u64,
 }
 
-impl Method {
+impl MethodKey {
     #[tactic(auto, unfolding(words::specs::Areas::entry_field))]
-    fn of(methods: &[u64], i: usize) -> Method
-        ensures { result ≡ method_of methods.now i }
+    fn of(methods: &[u64], i: usize) -> MethodKey
+        ensures { result ≡ key_of methods.now i }
     {
-        Method {
+        MethodKey {
             entry: i,
             model: entry_word(methods, METHOD_WORDS, i, METHOD_MODEL),
             name: entry_word(methods, METHOD_WORDS, i, METHOD_NAME),
         }
     }
 
-    // The key of this method is below that of the other. In steps, since pairs compared, or a derived order, take longer (docs/DESIGN-PASS.md).
-    fn is_below(self, other: Method) -> bool
-        ensures { result ≡ has_less_key self other }
+    // Whether this key is below the other. In steps, since pairs compared, or a derived order, take longer (docs/DESIGN-PASS.md, 'Tried, slower').
+    fn is_below(self, other: MethodKey) -> bool
+        ensures { result ≡ key_below self other }
     {
         if self.model < other.model {
             return true;
@@ -39,14 +39,14 @@ impl Method {
     }
 }
 
-// The least so far, with one more method.
-fn lesser_of(last: Option<Method>, least: Option<Method>, method: Method) -> Option<Method>
-    ensures { result ≡ lesser_method last least method }
+// The least so far, with one more key.
+fn lesser_of(last: Option<MethodKey>, least: Option<MethodKey>, key: MethodKey) -> Option<MethodKey>
+    ensures { result ≡ lesser_key last least key }
 {
-    if last.is_none_or(|listed| listed.is_below(method))
-        && least.is_none_or(|other| method.is_below(other))
+    if last.is_none_or(|listed| listed.is_below(key))
+        && least.is_none_or(|other| key.is_below(other))
     {
-        Some(method)
+        Some(key)
     } else {
         least
     }
@@ -57,12 +57,12 @@ fn lesser_of(last: Option<Method>, least: Option<Method>, method: Method) -> Opt
 pub fn least_above(methods: &[u64], n: usize, last: Option<usize>) -> Option<usize>
     ensures { result ≡ least_from methods.now last None 0 n }
 {
-    let listed = last.map(|j| Method::of(methods, j));
+    let listed = last.map(|j| MethodKey::of(methods, j));
     let mut least = None;
     for i in 0..n {
-        least = lesser_of(listed, least, Method::of(methods, i));
+        least = lesser_of(listed, least, MethodKey::of(methods, i));
     }
-    least.map(|method| method.entry)
+    least.map(|key| key.entry)
 }
 
 // The method to list after one; after the last there is none.
