@@ -18,7 +18,7 @@ is_less w (Some j) i = is_below w i j
 abbrev pub lesser : List ℕ → (last least : Option ℕ) → ℕ → Option ℕ
 lesser w last least i = cond (is_above w last i) (cond (is_less w least i) (Some i) least) least
 
--- the same, of keys: a search reads each entry's key once (`lesser_keys` of proofs/Keys.antt)
+-- the same, of keys: a search's loop reads each entry's key once (`lesser_keys` of proofs/Keys.antt)
 abbrev pub key_of : List ℕ → ℕ → MethodKey
 key_of w i = record { entry = i; model = method_model w i; name = method_name w i }
 

@@ -5,7 +5,7 @@ ghost use Rattle.listings.specs.Selecting.{key_of, key_below, lesser_key, least_
 use crate::lines::{METHOD_MODEL, METHOD_NAME};
 use words::areas::{METHOD_WORDS, entry_word};
 
-// The key of a method with its entry, so that a search reads each entry's key once.
+// The key of a method with its entry, so that a search's loop reads each entry's key once.
 #[derive(Clone, Copy)]
 struct MethodKey {
     entry: usize,
