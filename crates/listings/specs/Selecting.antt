@@ -1,5 +1,6 @@
 -- How the code lists methods in order: at each place the least key above that of the place before.
 -- Private contracts alone cite this file: whoever reads the promises need not believe it
+use Rattle.std.specs.Option.{option_map_or}
 use Rattle.std.specs.Prelude.{ℕ, zero, suc, Bool, true, false, cond, List, [], ◌∷◌, Option, Some, None, eqb, ltb}
 use Rattle.line_writer.specs.declared.writer.Fields.{Fields}
 use Rattle.listings.specs.declared.methods.MethodKey.{MethodKey}
@@ -25,16 +26,9 @@ key_of w i = record { entry = i; model = method_model w i; name = method_name w 
 abbrev pub key_below : MethodKey → MethodKey → Bool
 key_below a b = cond (ltb a.model b.model) true (cond (eqb a.model b.model) (ltb a.name b.name) false)
 
-abbrev pub follows_last : Option MethodKey → MethodKey → Bool
-follows_last None k = true
-follows_last (Some last) k = key_below last k
-
-abbrev pub precedes_least : Option MethodKey → MethodKey → Bool
-precedes_least None k = true
-precedes_least (Some least) k = key_below k least
-
 abbrev pub lesser_key : (last least : Option MethodKey) → MethodKey → Option MethodKey
-lesser_key last least k = cond (follows_last last k) (cond (precedes_least least k) (Some k) least) least
+lesser_key last least k =
+    cond (option_map_or (λ (l : MethodKey). key_below l k) last true) (cond (option_map_or (λ (l : MethodKey). key_below k l) least true) (Some k) least) least
 
 -- the least of n entries from i on above the last, or an earlier one that is less
 unfoldable pub least_from : List ℕ → (last least : Option ℕ) → ℕ → ℕ → Option ℕ
